@@ -81,7 +81,7 @@ fn tell(
     match found {
         BracketAt::Bracket { reached, shape } => {
             let shape = *shape;
-            let asked = Asked {
+            let asked = ListedBracket {
                 field,
                 reached,
                 shape,
@@ -96,7 +96,7 @@ fn tell(
 
 // A bracket whose candidates are asked for: one of a field, and the shape in which they are listed.
 #[derive(Drop)]
-struct Asked<'a> {
+struct ListedBracket<'a> {
     field: &'a Field,
     reached: &'a Reached,
     shape: Shape,
@@ -107,14 +107,14 @@ struct Asked<'a> {
 fn list(
     alloc: Global,
     options: &CandidatesOptions<'_>,
-    asked: &Asked<'_>,
+    asked: &ListedBracket<'_>,
 ) -> Result<Reply, AllocError>
     requires of { IsOf asked.now.field.now asked.now.reached.now }
     requires fits { Fits (frame_of asked.now.field.now asked.now.reached.now) asked.now.shape }
     ensures { IfOk result (λ reply. Lists options.now asked.now.field.now asked.now.reached.now asked.now.shape
         (coming_of asked.now.field.now asked.now.reached.now asked.now.shape options.now.from) (answer_of reply)) }
 {
-    let Asked {
+    let ListedBracket {
         field,
         reached,
         shape,
@@ -141,7 +141,7 @@ fn list(
 fn list_coming<'a, R: Rule>(
     alloc: Global,
     options: &CandidatesOptions<'_>,
-    asked: &Asked<'a>,
+    asked: &ListedBracket<'a>,
     candidates: Candidates<'a, R>,
 ) -> Result<Reply, AllocError>
     requires of { IsOf asked.now.field.now asked.now.reached.now }

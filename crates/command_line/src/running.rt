@@ -17,7 +17,7 @@ use replies::check::check;
 use replies::format::format;
 use replies::standings::standings;
 use replies::{InputFault, Reply, Status, read_input, texts};
-use requests::{Asked, Request, Task, meant, read_words};
+use requests::{Meaning, Request, Task, meant, read_words};
 use std::alloc::{AllocError, Global};
 use trf16::{Sink, Source};
 
@@ -59,10 +59,10 @@ fn reply_to<'a, R: Source>(alloc: Global, words: &'a [&'a str], reader: &mut R) 
     ensures bounded { R.calls reader.new ≤ R.calls reader.old + most_read }
 {
     match read_words(alloc, words) {
-        Ok(Asked::Command(task)) => reply_to_task(alloc, task, reader),
-        Ok(Asked::Help(text)) => Reply::made(Status::Done, text),
-        Ok(Asked::Mistake(text)) => Reply::made(Status::BadWords, text),
-        Ok(Asked::Refused(fault)) => Reply::fixed(Status::BadWords, texts::bad_words(fault)),
+        Ok(Meaning::Command(task)) => reply_to_task(alloc, task, reader),
+        Ok(Meaning::Help(text)) => Reply::made(Status::Done, text),
+        Ok(Meaning::Mistake(text)) => Reply::made(Status::BadWords, text),
+        Ok(Meaning::Refused(fault)) => Reply::fixed(Status::BadWords, texts::bad_words(fault)),
         Err(AllocError) => out_of_memory(),
     }
 }

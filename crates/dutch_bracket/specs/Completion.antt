@@ -71,7 +71,7 @@ abbrev pub most : ℕ → Bool → ℕ
 most n bye = most_taking n 0 bye
 
 -- a call made at most n steps and took none back, and the limit stays
-pub record Spends (n : ℕ) (old new : Budget) : Type 0 where
+pub record SpendsAtMost (n : ℕ) (old new : Budget) : Type 0 where
   pub few : new.used ≤ old.used + n
   pub rises : old.used ≤ new.used
   pub limit : new.limit ≡ old.limit

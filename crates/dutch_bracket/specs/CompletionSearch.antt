@@ -5,7 +5,7 @@ use Rattle.std.specs.List.{list_any}
 use Rattle.dutch_order.specs.declared.steps.Budget.{Budget}
 use Rattle.dutch_bracket.specs.declared.completion.Answer.{Answer}
 use Rattle.dutch_bracket.specs.declared.completion.Spare.{Spare}
-use Rattle.dutch_bracket.specs.Completion.{Spends, IsStopped, Takes, Tells}
+use Rattle.dutch_bracket.specs.Completion.{SpendsAtMost, IsStopped, Takes, Tells}
 
 -- whether one of the later players, behind those between, may meet the first one and leaves players of whom something holds
 abbrev pub some_partner : (ℕ → Bool) → (List ℕ → Bool) → List ℕ → List ℕ → Bool
@@ -46,5 +46,5 @@ can_go meets may_be_left takers spare = λ n players. can_cover meets (meets_one
 -- an answer tells what a test says in at most so many steps; Yes takes one at least for each two players, No one for each trial
 pub record Searched (answer : Answer) (test : Bool) (most players trials : ℕ) (old new : Budget) : Type 0 where
   pub told : Tells answer test (IsStopped most old new)
-  pub steps : Spends most old new
+  pub steps : SpendsAtMost most old new
   pub taken : Takes answer players trials old new

@@ -5,8 +5,8 @@ use Rattle.dutch_order.specs.declared.prefix.Filling.{Filling}
 use Rattle.dutch_order.specs.declared.prefix.Filling.TheVariants.{S1, S2, S2r}
 use Rattle.dutch_order.specs.Choices.{is_member}
 use Rattle.dutch_order.specs.Prefixes.{Beginning}
-use Rattle.dutch_bracket.specs.declared.scope.Side.{Side}
-use Rattle.dutch_bracket.specs.declared.scope.Side.TheVariants.{Any, Outside, First, Resident, FirstResident, OtherResident}
+use Rattle.dutch_bracket.specs.declared.scope.Standing.{Standing}
+use Rattle.dutch_bracket.specs.declared.scope.Standing.TheVariants.{Any, Outside, First, Resident, FirstResident, OtherResident}
 use Rattle.dutch_bracket.specs.Beginnings.{has_s1}
 
 -- all arrangements, or those with an S1, or those with an S1 and an S1R: as far as a list is being filled
@@ -25,23 +25,23 @@ abbrev pub Covers : Scope → Beginning → Type 0
 Covers scope = CoversBy scope.filling scope
 
 -- where a moved-down player stands, and where a resident does
-abbrev pub moved_down_side : Filling → List ℕ → ℕ → Side
-moved_down_side S1 s1 a = Any
-moved_down_side S2 s1 a = if is_member a s1 then First else Outside
-moved_down_side S2r s1 a = if is_member a s1 then First else Outside
+abbrev pub moved_down_standing : Filling → List ℕ → ℕ → Standing
+moved_down_standing S1 s1 a = Any
+moved_down_standing S2 s1 a = if is_member a s1 then First else Outside
+moved_down_standing S2r s1 a = if is_member a s1 then First else Outside
 
-abbrev pub resident_side : Filling → List ℕ → ℕ → Side
-resident_side S1 s1r a = Any
-resident_side S2 s1r a = Resident
-resident_side S2r s1r a = if is_member a s1r then FirstResident else OtherResident
+abbrev pub resident_standing : Filling → List ℕ → ℕ → Standing
+resident_standing S1 s1r a = Any
+resident_standing S2 s1r a = Resident
+resident_standing S2r s1r a = if is_member a s1r then FirstResident else OtherResident
 
 -- where a number stands in a bracket with so many moved-down players
-abbrev pub side_of : ℕ → Scope → ℕ → Side
-side_of mdps scope a =
-    if nat_lt mdps a then resident_side scope.filling scope.s1r a else moved_down_side scope.filling scope.s1 a
+abbrev pub standing_of : ℕ → Scope → ℕ → Standing
+standing_of mdps scope a =
+    if nat_lt mdps a then resident_standing scope.filling scope.s1r a else moved_down_standing scope.filling scope.s1 a
 
 -- B.6, B.7: two who stand so may be a pair
-abbrev pub is_joined : Side → Side → Bool
+abbrev pub is_joined : Standing → Standing → Bool
 is_joined Any Any = true
 is_joined First Resident = true
 is_joined Resident First = true
@@ -53,7 +53,7 @@ is_joined OtherResident FirstResident = true
 is_joined one other = false
 
 -- one who stands so may be in no pair
-abbrev pub may_stay : Side → Bool
+abbrev pub may_stay : Standing → Bool
 may_stay First = false
 may_stay FirstResident = false
 may_stay Any = true

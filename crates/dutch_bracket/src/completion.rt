@@ -6,7 +6,7 @@
 ghost use Rattle.std.specs.Prelude.{◌≡◌, ◌+◌, ◌-◌, ◌*◌, ◌<◌, ◌≤◌, ◌&&◌, ◌||◌, Ok, true, false, [], ◌++◌, take, drop};
 ghost use Rattle.std.specs.Prelude.{length, slice_index, if◌then◌else◌};
 ghost use Rattle.std.specs.Result.{IsErr};
-ghost use Rattle.dutch_bracket.specs.Completion.{Completable, most, Spends, IsStopped, Takes, MatchAnswer, most_of_bye};
+ghost use Rattle.dutch_bracket.specs.Completion.{Completable, most, SpendsAtMost, IsStopped, Takes, MatchAnswer, most_of_bye};
 ghost use Rattle.dutch_bracket.specs.Completion.{most_of_one, most_taking};
 ghost use Rattle.dutch_bracket.specs.CompletionSearch.{Searched, can_go, left_over, meets_one, some_partner, takes_one};
 ghost use Rattle.dutch_bracket.specs.declared.completion.Answer.TheVariants.{No};
@@ -45,7 +45,7 @@ pub fn completes<R: Rule>(players: &[u16], rule: &R, budget: &mut Budget) -> Ans
         (Completable (R.meets rule.now) (R.may_be_left rule.now) players.now)
         (¬ Completable (R.meets rule.now) (R.may_be_left rule.now) players.now)
         (IsStopped (most (length players.now) true) budget.old budget.new) }
-    ensures steps { Spends (most (length players.now) true) budget.old budget.new }
+    ensures steps { SpendsAtMost (most (length players.now) true) budget.old budget.new }
     ensures taken { Takes result (length players.now) (length players.now) budget.old budget.new }
 {
     let mut all = Numbers::new();

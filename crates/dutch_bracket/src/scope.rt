@@ -7,7 +7,7 @@ ghost use Rattle.std.specs.Prelude.{◌≡◌, ◌<◌, ◌≤◌, IfSome, true}
 ghost use Rattle.dutch_order.specs.declared.prefix.Filling.TheVariants.{S2r};
 ghost use Rattle.dutch_bracket.specs.Beginnings.{has_s1};
 ghost use Rattle.dutch_order.specs.Choices.{is_member};
-ghost use Rattle.dutch_bracket.specs.Scopes.{Covers, is_joined, may_stay, moved_down_side, resident_side, side_of};
+ghost use Rattle.dutch_bracket.specs.Scopes.{Covers, is_joined, may_stay, moved_down_standing, resident_standing, standing_of};
 
 use crate::begun::has_s1;
 use crate::reached::copied;
@@ -16,7 +16,7 @@ use std::marker::Model;
 
 /// Where a player of a bracket stands in the arrangements of a scope.
 #[derive(Debug, Default, Clone, Copy, PartialEq, Eq)]
-pub enum Side {
+pub enum Standing {
     /// Anywhere.
     #[default]
     Any,
@@ -32,20 +32,20 @@ pub enum Side {
     OtherResident,
 }
 
-impl Side {
+impl Standing {
     /// Whether two who stand so may be a pair.
-    pub fn is_joined(self, other: Side) -> bool
+    pub fn is_joined(self, other: Standing) -> bool
         ensures { result ≡ is_joined self other }
     {
         match (self, other) {
-            (Side::Any, Side::Any) => true,
-            (Side::First, Side::Resident) => true,
-            (Side::Resident, Side::First) => true,
-            (Side::First, Side::OtherResident) => true,
-            (Side::OtherResident, Side::First) => true,
-            (Side::Resident, Side::Resident) => true,
-            (Side::FirstResident, Side::OtherResident) => true,
-            (Side::OtherResident, Side::FirstResident) => true,
+            (Standing::Any, Standing::Any) => true,
+            (Standing::First, Standing::Resident) => true,
+            (Standing::Resident, Standing::First) => true,
+            (Standing::First, Standing::OtherResident) => true,
+            (Standing::OtherResident, Standing::First) => true,
+            (Standing::Resident, Standing::Resident) => true,
+            (Standing::FirstResident, Standing::OtherResident) => true,
+            (Standing::OtherResident, Standing::FirstResident) => true,
             _ => false,
         }
     }
@@ -55,8 +55,8 @@ impl Side {
         ensures { result ≡ may_stay self }
     {
         match self {
-            Side::First => false,
-            Side::FirstResident => false,
+            Standing::First => false,
+            Standing::FirstResident => false,
             _ => true,
         }
     }
@@ -184,41 +184,41 @@ impl Scope {
     }
 
     /// Where a resident stands.
-    fn resident(&self, number: u16) -> Side
-        ensures { result ≡ resident_side self.now.filling self.now.s1r number }
+    fn resident(&self, number: u16) -> Standing
+        ensures { result ≡ resident_standing self.now.filling self.now.s1r number }
     {
         match self.filling {
-            Filling::S1 => Side::Any,
-            Filling::S2 => Side::Resident,
+            Filling::S1 => Standing::Any,
+            Filling::S2 => Standing::Resident,
             Filling::S2r => {
                 if has(&self.s1r, number) {
-                    Side::FirstResident
+                    Standing::FirstResident
                 } else {
-                    Side::OtherResident
+                    Standing::OtherResident
                 }
             }
         }
     }
 
     /// Where a moved-down player stands.
-    fn moved_down(&self, number: u16) -> Side
-        ensures { result ≡ moved_down_side self.now.filling self.now.s1 number }
+    fn moved_down(&self, number: u16) -> Standing
+        ensures { result ≡ moved_down_standing self.now.filling self.now.s1 number }
     {
         match self.filling {
-            Filling::S1 => Side::Any,
+            Filling::S1 => Standing::Any,
             Filling::S2 | Filling::S2r => {
                 if has(&self.s1, number) {
-                    Side::First
+                    Standing::First
                 } else {
-                    Side::Outside
+                    Standing::Outside
                 }
             }
         }
     }
 
     /// Where a number stands in a bracket with so many moved-down players.
-    pub fn side(&self, mdps: usize, number: u16) -> Side
-        ensures { result ≡ side_of mdps self.now number }
+    pub fn standing(&self, mdps: usize, number: u16) -> Standing
+        ensures { result ≡ standing_of mdps self.now number }
     {
         if mdps < usize::from(number) {
             self.resident(number)

@@ -11,7 +11,7 @@ use Rattle.dutch_order.proofs.CursorSets.{in-member}
 use Rattle.dutch_order.proofs.Members.{length-numbers}
 use Rattle.dutch_order.proofs.NoneTwice.{left-in}
 use Rattle.dutch_order.proofs.Orders.{IsIn-back, IsIn-front}
-use Rattle.dutch_choice.specs.declared.wish.Wish.TheVariants.{Over}
+use Rattle.dutch_choice.specs.declared.wish.Wish.TheVariants.{LeftOver}
 use Rattle.dutch_choice.specs.Wishes.{grants}
 use Rattle.dutch_bracket.proofs.ArrangementParts.{lists_of, numbers_rise, parts_of, subset_whole}
 use Rattle.dutch_order.proofs.FoundPaths.{in-numbers}
@@ -26,13 +26,13 @@ nobody_in z [] m e = absurd m
 nobody_in z (x ∷ xs) m e = let bad : ⊥ = omega (arith, e) in bad
 
 -- who is granted to be left over is in none of the lists
-not_paired : (p : ℕ) (a : Arrangement) → grants (Over p) a ≡ true → IsIn p (paired a) → ⊥
+not_paired : (p : ℕ) (a : Arrangement) → grants (LeftOver p) a ≡ true → IsIn p (paired a) → ⊥
 not_paired p a granted m = true≢false (sym (in-member p (paired a) m) ∙ not-true (is_member p (paired a)) granted)
 
 pub moved_down_paired : (frame : Frame) (shape : Shape) (a : Arrangement) (p : ℕ) → frame.mdps ≤ length frame.scores → IsIn a (arrangements frame shape)
-    → shape.mdps ≡ frame.mdps → 0 < p → p ≤ frame.mdps → grants (Over p) a ≡ false
+    → shape.mdps ≡ frame.mdps → 0 < p → p ≤ frame.mdps → grants (LeftOver p) a ≡ false
 moved_down_paired frame shape a p within m all low high =
-    false_from_ne_true (grants (Over p) a) (λ granted.
+    false_from_ne_true (grants (LeftOver p) a) (λ granted.
     let lists = lists_of frame shape a within m in
     let q = frame.mdps in
     let pool : List ℕ = numbers_from 1 q in
@@ -44,9 +44,9 @@ moved_down_paired frame shape a p within m all low high =
     (left-in p pool a.s1 (in-numbers p 1 q (omega (arith, low)) (omega (arith, high))) (λ n. not_paired p a granted (IsIn-front p a.s1 (a.s2 ++ (a.s1r ++ a.s2r)) n))) none)
 
 pub residents_paired : (frame : Frame) (shape : Shape) (a : Arrangement) (p : ℕ) → frame.mdps ≤ length frame.scores → IsIn a (arrangements frame shape)
-    → length frame.scores - frame.mdps ≤ shape.mdps + 2 * remainder_pairs shape → frame.mdps < p → p ≤ length frame.scores → grants (Over p) a ≡ false
+    → length frame.scores - frame.mdps ≤ shape.mdps + 2 * remainder_pairs shape → frame.mdps < p → p ≤ length frame.scores → grants (LeftOver p) a ≡ false
 residents_paired frame shape a p within m all low high =
-    false_from_ne_true (grants (Over p) a) (λ granted.
+    false_from_ne_true (grants (LeftOver p) a) (λ granted.
     let q = frame.mdps in
     let n = length frame.scores in
     let pool : List ℕ = residents_of frame in

@@ -15,7 +15,7 @@ use Rattle.dutch_order.proofs.NoneTwice.{in-left, left-in}
 use Rattle.dutch_order.proofs.Once.{candidates-once, filter-once}
 use Rattle.dutch_order.proofs.Orders.{IsIn-back, IsIn-filter, filter-IsIn}
 use Rattle.dutch_choice.specs.declared.wish.Wish.{Wish}
-use Rattle.dutch_choice.specs.declared.wish.Wish.TheVariants.{Over, Pair}
+use Rattle.dutch_choice.specs.declared.wish.Wish.TheVariants.{LeftOver, Pair}
 use Rattle.dutch_bracket.specs.Choice.{first_unbeaten, is_unbeaten}
 use Rattle.dutch_bracket.specs.Context.{Context}
 use Rattle.dutch_bracket.specs.InContext.{can_be_chosen_here, candidates_here, eligible_here, frame_here, quality_here}
@@ -53,7 +53,7 @@ pair_by_test p q a = (
   ],
 )
 
-pub over_by_test : (frame : Frame) (p : ℕ) (a : Arrangement) → IsIn p (players_of frame) → (grants (Over p) a ≡ true) ↔ IsIn p (down frame a)
+pub over_by_test : (frame : Frame) (p : ℕ) (a : Arrangement) → IsIn p (players_of frame) → (grants (LeftOver p) a ≡ true) ↔ IsIn p (down frame a)
 over_by_test frame p a m = (
   λ h. left-in p (players_of frame) (paired a) m (λ n. true≢false (sym (in-member p (paired a) n) ∙ not-true (is_member p (paired a)) h)),
   λ n.

@@ -9,7 +9,7 @@ use Rattle.dutch_order.specs.Keys.{IsIn}
 use Rattle.dutch_order.proofs.Orders.{IsIn-append, IsIn-back, IsIn-front, map-IsIn}
 use Rattle.dutch_player.specs.Facts.{Facts}
 use Rattle.dutch_floors.specs.declared.known.Known.TheVariants.{Down, Meet}
-use Rattle.dutch_choice.specs.declared.wish.Wish.TheVariants.{Over, Pair}
+use Rattle.dutch_choice.specs.declared.wish.Wish.TheVariants.{LeftOver, Pair}
 use Rattle.dutch_floors.specs.KnownBeside.{Holds}
 use Rattle.dutch_bracket.specs.Reached.{IsOf, Reached, frame_of, is_number}
 use Rattle.dutch_bracket.specs.Seated.{all_pairs, pairs_of, score_at, seat_of}
@@ -49,7 +49,7 @@ they_meet facts reached p q a h =
     ]
 
 -- and one who is wished to be left over goes down
-pub goes_down : (facts : Facts) (reached : Reached) (p : ℕ) (a : Arrangement) → is_number reached p ≡ true → grants (Over p) a ≡ true
+pub goes_down : (facts : Facts) (reached : Reached) (p : ℕ) (a : Arrangement) → is_number reached p ≡ true → grants (LeftOver p) a ≡ true
     → Holds facts reached (Down (seat_of reached.seats p)) a
 goes_down facts reached p a h granted =
     let within = bounds reached p h in

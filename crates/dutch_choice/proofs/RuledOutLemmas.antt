@@ -17,7 +17,7 @@ use Rattle.dutch_order.proofs.FormArrangements.{form-of, in-moved_down, in-resid
 use Rattle.dutch_order.proofs.NoneTwice.{in-left}
 use Rattle.dutch_order.proofs.Orders.{IsIn-append, IsIn-front, IsIn-back}
 use Rattle.dutch_choice.specs.declared.wish.Wish.{Wish}
-use Rattle.dutch_choice.specs.declared.wish.Wish.TheVariants.{Pair, Over}
+use Rattle.dutch_choice.specs.declared.wish.Wish.TheVariants.{Pair, LeftOver}
 use Rattle.dutch_bracket.specs.Beginnings.{fixed_lists, lists_by}
 use Rattle.dutch_choice.specs.RuledOut.{has_player, parts, has_one_of, s1_bars, s1r_bars, halves_bar, rules_out}
 use Rattle.dutch_choice.specs.Wishes.{are_these, grants}
@@ -221,7 +221,7 @@ pair_out frame shape p q b a within fewer m begins out granted =
           halves_apart frame shape a within lists p q found.0 found.1 are (nat_le p frame.mdps) (nat_le q frame.mdps) refl refl b.filling b.lists begins halves
     ]
 
-over_out : (p : ℕ) (b : Beginning) (a : Arrangement) → Begins b a → is_member p (paired (fixed_lists b)) ≡ true → grants (Over p) a ≡ false
+over_out : (p : ℕ) (b : Beginning) (a : Arrangement) → Begins b a → is_member p (paired (fixed_lists b)) ≡ true → grants (LeftOver p) a ≡ false
 over_out p b a begins out =
     ap not (in-member p (paired a) (players_stay b.filling b.lists a p begins (member-in p (paired (fixed_lists b)) out)))
 
@@ -229,4 +229,4 @@ pub ruled_out : (frame : Frame) (shape : Shape) (wish : Wish) (b : Beginning) (a
     → IsIn a (arrangements frame shape) → Begins b a → rules_out frame.mdps wish b ≡ true → grants wish a ≡ false
 ruled_out frame shape (Pair p q) b a within fewer m begins out =
     false_from_ne_true (grants (Pair p q) a) (pair_out frame shape p q b a within fewer m begins out)
-ruled_out frame shape (Over p) b a within fewer m begins out = over_out p b a begins out
+ruled_out frame shape (LeftOver p) b a within fewer m begins out = over_out p b a begins out

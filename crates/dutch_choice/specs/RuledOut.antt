@@ -9,7 +9,7 @@ use Rattle.dutch_order.specs.Choices.{is_member}
 use Rattle.dutch_order.specs.Forms.{pairs_by_number}
 use Rattle.dutch_order.specs.Prefixes.{Beginning}
 use Rattle.dutch_choice.specs.declared.wish.Wish.{Wish}
-use Rattle.dutch_choice.specs.declared.wish.Wish.TheVariants.{Pair, Over}
+use Rattle.dutch_choice.specs.declared.wish.Wish.TheVariants.{Pair, LeftOver}
 use Rattle.dutch_bracket.specs.Beginnings.{fixed_lists}
 use Rattle.dutch_choice.specs.Wishes.{are_these}
 
@@ -50,4 +50,4 @@ halves_bar false false filling p q lists = s1r_bars filling p q lists
 abbrev pub rules_out : ℕ → Wish → Beginning → Bool
 rules_out mdps (Pair p q) b =
     list_any (parts p q) (pairs_by_number (fixed_lists b)) || halves_bar (nat_le p mdps) (nat_le q mdps) b.filling p q b.lists
-rules_out mdps (Over p) b = is_member p (paired (fixed_lists b))
+rules_out mdps (LeftOver p) b = is_member p (paired (fixed_lists b))

@@ -9,7 +9,7 @@ use Rattle.dutch_order.specs.Forms.{pairs_by_number}
 use Rattle.dutch_order.specs.Keys.{IsIn}
 use Rattle.dutch_player.specs.Facts.{Facts}
 use Rattle.dutch_choice.specs.declared.wish.Wish.{Wish}
-use Rattle.dutch_choice.specs.declared.wish.Wish.TheVariants.{Pair, Over}
+use Rattle.dutch_choice.specs.declared.wish.Wish.TheVariants.{Pair, LeftOver}
 use Rattle.dutch_bracket.specs.Context.{Context}
 use Rattle.dutch_bracket.specs.InContext.{eligible_here, quality_here}
 use Rattle.dutch_bracket.specs.Reached.{Reached, frame_of}
@@ -24,7 +24,7 @@ are_these p q pair = ((pair.0 == p) && (pair.1 == q)) || ((pair.0 == q) && (pair
 -- B.3: an arrangement grants a wish: the two are one of its pairs; the one is in none
 abbrev pub grants : Wish → Arrangement → Bool
 grants (Pair p q) lists = list_any (are_these p q) (pairs_by_number lists)
-grants (Over p) lists = not (is_member p (paired lists))
+grants (LeftOver p) lists = not (is_member p (paired lists))
 
 -- the same where something is wished; where nothing is, every arrangement will do
 abbrev pub is_wished : Option Wish → Arrangement → Bool

@@ -19,7 +19,7 @@ ghost use Rattle.dutch_choice.specs.Passes.{HoldsHere, IsIdle, IsIdleIfFit, is_d
 ghost use Rattle.dutch_choice.specs.Skips.{HasNoBetterNext, IsBehindAim, IsBehindKept, OfEach, OfEachWith, Weighs};
 ghost use Rattle.dutch_choice.specs.Skips.{context_of};
 ghost use Rattle.dutch_choice.specs.Wishes.{grants, is_wished};
-ghost use Rattle.dutch_choice.specs.declared.wish.Wish.TheVariants.{Over};
+ghost use Rattle.dutch_choice.specs.declared.wish.Wish.TheVariants.{LeftOver};
 
 use crate::bars::Skipper;
 use crate::pass::{Pass, is_idle};
@@ -43,7 +43,7 @@ fn fill_floor(pass: &Pass<'_>, prefix: &Prefix<'_>, room: &mut Room) -> bool
 fn pairs_always(context: &Context<'_>, shape: Shape, number: u16) -> bool
     requires { FitsHere context.now shape }
     ensures { result ≡ true → (a : Arrangement) → IsIn a (candidates_here context.now shape)
-        → grants (Over number) a ≡ false }
+        → grants (LeftOver number) a ≡ false }
 {
     let reached = context.reached();
     if !reached.has(number) {
@@ -62,7 +62,7 @@ fn bars(context: &Context<'_>, shape: Shape, wish: Wish) -> bool
 {
     match wish {
         Wish::Pair(_, _) => false,
-        Wish::Over(number) => pairs_always(context, shape, number),
+        Wish::LeftOver(number) => pairs_always(context, shape, number),
     }
 }
 
@@ -119,7 +119,7 @@ pub(crate) fn known_by_wish(context: &Context<'_>, wish: Wish) -> Option<Known>
             }
             Some(Known::Meet(reached.seat(p), reached.seat(q)))
         }
-        Wish::Over(p) => {
+        Wish::LeftOver(p) => {
             if !reached.has(p) {
                 return None;
             }

@@ -20,7 +20,7 @@ pub enum Wish {
     /// These two meet, in whatever order they are named.
     Pair(u16, u16),
     /// This one is in no pair.
-    Over(u16),
+    LeftOver(u16),
 }
 
 /// The lists of a candidate.
@@ -145,7 +145,7 @@ impl Wish {
         let lists = lists_of(candidate);
         match self {
             Wish::Pair(p, q) => meet(p, q, &lists),
-            Wish::Over(p) => !is_paired(p, &lists),
+            Wish::LeftOver(p) => !is_paired(p, &lists),
         }
     }
 
@@ -156,7 +156,7 @@ impl Wish {
         let begun = fixed_lists(prefix);
         match self {
             Wish::Pair(p, q) => have_others(p, q, &begun) || halves_bar(mdps, p, q, prefix),
-            Wish::Over(p) => is_paired(p, &begun),
+            Wish::LeftOver(p) => is_paired(p, &begun),
         }
     }
 }

@@ -7,7 +7,7 @@ ghost use Rattle.dutch_order.specs.Forms.{pairs_by_number};
 ghost use Rattle.dutch_order.specs.Keys.{IsIn};
 ghost use Rattle.dutch_order.specs.declared.bracket.Shape.{Shape};
 ghost use Rattle.dutch_choice.specs.declared.wish.Wish.{Wish};
-ghost use Rattle.dutch_choice.specs.declared.wish.Wish.TheVariants.{Over, Pair};
+ghost use Rattle.dutch_choice.specs.declared.wish.Wish.TheVariants.{LeftOver, Pair};
 ghost use Rattle.dutch_bracket.specs.Context.{Context};
 ghost use Rattle.dutch_bracket.specs.InContext.{eligible_here};
 ghost use Rattle.dutch_bracket.specs.Brackets.{best_of_shape};
@@ -21,7 +21,7 @@ pub fn a_wish_is_granted_by_test()
     ensures pair { (p q : ℕ) (a : Arrangement)
         → (grants (Pair p q) a ≡ true) ↔ (IsIn (p, q) (pairs_by_number a) ⊎ IsIn (q, p) (pairs_by_number a)) }
     ensures over { (frame : Frame) (p : ℕ) (a : Arrangement) → IsIn p (players_of frame)
-        → (grants (Over p) a ≡ true) ↔ IsIn p (down frame a) }
+        → (grants (LeftOver p) a ≡ true) ↔ IsIn p (down frame a) }
     ensures none { (wish : Wish) (all : List Arrangement)
         → (list_any (grants wish) all ≡ false) ↔ ((a : Arrangement) → IsIn a all → grants wish a ≡ false) }
 {}

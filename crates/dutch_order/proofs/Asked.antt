@@ -16,7 +16,7 @@ use Rattle.dutch_order.specs.declared.exchange.Side.{Side}
 use Rattle.dutch_order.specs.declared.exchange.Side.TheVariants.{Out, In}
 use Rattle.dutch_order.specs.Halves.{half_start}
 use Rattle.dutch_order.specs.Keys.{IsIn}
-use Rattle.dutch_order.specs.Stages.{IsOfStage, told_numbers, is_told, kept_of, known_exchange, out_limit, in_limit, set_of, total, value_of}
+use Rattle.dutch_order.specs.Stages.{IsOfStage, fixed_numbers, is_fixed, kept_of, known_exchange, out_limit, in_limit, set_of, total, value_of}
 use Rattle.dutch_order.proofs.CursorSets.{in-member, member-in}
 use Rattle.dutch_order.proofs.ExchangeSets.{v, front-is, kept-is, moved_in-is, outs-again, places-of_exchange, set-in_pool, set-is, sum_of-append, sum_of-map, sum_of-reverse}
 use Rattle.dutch_order.proofs.Gains.{total-pairs}
@@ -126,7 +126,7 @@ chosen-false true h = absurd (true≢false (sym h))
 chosen-false false h = refl
 
 -- what is told of a place is so
-pub told-decides : (taken more : List ℕ) (limit : ℕ) (chosen : Bool) (place : ℕ) → (place < limit → is_member place more ≡ false) → is_told taken limit chosen place ≡ true → is_member place (taken ++ more) ≡ chosen
+pub told-decides : (taken more : List ℕ) (limit : ℕ) (chosen : Bool) (place : ℕ) → (place < limit → is_member place more ≡ false) → is_fixed taken limit chosen place ≡ true → is_member place (taken ++ more) ≡ chosen
 told-decides taken more limit chosen place barred told =
     elim (cases_Bool (is_member place taken)) [
       | inl yes' ↦
@@ -230,14 +230,14 @@ module _ (pool : List ℕ) (k : ℕ) (rises : IsStrictlyIncreasing pool) (enough
         ∙ ap (is_member place) (places-of_exchange pool k rises enough set outs ins e.outs_climb e.ins_climb e.is_set).1
 
     module _ (begun rest : List ℕ) (same : outs ++ ins ≡ begun ++ rest) where
-      out-told : (chosen : Bool) (place : ℕ) → place < k → is_told (take size begun) (out_limit pool k size begun) chosen place ≡ true → is_member (out place) set ≡ not chosen
+      out-told : (chosen : Bool) (place : ℕ) → place < k → is_fixed (take size begun) (out_limit pool k size begun) chosen place ≡ true → is_member (out place) set ≡ not chosen
       out-told chosen place low told =
           let from = begun-outs pool k size outs ins begun rest same e.outs_size e.ins_size e.outs_climb in
           let is : not (is_member (out place) set) ≡ chosen =
           out-member place low ∙ ap (is_member place) from.1 ∙ told-decides (take size begun) from.0 (out_limit pool k size begun) chosen place (from.2 place) told in
           sym (not-not (is_member (out place) set)) ∙ ap not is
 
-      in-told : (chosen : Bool) (place : ℕ) → place < length pool - k → is_told (drop size begun) (in_limit pool k size begun) chosen place ≡ true → is_member (inn place) set ≡ chosen
+      in-told : (chosen : Bool) (place : ℕ) → place < length pool - k → is_fixed (drop size begun) (in_limit pool k size begun) chosen place ≡ true → is_member (inn place) set ≡ chosen
       in-told chosen place low told =
           let from = begun-ins pool k size outs ins begun rest same e.outs_size e.ins_size e.ins_climb in
           in-member-of place low ∙ ap (is_member place) from.1 ∙ told-decides (drop size begun) from.0 (in_limit pool k size begun) chosen place (from.2 place) told
@@ -252,11 +252,11 @@ module _ (pool : List ℕ) (k : ℕ) (rises : IsStrictlyIncreasing pool) (enough
         size = exchange-size;
         sum = exchange-sum;
         held = all-append (λ x. IsIn x set) _ _
-            (all-told (λ x. IsIn x set) out (is_told (take size begun) (out_limit pool k size begun) false) k (λ place low told. member-in (out place) set (out-told false place low told)))
-            (all-told (λ x. IsIn x set) inn (is_told (drop size begun) (in_limit pool k size begun) true) (length pool - k) (λ place low told. member-in (inn place) set (in-told true place low told)));
+            (all-told (λ x. IsIn x set) out (is_fixed (take size begun) (out_limit pool k size begun) false) k (λ place low told. member-in (out place) set (out-told false place low told)))
+            (all-told (λ x. IsIn x set) inn (is_fixed (drop size begun) (in_limit pool k size begun) true) (length pool - k) (λ place low told. member-in (inn place) set (in-told true place low told)));
         barred = all-append (λ x. ¬ IsIn x set) _ _
-            (all-told (λ x. ¬ IsIn x set) out (is_told (take size begun) (out_limit pool k size begun) true) k (λ place low told. barred-out (out place) (out-told true place low told)))
-            (all-told (λ x. ¬ IsIn x set) inn (is_told (drop size begun) (in_limit pool k size begun) false) (length pool - k) (λ place low told. barred-out (inn place) (in-told false place low told)));
+            (all-told (λ x. ¬ IsIn x set) out (is_fixed (take size begun) (out_limit pool k size begun) true) k (λ place low told. barred-out (out place) (out-told true place low told)))
+            (all-told (λ x. ¬ IsIn x set) inn (is_fixed (drop size begun) (in_limit pool k size begun) false) (length pool - k) (λ place low told. barred-out (inn place) (in-told false place low told)));
       }
 
   -- what is known of the set of a path that goes on from what has begun
@@ -285,7 +285,7 @@ length-cond true x xs = omega arith
 length-cond false x xs = omega arith
 
 -- no number is told both to be chosen and not to be
-told-apart : (taken : List ℕ) (limit : ℕ) (xs : List ℕ) → length (filter (is_told taken limit true) xs) + length (filter (is_told taken limit false) xs) ≤ length xs
+told-apart : (taken : List ℕ) (limit : ℕ) (xs : List ℕ) → length (filter (is_fixed taken limit true) xs) + length (filter (is_fixed taken limit false) xs) ≤ length xs
 told-apart taken limit [] = omega arith
 told-apart taken limit (x ∷ xs) =
     let rest = told-apart taken limit xs in
@@ -294,29 +294,29 @@ told-apart taken limit (x ∷ xs) =
           omega (
             arith,
             rest,
-            ap (λ b. length (cond (if b then true else (not true && nat_lt x limit)) (x ∷ filter (is_told taken limit true) xs) (filter (is_told taken limit true) xs))) yes',
-            ap (λ b. length (cond (if b then false else (not false && nat_lt x limit)) (x ∷ filter (is_told taken limit false) xs) (filter (is_told taken limit false) xs))) yes',
+            ap (λ b. length (cond (if b then true else (not true && nat_lt x limit)) (x ∷ filter (is_fixed taken limit true) xs) (filter (is_fixed taken limit true) xs))) yes',
+            ap (λ b. length (cond (if b then false else (not false && nat_lt x limit)) (x ∷ filter (is_fixed taken limit false) xs) (filter (is_fixed taken limit false) xs))) yes',
           )
       | inr no' ↦
           omega (
             arith,
             rest,
-            length-cond (nat_lt x limit) x (filter (is_told taken limit false) xs),
-            ap (λ b. length (cond (if b then true else (not true && nat_lt x limit)) (x ∷ filter (is_told taken limit true) xs) (filter (is_told taken limit true) xs))) no',
-            ap (λ b. length (cond (if b then false else (not false && nat_lt x limit)) (x ∷ filter (is_told taken limit false) xs) (filter (is_told taken limit false) xs))) no',
+            length-cond (nat_lt x limit) x (filter (is_fixed taken limit false) xs),
+            ap (λ b. length (cond (if b then true else (not true && nat_lt x limit)) (x ∷ filter (is_fixed taken limit true) xs) (filter (is_fixed taken limit true) xs))) no',
+            ap (λ b. length (cond (if b then false else (not false && nat_lt x limit)) (x ∷ filter (is_fixed taken limit false) xs) (filter (is_fixed taken limit false) xs))) no',
           )
     ]
 
 -- so both lists are no more than there are
-pub told-room : (pool : List ℕ) (k : ℕ) (side : Side) (taken : List ℕ) (limit : ℕ) → length (told_numbers pool k side taken limit true) + length (told_numbers pool k side taken limit false) ≤ count_of pool k side
+pub told-room : (pool : List ℕ) (k : ℕ) (side : Side) (taken : List ℕ) (limit : ℕ) → length (fixed_numbers pool k side taken limit true) + length (fixed_numbers pool k side taken limit false) ≤ count_of pool k side
 told-room pool k side taken limit =
     let all : List ℕ = numbers_from 0 (count_of pool k side) in
     omega (
       arith,
       told-apart taken limit all,
       length-numbers 0 (count_of pool k side),
-      length-map (filter (is_told taken limit true) all) (value_of pool k side),
-      length-map (filter (is_told taken limit false) all) (value_of pool k side),
+      length-map (filter (is_fixed taken limit true) all) (value_of pool k side),
+      length-map (filter (is_fixed taken limit false) all) (value_of pool k side),
     )
 
 -- the same exchange, at the lists that the code has

@@ -1,7 +1,7 @@
 -- The paths of a search of two halves.
 use Rattle.std.proofs.Common.{◌≡◌, ℕ, zero, suc, ◌+◌, ◌-◌, ◌<◌, ◌≤◌, Bool, true, false, ◌||◌, ◌==◌, nat_lt, List, [], ◌∷◌, ◌++◌, length, get_or, refl, sym, ◌∙◌, ap, append_assoc, arith, length-append, subst, if◌then◌else◌, take, drop, Option}
 use Rattle.std.specs.List.{AllByRecursion}
-use Rattle.dutch_order.specs.Walks.{Walked}
+use Rattle.dutch_order.specs.Descents.{Walked}
 use Rattle.std.proofs.lemmas.List.{append-nil}
 use Rattle.std.proofs.lemmas.Bool.{ne_eqb, eq-eqb, or_right, lt-ltb, le-ltb}
 use Rattle.dutch_order.specs.Trials.{Plan}

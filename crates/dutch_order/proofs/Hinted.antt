@@ -5,7 +5,7 @@ use Rattle.std.proofs.lemmas.List.{append-nil}
 use Rattle.std.proofs.lemmas.Bool.{cases_order, eq-eqb, ne_eqb, true≢false, not_from_false, not-true}
 use Rattle.dutch_order.specs.Trials.{Plan, entry, below, ahead, hits}
 use Rattle.dutch_order.specs.Hints.{hint_after, number_or, hinted, first_hint}
-use Rattle.dutch_order.specs.Walks.{Walked}
+use Rattle.dutch_order.specs.Descents.{Walked}
 use Rattle.dutch_order.specs.Keys.{IsIn}
 use Rattle.dutch_order.proofs.HalfWalks.{Admitted}
 use Rattle.dutch_order.proofs.Found.{found, ahead-new}

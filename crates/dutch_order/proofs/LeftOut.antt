@@ -6,7 +6,7 @@ use Rattle.dutch_order.specs.Choices.{numbers_from}
 use Rattle.dutch_order.specs.Prefixes.{GoesOn}
 use Rattle.dutch_order.specs.Steps.{MatchDrawn, Passes}
 use Rattle.dutch_order.specs.Trials.{Plan, Event, Tried, hits, entry, below, after, ahead}
-use Rattle.dutch_order.specs.Walks.{IsSpent, NoneIdle}
+use Rattle.dutch_order.specs.Descents.{IsSpent, NoneIdle}
 use Rattle.dutch_order.proofs.Found.{hits-append}
 use Rattle.dutch_order.proofs.Skipping.{all-append}
 pub use Rattle.dutch_order.proofs.Skipping.{passes-none, passes-more, drawn, drawn-stopped}

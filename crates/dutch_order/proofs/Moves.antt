@@ -4,7 +4,7 @@ use Rattle.std.specs.List.{flat_map, AllByRecursion}
 use Rattle.std.proofs.lemmas.List.{append-nil}
 use Rattle.dutch_order.specs.Choices.{numbers_from}
 use Rattle.dutch_order.specs.Trials.{Plan, Event, Tried, Hit, entry, below, after, ahead, trials, lower, lowest}
-use Rattle.dutch_order.specs.Walks.{Walked}
+use Rattle.dutch_order.specs.Descents.{Walked}
 
 -- nothing follows the empty path
 pub after-nil : (plan : Plan) (open_places : ℕ) (begun : List ℕ) → after plan open_places begun [] ≡ []

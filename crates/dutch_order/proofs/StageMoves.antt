@@ -282,7 +282,7 @@ module _ (pool : List ℕ) (k : ℕ) (hint : List ℕ) (size difference : ℕ) (
   trials-after = ap (trials_of_stages pool k (greatest_difference pool k size - difference) size (suc difference)) next
 
 -- a stage that is entered anew
-module _ (pool : List ℕ) (k : ℕ) (place : Place) (size difference : ℕ) (is_size : place.size ≡ size) (is_difference : place.difference ≡ difference) (no_hint : place.hint.items ≡ []) (no_path : place.walk.path.items ≡ []) (no_number : place.walk.number ≡ 0) (no_beyond : place.walk.beyond ≡ None) where
+module _ (pool : List ℕ) (k : ℕ) (place : Place) (size difference : ℕ) (is_size : place.size ≡ size) (is_difference : place.difference ≡ difference) (no_hint : place.hint.items ≡ []) (no_path : place.descent.path.items ≡ []) (no_number : place.descent.number ≡ 0) (no_beyond : place.descent.beyond ≡ None) where
   pub sets-entered : sets_from pool k place ≡ sets_ahead pool k [] size difference [] 0 None
   sets-entered = cc
 

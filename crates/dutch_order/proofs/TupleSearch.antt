@@ -15,7 +15,7 @@ use Rattle.dutch_order.specs.Transposition.{transpositions, short_beginnings, be
 use Rattle.dutch_order.specs.TranspositionSearch.{transposition_plan, numbers_at, place_in, places_in}
 use Rattle.dutch_order.specs.Hints.{hinted, first_hint}
 use Rattle.dutch_order.specs.Steps.{Passes}
-use Rattle.dutch_order.specs.Walks.{Stands}
+use Rattle.dutch_order.specs.Descents.{Stands}
 use Rattle.dutch_order.proofs.LeftOut.{passes-none, passes-more, passes-same, passes-map}
 use Rattle.dutch_order.proofs.Moves.{Walked-below}
 use Rattle.dutch_order.proofs.Lists.{map-flat_map, filter-flat_map, flat_map-filter, flat_map-below, map-numbers_from, map-same, filter-same, filter-filter, filter-all}

@@ -1,4 +1,4 @@
--- How the searches of sets walk, one ascending half of places after another: a model that carries the search, and which a reader of the promises may pass by.
+-- How the searches of sets descent, one ascending half of places after another: a model that carries the search, and which a reader of the promises may pass by.
 use Rattle.std.specs.Prelude.{ℕ, ◌+◌, ◌-◌, Bool, ◌||◌, ◌==◌, nat_lt, List, length, slice_index, if◌then◌else◌, Option}
 use Rattle.dutch_order.specs.Trials.{Plan}
 

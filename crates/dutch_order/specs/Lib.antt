@@ -3,7 +3,7 @@ pub mod Choices
 pub mod Keys
 pub mod Trials
 pub mod Steps
-pub mod Walks
+pub mod Descents
 pub mod Hints
 pub mod Transposition
 pub mod Halves

@@ -11,7 +11,7 @@ use Rattle.dutch_order.specs.Trials.{Plan, hits, trials, lower, lowest, ahead}
 use Rattle.dutch_order.specs.Halves.{half_start, two_halves}
 use Rattle.dutch_order.specs.Sides.{count_of}
 use Rattle.dutch_order.specs.Hints.{hinted}
-use Rattle.dutch_order.specs.Walks.{Stands, beyond_all}
+use Rattle.dutch_order.specs.Descents.{Stands, beyond_all}
 use Rattle.std.specs.List.{AllByRecursion}
 
 -- the sum of what a function gives for the members of a list
@@ -34,8 +34,8 @@ following difference greatest (Some next) =
 
 -- whether it is known of a place of a half that it is chosen, or else that it is not: those chosen are, and of those below a limit it is
 -- known that no other one is
-abbrev pub is_told : List ℕ → ℕ → Bool → ℕ → Bool
-is_told taken limit chosen place = if is_member place taken then chosen else (not chosen && nat_lt place limit)
+abbrev pub is_fixed : List ℕ → ℕ → Bool → ℕ → Bool
+is_fixed taken limit chosen place = if is_member place taken then chosen else (not chosen && nat_lt place limit)
 
 module _ (pool : List ℕ) (k : ℕ) where
   -- a number of the original set by its place from the highest, and one of the others by its place from the lowest
@@ -119,18 +119,18 @@ module _ (pool : List ℕ) (k : ℕ) where
       if nat_lt (length begun) size then 0 else (if nat_lt (length begun) (size + size) then half_start size begun else (length pool - k))
 
   -- the numbers of a side of whose places it is known that they are chosen, or else that they are not
-  abbrev pub told_numbers : Side → List ℕ → ℕ → Bool → List ℕ
-  told_numbers side taken limit chosen = map (value_of side) (filter (is_told taken limit chosen) (numbers_from 0 (count_of pool k side)))
+  abbrev pub fixed_numbers : Side → List ℕ → ℕ → Bool → List ℕ
+  fixed_numbers side taken limit chosen = map (value_of side) (filter (is_fixed taken limit chosen) (numbers_from 0 (count_of pool k side)))
 
   -- who is in the set of each path that begins so: those who are not moved out, and those who are moved in
   abbrev pub held_numbers : ℕ → List ℕ → List ℕ
   held_numbers size begun =
-      told_numbers Out (take size begun) (out_limit size begun) false ++ told_numbers In (drop size begun) (in_limit size begun) true
+      fixed_numbers Out (take size begun) (out_limit size begun) false ++ fixed_numbers In (drop size begun) (in_limit size begun) true
 
   -- and who is in none of them
   abbrev pub barred_numbers : ℕ → List ℕ → List ℕ
   barred_numbers size begun =
-      told_numbers Out (take size begun) (out_limit size begun) true ++ told_numbers In (drop size begun) (in_limit size begun) false
+      fixed_numbers Out (take size begun) (out_limit size begun) true ++ fixed_numbers In (drop size begun) (in_limit size begun) false
 
   -- what is known of the sets of a stage whose paths begin so
   abbrev pub known_exchange : ℕ → ℕ → List ℕ → KnownExchange
@@ -222,27 +222,27 @@ module _ (pool : List ℕ) (k : ℕ) where
   -- what is known of what lies beyond a search's stage passes over no set: the same follow as if nothing were known
   abbrev pub IsKnown : Place → Type 0
   IsKnown place =
-      sets_of_stages (greatest_difference place.size - place.difference) place.size (suc place.difference) (beyond_all (hinted place.hint.items (exchange_plan place.size place.difference)) place.walk)
+      sets_of_stages (greatest_difference place.size - place.difference) place.size (suc place.difference) (beyond_all (hinted place.hint.items (exchange_plan place.size place.difference)) place.descent)
       ≡ sets_of_stages (greatest_difference place.size - place.difference) place.size (suc place.difference) (Some 0)
 
   -- each path to come is one of its stage
   abbrev pub IsOwn : Place → Type 0
   IsOwn place =
       AllByRecursion (IsOfStage place.size place.difference)
-      (hits (ahead (hinted place.hint.items (exchange_plan place.size place.difference)) place.walk.path.items place.walk.number))
+      (hits (ahead (hinted place.hint.items (exchange_plan place.size place.difference)) place.descent.path.items place.descent.number))
 
   -- where a search may stand: so many can be exchanged; its path is one of its stage; no set is passed over, and each path to come is
   -- one of its stage
   abbrev pub IsPlace : Place → Type 0
   IsPlace place =
       (place.size ≤ k) × (place.size ≤ length pool - k)
-      × Stands (hinted place.hint.items (exchange_plan place.size place.difference)) place.walk.path.items
+      × Stands (hinted place.hint.items (exchange_plan place.size place.difference)) place.descent.path.items
       × IsKnown place × IsOwn place
 
   -- the sets to come from where it stands
   abbrev pub sets_from : Place → List (List ℕ)
-  sets_from place = sets_ahead place.hint.items place.size place.difference place.walk.path.items place.walk.number place.walk.beyond
+  sets_from place = sets_ahead place.hint.items place.size place.difference place.descent.path.items place.descent.number place.descent.beyond
 
   -- and the trials
   abbrev pub trials_from : Place → ℕ
-  trials_from place = trials_ahead place.hint.items place.size place.difference place.walk.path.items place.walk.number place.walk.beyond
+  trials_from place = trials_ahead place.hint.items place.size place.difference place.descent.path.items place.descent.number place.descent.beyond

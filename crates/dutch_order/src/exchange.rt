@@ -21,7 +21,7 @@ ghost use Rattle.std.specs.Result.{IsErr};
 ghost use Rattle.dutch_order.specs.Prefixes.{GoesOn};
 ghost use Rattle.dutch_order.specs.Sides.{count_of};
 ghost use Rattle.dutch_order.specs.Stages.{IdleAt, barred_numbers, held_numbers, in_limit};
-ghost use Rattle.dutch_order.specs.Stages.{is_told, out_limit, told_numbers};
+ghost use Rattle.dutch_order.specs.Stages.{is_fixed, out_limit, fixed_numbers};
 ghost use Rattle.dutch_order.specs.Stages.{exchange_plan};
 ghost use Rattle.dutch_order.specs.Stages.{IsPlace, sets_from, trials_from, stages_ahead, set_of, kept_of, value_of};
 ghost use Rattle.dutch_order.specs.Stages.{following, out_places, in_places, exchange_path, exchange_difference};
@@ -31,7 +31,7 @@ ghost use Rattle.dutch_order.specs.Keys.{IsIn};
 ghost use Rattle.std.specs.List.Sorted.{IsStrictlyIncreasing};
 ghost use Rattle.dutch_order.specs.declared.exchange.Side.TheVariants.{In, Out};
 ghost use Rattle.dutch_order.specs.Steps.{MatchDrawn, Passes, Spends};
-ghost use Rattle.dutch_order.specs.Walks.{KeepsBeyond, Stands};
+ghost use Rattle.dutch_order.specs.Descents.{KeepsBeyond, Stands};
 ghost use Rattle.dutch_order.specs.Trials.{ahead, hits};
 ghost use Rattle.dutch_order.specs.Hints.{hinted, first_hint};
 
@@ -41,9 +41,9 @@ use crate::generator::Generator;
 use crate::halves::first_of_half;
 use crate::numbers::{LIMIT, Numbers, fill};
 use crate::search::{
-    CutsPaths, Hinted, Path, Walk, climb_on, climb_past, end_number, first_hint, put_behind,
+    CutsPaths, Hinted, Path, Descent, climb_on, climb_past, end_number, first_hint, put_behind,
 };
-use crate::stage::{Stage, greatest_of, least_of};
+use crate::stage::{ExchangeStage, greatest_of, least_of};
 use crate::steps::{Budget, Drawn, Stopped};
 use crate::sums::{Sides, total_of, value_at};
 use arrayvec::ArrayVec;
@@ -79,7 +79,7 @@ struct Place {
     size: usize,
     difference: usize,
     hint: Path,
-    walk: Walk,
+    descent: Descent,
 }
 
 impl Place {
@@ -88,14 +88,14 @@ impl Place {
         ensures size { self.new.size ≡ size }
         ensures difference { self.new.difference ≡ difference }
         ensures hint { self.new.hint.items ≡ [] }
-        ensures path { self.new.walk.path.items ≡ [] }
-        ensures number { self.new.walk.number ≡ 0 }
-        ensures beyond { self.new.walk.beyond ≡ None }
+        ensures path { self.new.descent.path.items ≡ [] }
+        ensures number { self.new.descent.number ≡ 0 }
+        ensures beyond { self.new.descent.beyond ≡ None }
     {
         self.size = size;
         self.difference = difference;
         self.hint.clear();
-        self.walk.restart(0);
+        self.descent.restart(0);
     }
 }
 
@@ -140,9 +140,9 @@ fn enter_at(pool: &[u16], k: usize, set: &[u16], place: &mut Place)
     ensures size { place.new.size ≡ length (out_places pool.now k set.now) }
     ensures difference { place.new.difference ≡ exchange_difference pool.now k set.now }
     ensures hint { place.new.hint.items ≡ exchange_path pool.now k set.now }
-    ensures path { place.new.walk.path.items ≡ [] }
-    ensures number { place.new.walk.number ≡ first_hint (exchange_path pool.now k set.now) }
-    ensures beyond { place.new.walk.beyond ≡ Some (suc (exchange_difference pool.now k set.now)) }
+    ensures path { place.new.descent.path.items ≡ [] }
+    ensures number { place.new.descent.number ≡ first_hint (exchange_path pool.now k set.now) }
+    ensures beyond { place.new.descent.beyond ≡ Some (suc (exchange_difference pool.now k set.now)) }
 {
     place.hint = out_places(pool, k, set);
     let ins = in_places(pool, k, set);
@@ -151,8 +151,8 @@ fn enter_at(pool: &[u16], k: usize, set: &[u16], place: &mut Place)
     let out = total_of(&sides, Side::Out, &place.hint);
     place.difference = total_of(&sides, Side::In, &ins).saturating_sub(out);
     put_behind(&mut place.hint, &ins);
-    place.walk.restart(first_hint(&place.hint));
-    place.walk.beyond = Some(place.difference + 1);
+    place.descent.restart(first_hint(&place.hint));
+    place.descent.beyond = Some(place.difference + 1);
 }
 
 /// Goes on to the next stage, if there is one.
@@ -162,7 +162,7 @@ fn next_stage(pool: &[u16], k: usize, place: &mut Place) -> bool
     requires few { length pool.now ≤ LIMIT }
     requires enough { k ≤ length pool.now }
     requires spent { ahead (hinted place.old.hint.items
-        (exchange_plan pool.now k place.old.size place.old.difference)) place.old.walk.path.items place.old.walk.number
+        (exchange_plan pool.now k place.old.size place.old.difference)) place.old.descent.path.items place.old.descent.number
         ≡ [] }
     requires standing { IsPlace pool.now k place.old }
     ensures stands { IsPlace pool.now k place.new }
@@ -176,7 +176,7 @@ fn next_stage(pool: &[u16], k: usize, place: &mut Place) -> bool
     if let Some(next) = following_of(
         place.difference,
         greatest_of(pool, k, place.size),
-        place.walk.beyond,
+        place.descent.beyond,
     ) {
         place.enter(place.size, next);
         return true;
@@ -189,7 +189,7 @@ fn next_stage(pool: &[u16], k: usize, place: &mut Place) -> bool
     false
 }
 
-/// Goes on to the next set, whose path the walk then has, unless the budget or the search ends before it.
+/// Goes on to the next set, whose path the descent then has, unless the budget or the search ends before it.
 #[tactic(auto, unfolding(crate::specs::Stages::trials_ahead))]
 fn next_set(pool: &[u16], k: usize, place: &mut Place, budget: &mut Budget) -> Drawn
     requires ascends { IsStrictlyIncreasing pool.now }
@@ -199,8 +199,8 @@ fn next_set(pool: &[u16], k: usize, place: &mut Place, budget: &mut Budget) -> D
     ensures stands { IsPlace pool.now k place.new }
     ensures answer { MatchDrawn result
         ((sets_from pool.now k place.old
-        ≡ set_of pool.now k place.new.size place.new.walk.path.items ∷ sets_from pool.now k place.new)
-        × (length place.new.walk.path.items ≡ place.new.size + place.new.size))
+        ≡ set_of pool.now k place.new.size place.new.descent.path.items ∷ sets_from pool.now k place.new)
+        × (length place.new.descent.path.items ≡ place.new.size + place.new.size))
         ((sets_from pool.now k place.old ≡ []) × (sets_from pool.now k place.new ≡ [])
         × (trials_from pool.now k place.new ≡ 0))
         ((sets_from pool.now k place.new ≡ sets_from pool.now k place.old)
@@ -211,7 +211,7 @@ fn next_set(pool: &[u16], k: usize, place: &mut Place, budget: &mut Budget) -> D
 {
     loop {
         let tree = Hinted {
-            tree: Stage {
+            tree: ExchangeStage {
                 pool,
                 k,
                 size: place.size,
@@ -219,7 +219,7 @@ fn next_set(pool: &[u16], k: usize, place: &mut Place, budget: &mut Budget) -> D
             },
             hint: &place.hint,
         };
-        if climb_on(&tree, &mut place.walk, budget)? {
+        if climb_on(&tree, &mut place.descent, budget)? {
             return Ok(true);
         }
         if !next_stage(pool, k, place) {
@@ -231,14 +231,14 @@ fn next_set(pool: &[u16], k: usize, place: &mut Place, budget: &mut Budget) -> D
 /// What a path that has begun tells of one side: the places that it has chosen, and below which place it is known of
 /// all others that they are not chosen.
 #[derive(Drop)]
-struct Told<'a> {
+struct FixedSide<'a> {
     side: Side,
     taken: &'a [u16],
     limit: usize,
 }
 
 /// How many numbers a side has.
-fn count_at(stage: &Stage<'_>, side: Side) -> usize
+fn count_at(stage: &ExchangeStage<'_>, side: Side) -> usize
     ensures { result ≡ count_of stage.now.pool.now stage.now.k side }
 {
     match side {
@@ -248,51 +248,51 @@ fn count_at(stage: &Stage<'_>, side: Side) -> usize
 }
 
 /// Whether it is known of a place that it is chosen, or else that it is not.
-fn is_told(told: &Told<'_>, chosen: bool, place: usize) -> bool
+fn is_fixed(fixed: &FixedSide<'_>, chosen: bool, place: usize) -> bool
     requires small { place ≤ 65535 }
-    ensures { result ≡ is_told told.now.taken.now told.now.limit chosen place }
+    ensures { result ≡ is_fixed fixed.now.taken.now fixed.now.limit chosen place }
 {
-    if told.taken.contains(&(place as u16)) {
+    if fixed.taken.contains(&(place as u16)) {
         chosen
     } else {
-        !chosen && place < told.limit
+        !chosen && place < fixed.limit
     }
 }
 
 /// Puts the numbers behind others of whose places it is known that they are chosen, or else that they are not.
-fn put_told(stage: &Stage<'_>, told: &Told<'_>, chosen: bool, numbers: &mut Numbers)
+fn put_fixed(stage: &ExchangeStage<'_>, fixed: &FixedSide<'_>, chosen: bool, numbers: &mut Numbers)
     requires room { length numbers.old.items
-        + length (told_numbers stage.now.pool.now stage.now.k told.now.side told.now.taken.now told.now.limit chosen)
+        + length (fixed_numbers stage.now.pool.now stage.now.k fixed.now.side fixed.now.taken.now fixed.now.limit chosen)
         ≤ LIMIT }
     ensures { numbers.new.items ≡ numbers.old.items
-        ++ told_numbers stage.now.pool.now stage.now.k told.now.side told.now.taken.now told.now.limit chosen }
+        ++ fixed_numbers stage.now.pool.now stage.now.k fixed.now.side fixed.now.taken.now fixed.now.limit chosen }
 {
     let sides = Sides {
         pool: stage.pool,
         k: stage.k,
     };
-    for place in 0..count_at(stage, told.side) {
-        if is_told(told, chosen, place) {
-            numbers.push(value_at(&sides, told.side, place) as u16);
+    for place in 0..count_at(stage, fixed.side) {
+        if is_fixed(fixed, chosen, place) {
+            numbers.push(value_at(&sides, fixed.side, place) as u16);
         }
     }
 }
 
 /// What a path tells of those moved out.
 #[tactic(auto, unfolding(crate::specs::Stages::out_limit))]
-fn told_out<'a>(stage: &Stage<'_>, begun: &'a [u16]) -> Told<'a>
+fn fixed_out<'a>(stage: &ExchangeStage<'_>, begun: &'a [u16]) -> FixedSide<'a>
     ensures side { result.side ≡ Out }
     ensures taken { result.taken.now ≡ take stage.now.size begun.now }
     ensures limit { result.limit ≡ out_limit stage.now.pool.now stage.now.k stage.now.size begun.now }
 {
     if begun.len() < stage.size {
-        Told {
+        FixedSide {
             side: Side::Out,
             taken: begun,
             limit: first_of_half(stage.size, begun),
         }
     } else {
-        Told {
+        FixedSide {
             side: Side::Out,
             taken: &begun[..stage.size],
             limit: stage.k,
@@ -302,13 +302,13 @@ fn told_out<'a>(stage: &Stage<'_>, begun: &'a [u16]) -> Told<'a>
 
 /// And of those moved in.
 #[tactic(auto, unfolding(crate::specs::Stages::in_limit))]
-fn told_in<'a>(stage: &Stage<'_>, begun: &'a [u16]) -> Told<'a>
+fn fixed_in<'a>(stage: &ExchangeStage<'_>, begun: &'a [u16]) -> FixedSide<'a>
     ensures side { result.side ≡ In }
     ensures taken { result.taken.now ≡ drop stage.now.size begun.now }
     ensures limit { result.limit ≡ in_limit stage.now.pool.now stage.now.k stage.now.size begun.now }
 {
     if begun.len() < stage.size {
-        return Told {
+        return FixedSide {
             side: Side::In,
             taken: &[],
             limit: 0,
@@ -319,7 +319,7 @@ fn told_in<'a>(stage: &Stage<'_>, begun: &'a [u16]) -> Told<'a>
     } else {
         stage.pool.len() - stage.k
     };
-    Told {
+    FixedSide {
         side: Side::In,
         taken: begun.split_at(stage.size).1,
         limit,
@@ -328,28 +328,28 @@ fn told_in<'a>(stage: &Stage<'_>, begun: &'a [u16]) -> Told<'a>
 
 /// Fills a list with who is in the set of each path that begins so, and behind them with who is in none. The answer is
 /// how many the first are.
-fn put_known(stage: &Stage<'_>, begun: &[u16], numbers: &mut Numbers) -> usize
+fn put_held_and_barred(stage: &ExchangeStage<'_>, begun: &[u16], numbers: &mut Numbers) -> usize
     ensures held { take result numbers.new.items ≡ held_numbers stage.now.pool.now stage.now.k stage.now.size
         begun.now }
     ensures barred { drop result numbers.new.items ≡ barred_numbers stage.now.pool.now stage.now.k stage.now.size
         begun.now }
     ensures within { result ≤ length numbers.new.items }
 {
-    let outs = told_out(stage, begun);
-    let ins = told_in(stage, begun);
+    let outs = fixed_out(stage, begun);
+    let ins = fixed_in(stage, begun);
     numbers.clear();
-    put_told(stage, &outs, false, numbers);
-    put_told(stage, &ins, true, numbers);
+    put_fixed(stage, &outs, false, numbers);
+    put_fixed(stage, &ins, true, numbers);
     let held = numbers.len();
-    put_told(stage, &outs, true, numbers);
-    put_told(stage, &ins, false, numbers);
+    put_fixed(stage, &outs, true, numbers);
+    put_fixed(stage, &ins, false, numbers);
     held
 }
 
 /// Whether the cuts know that the sets of all paths of a stage are idle that begin so. The original set is not asked
 /// about: it is one set, and no stage of others.
 fn cuts_begun<C: CutsExchanges>(
-    stage: &Stage<'_>,
+    stage: &ExchangeStage<'_>,
     cuts: &C,
     begun: &[u16],
     numbers: &mut Numbers,
@@ -361,7 +361,7 @@ fn cuts_begun<C: CutsExchanges>(
     if stage.size == 0 {
         return false;
     }
-    let count = put_known(stage, begun, numbers);
+    let count = put_held_and_barred(stage, begun, numbers);
     let (held, barred) = numbers.split_at(count);
     let (original, others) = stage.pool.split_at(stage.k);
     let exchange = Exchange {
@@ -378,7 +378,7 @@ fn cuts_begun<C: CutsExchanges>(
 /// What is told of exchanges, told of the paths of a stage that have begun.
 #[derive(Drop)]
 struct OfStage<'c, C> {
-    stage: &'c Stage<'c>,
+    stage: &'c ExchangeStage<'c>,
     cuts: &'c C,
     ghost ascends: { IsStrictlyIncreasing stage.now.pool.now },
 }
@@ -400,75 +400,75 @@ impl<'c, C: CutsExchanges> CutsPaths for OfStage<'c, C> {
 /// Leaves a stage in which nothing is chosen, if all its sets are known to be idle. That is a step, so the budget is
 /// asked first.
 fn leave_stage<C: CutsExchanges>(
-    tree: &Hinted<'_, Stage<'_>>,
+    tree: &Hinted<'_, ExchangeStage<'_>>,
     cuts: &C,
-    walk: &mut Walk,
+    descent: &mut Descent,
     budget: &mut Budget,
 ) -> Result<(), Stopped>
     requires ascends { IsStrictlyIncreasing tree.now.tree.pool.now }
     requires standing { Stands (hinted tree.now.hint.now.items (exchange_plan tree.now.tree.pool.now tree.now.tree.k
-        tree.now.tree.size tree.now.tree.difference)) walk.old.path.items }
-    ensures path { walk.new.path.items ≡ walk.old.path.items }
+        tree.now.tree.size tree.now.tree.difference)) descent.old.path.items }
+    ensures path { descent.new.path.items ≡ descent.old.path.items }
     ensures passes { Passes (IdleAt tree.now.tree.pool.now tree.now.tree.k (C.Idle cuts.now) tree.now.tree.size
         tree.now.tree.difference)
         (hits (ahead (hinted tree.now.hint.now.items (exchange_plan tree.now.tree.pool.now tree.now.tree.k
-        tree.now.tree.size tree.now.tree.difference)) walk.old.path.items walk.old.number))
+        tree.now.tree.size tree.now.tree.difference)) descent.old.path.items descent.old.number))
         (hits (ahead (hinted tree.now.hint.now.items (exchange_plan tree.now.tree.pool.now tree.now.tree.k
-        tree.now.tree.size tree.now.tree.difference)) walk.new.path.items walk.new.number)) }
+        tree.now.tree.size tree.now.tree.difference)) descent.new.path.items descent.new.number)) }
     ensures known { KeepsBeyond (hinted tree.now.hint.now.items (exchange_plan tree.now.tree.pool.now tree.now.tree.k
-        tree.now.tree.size tree.now.tree.difference)) walk.old walk.new }
+        tree.now.tree.size tree.now.tree.difference)) descent.old descent.new }
     ensures stopped { IsErr result → budget.new.used ≡ budget.new.limit }
     ensures spends { Spends budget.old budget.new }
 {
-    let stop = end_number(tree, &walk.path);
-    if tree.tree.size == 0 || !walk.path.is_empty() || stop <= walk.number {
+    let stop = end_number(tree, &descent.path);
+    if tree.tree.size == 0 || !descent.path.is_empty() || stop <= descent.number {
         return Ok(());
     }
     if budget.used == budget.limit {
         return Err(Stopped);
     }
-    if cuts_begun(&tree.tree, cuts, &walk.path, &mut walk.room) {
+    if cuts_begun(&tree.tree, cuts, &descent.path, &mut descent.room) {
         budget.used += 1;
-        walk.number = stop;
-        walk.beyond = Some(0);
+        descent.number = stop;
+        descent.beyond = Some(0);
     }
     Ok(())
 }
 
 /// Goes on to the next whole path of a stage, or leaves out such as are known to be idle.
 fn climb_stage<C: CutsExchanges>(
-    tree: &Hinted<'_, Stage<'_>>,
+    tree: &Hinted<'_, ExchangeStage<'_>>,
     cuts: &C,
-    walk: &mut Walk,
+    descent: &mut Descent,
     budget: &mut Budget,
 ) -> Drawn
     requires ascends { IsStrictlyIncreasing tree.now.tree.pool.now }
     requires standing { Stands (hinted tree.now.hint.now.items (exchange_plan tree.now.tree.pool.now tree.now.tree.k
-        tree.now.tree.size tree.now.tree.difference)) walk.old.path.items }
+        tree.now.tree.size tree.now.tree.difference)) descent.old.path.items }
     ensures stands { Stands (hinted tree.now.hint.now.items (exchange_plan tree.now.tree.pool.now tree.now.tree.k
-        tree.now.tree.size tree.now.tree.difference)) walk.new.path.items }
+        tree.now.tree.size tree.now.tree.difference)) descent.new.path.items }
     ensures answer { let stage = tree.now.tree in
         let plan = hinted tree.now.hint.now.items (exchange_plan stage.pool.now stage.k stage.size stage.difference) in
         let Idle = IdleAt stage.pool.now stage.k (C.Idle cuts.now) stage.size stage.difference in
-        let before = hits (ahead plan walk.old.path.items walk.old.number) in
-        let after = hits (ahead plan walk.new.path.items walk.new.number) in
+        let before = hits (ahead plan descent.old.path.items descent.old.number) in
+        let after = hits (ahead plan descent.new.path.items descent.new.number) in
         MatchDrawn result
-        (Passes Idle before (walk.new.path.items ∷ after) × (length walk.new.path.items ≡ stage.size + stage.size))
-        (Passes Idle before [] × (ahead plan walk.new.path.items walk.new.number ≡ []))
+        (Passes Idle before (descent.new.path.items ∷ after) × (length descent.new.path.items ≡ stage.size + stage.size))
+        (Passes Idle before [] × (ahead plan descent.new.path.items descent.new.number ≡ []))
         (Passes Idle before after × (budget.new.used ≡ budget.new.limit)) }
     ensures known { KeepsBeyond (hinted tree.now.hint.now.items (exchange_plan tree.now.tree.pool.now tree.now.tree.k
-        tree.now.tree.size tree.now.tree.difference)) walk.old walk.new }
+        tree.now.tree.size tree.now.tree.difference)) descent.old descent.new }
     ensures spends { Spends budget.old budget.new }
 {
-    leave_stage(tree, cuts, walk, budget)?;
+    leave_stage(tree, cuts, descent, budget)?;
     let paths = OfStage {
         stage: &tree.tree,
         cuts,
     };
-    climb_past(tree, &paths, walk, budget)
+    climb_past(tree, &paths, descent, budget)
 }
 
-/// Goes on to the next set, whose path the walk then has, past such as are known to be idle. All that was passed over
+/// Goes on to the next set, whose path the descent then has, past such as are known to be idle. All that was passed over
 /// is idle.
 fn next_set_past<C: CutsExchanges>(
     sides: &Sides<'_>,
@@ -485,15 +485,15 @@ fn next_set_past<C: CutsExchanges>(
         let after = sets_from sides.now.pool.now sides.now.k place.new in
         MatchDrawn result
         (Passes (C.Idle cuts.now) before
-        (set_of sides.now.pool.now sides.now.k place.new.size place.new.walk.path.items ∷ after)
-        × (length place.new.walk.path.items ≡ place.new.size + place.new.size))
+        (set_of sides.now.pool.now sides.now.k place.new.size place.new.descent.path.items ∷ after)
+        × (length place.new.descent.path.items ≡ place.new.size + place.new.size))
         (Passes (C.Idle cuts.now) before [] × (after ≡ []))
         (Passes (C.Idle cuts.now) before after × (budget.new.used ≡ budget.new.limit)) }
     ensures spends { Spends budget.old budget.new }
 {
     loop {
         let tree = Hinted {
-            tree: Stage {
+            tree: ExchangeStage {
                 pool: sides.pool,
                 k: sides.k,
                 size: place.size,
@@ -501,7 +501,7 @@ fn next_set_past<C: CutsExchanges>(
             },
             hint: &place.hint,
         };
-        if climb_stage(&tree, cuts, &mut place.walk, budget)? {
+        if climb_stage(&tree, cuts, &mut place.descent, budget)? {
             return Ok(true);
         }
         if !next_stage(sides.pool, sides.k, place) {
@@ -544,10 +544,10 @@ fn put_set(pool: &[u16], k: usize, place: &Place, numbers: &mut Numbers)
     requires few { length pool.now ≤ LIMIT }
     requires enough { k ≤ length pool.now }
     requires standing { IsPlace pool.now k place.now }
-    requires whole { length place.now.walk.path.items ≡ place.now.size + place.now.size }
-    ensures { numbers.new.items ≡ set_of pool.now k place.now.size place.now.walk.path.items }
+    requires whole { length place.now.descent.path.items ≡ place.now.size + place.now.size }
+    ensures { numbers.new.items ≡ set_of pool.now k place.now.size place.now.descent.path.items }
 {
-    let (outs, ins) = place.walk.path.split_at(place.size);
+    let (outs, ins) = place.descent.path.split_at(place.size);
     put_kept(pool, k, outs, numbers);
     put_moved_in(pool, k, ins, numbers);
 }
@@ -621,7 +621,7 @@ impl Exchanges {
                 size: 0,
                 difference: 0,
                 hint: ArrayVec::new(),
-                walk: Walk::new(1),
+                descent: Descent::new(1),
             },
         }
     }

@@ -1,4 +1,4 @@
-// The walk of two ascending halves that both searches of sets share: which numbers come next at a place.
+// The descent of two ascending halves that both searches of sets share: which numbers come next at a place.
 ghost use Rattle.std.specs.Prelude.{◌≡◌, ◌+◌, ◌<◌, ◌≤◌, ◌^◌, ℕ, length};
 ghost use Rattle.dutch_order.specs.Halves.{half_start, half_stop};
 

@@ -11,7 +11,7 @@ ghost use Rattle.dutch_order.specs.Keys.{IsIn};
 use crate::generator::Generator;
 use crate::halves::{end_of_half, first_of_half};
 use crate::numbers::{LIMIT, Numbers, fill};
-use crate::search::{Hinted, PLACES, Path, Tree, Walk, climb_on, first_hint, put_behind};
+use crate::search::{Hinted, PLACES, Path, Tree, Descent, climb_on, first_hint, put_behind};
 use crate::steps::{Budget, Drawn};
 use arrayvec::ArrayVec;
 use std::marker::Model;
@@ -167,7 +167,7 @@ pub struct LimboExchanges {
     scores: Numbers,
     k: usize,
     hint: Path,
-    walk: Walk,
+    descent: Descent,
 }
 
 impl Model for LimboExchanges {
@@ -175,7 +175,7 @@ impl Model for LimboExchanges {
     ghost use Rattle.std.specs.Prelude.{◌≤◌, length, map};
     ghost use Rattle.dutch_order.specs.Steps.{Ahead};
     ghost use Rattle.dutch_order.specs.Trials.{ahead, hits, trials};
-    ghost use Rattle.dutch_order.specs.Walks.{Stands};
+    ghost use Rattle.dutch_order.specs.Descents.{Stands};
     ghost use Rattle.dutch_order.specs.Hints.{hinted};
     ghost use Rattle.dutch_order.specs.LimboSearch.{limbo_plan, second_numbers};
 
@@ -183,12 +183,12 @@ impl Model for LimboExchanges {
 
     ghost view = { λ t. record {
       coming = map (second_numbers t.k)
-          (hits (ahead (hinted t.hint.items (limbo_plan t.scores.items t.k)) t.walk.path.items t.walk.number));
-      left = trials (ahead (hinted t.hint.items (limbo_plan t.scores.items t.k)) t.walk.path.items t.walk.number);
+          (hits (ahead (hinted t.hint.items (limbo_plan t.scores.items t.k)) t.descent.path.items t.descent.number));
+      left = trials (ahead (hinted t.hint.items (limbo_plan t.scores.items t.k)) t.descent.path.items t.descent.number);
     } };
 
     ghost invariant = { λ t. (length t.scores.items ≤ LIMIT) × (t.k ≤ length t.scores.items)
-        × Stands (hinted t.hint.items (limbo_plan t.scores.items t.k)) t.walk.path.items };
+        × Stands (hinted t.hint.items (limbo_plan t.scores.items t.k)) t.descent.path.items };
 }
 
 impl LimboExchanges {
@@ -227,7 +227,7 @@ impl LimboExchanges {
             scores: ArrayVec::new(),
             k: 0,
             hint: ArrayVec::new(),
-            walk: Walk::new(1),
+            descent: Descent::new(1),
         }
     }
 
@@ -242,7 +242,7 @@ impl LimboExchanges {
         fill(&mut self.scores, scores);
         self.k = k;
         self.hint.clear();
-        self.walk.restart(0);
+        self.descent.restart(0);
     }
 
     /// Begins anew, in place, as `from` does.
@@ -258,7 +258,7 @@ impl LimboExchanges {
         let places = places_of(set);
         self.hint = leaders(scores, &places);
         put_behind(&mut self.hint, &places);
-        self.walk.restart(first_hint(&self.hint));
+        self.descent.restart(first_hint(&self.hint));
     }
 }
 
@@ -273,10 +273,10 @@ impl Generator for LimboExchanges {
             },
             hint: &self.hint,
         };
-        if !climb_on(&tree, &mut self.walk, budget)? {
+        if !climb_on(&tree, &mut self.descent, budget)? {
             return Ok(false);
         }
-        put_numbers(&self.walk.path[self.k..], numbers);
+        put_numbers(&self.descent.path[self.k..], numbers);
         Ok(true)
     }
 }

@@ -11,7 +11,7 @@ ghost use Rattle.dutch_order.specs.Trials.{Plan, Tried, entry, below, ahead, hit
 ghost use Rattle.dutch_order.specs.Hints.{hint_after, first_hint};
 ghost use Rattle.dutch_order.specs.Prefixes.{GoesOn};
 ghost use Rattle.dutch_order.specs.Steps.{MatchDrawn, Passes, Spends};
-ghost use Rattle.dutch_order.specs.Walks.{Stands, IsOpen, IsSpent, KeepsBeyond, NoneIdle};
+ghost use Rattle.dutch_order.specs.Descents.{Stands, IsOpen, IsSpent, KeepsBeyond, NoneIdle};
 
 use crate::numbers::{LIMIT, Numbers};
 use crate::steps::{Budget, Drawn, Stopped};
@@ -161,22 +161,22 @@ impl<'a, T: Tree> Tree for Hinted<'a, T> {
 /// is no less than `beyond`, if anything does; where some were left without a trial, that is 0, so that nothing is
 /// known.
 #[derive(Drop)]
-pub struct Walk {
+pub struct Descent {
     pub path: Path,
     pub number: usize,
     pub beyond: Option<usize>,
-    // lives as long as the walk, so that no question makes a list
+    // lives as long as the descent, so that no question makes a list
     pub room: Numbers,
 }
 
-impl Walk {
-    /// A walk that has filled no place.
-    pub fn new(number: usize) -> Walk
+impl Descent {
+    /// A descent that has filled no place.
+    pub fn new(number: usize) -> Descent
         ensures path { result.path.items ≡ [] }
         ensures number { result.number ≡ number }
         ensures beyond { result.beyond ≡ None }
     {
-        Walk {
+        Descent {
             path: ArrayVec::new(),
             number,
             beyond: None,
@@ -233,151 +233,151 @@ pub fn end_number<T: Tree>(tree: &T, path: &[u16]) -> usize
 
 /// Leaves out all that is still to come below a path, if all of it is known to be idle. What lies beyond it is not
 /// known then.
-fn leave_idle<T: Tree, C: CutsPaths>(tree: &T, cuts: &C, walk: &mut Walk)
-    requires standing { Stands (T.plan tree.now) walk.old.path.items }
+fn leave_idle<T: Tree, C: CutsPaths>(tree: &T, cuts: &C, descent: &mut Descent)
+    requires standing { Stands (T.plan tree.now) descent.old.path.items }
     requires may_ask { (path : List ℕ) → Stands (T.plan tree.now) path → C.MayAsk cuts.now path }
-    ensures path { walk.new.path.items ≡ walk.old.path.items }
-    ensures passes { Passes (C.Idle cuts.now) (hits (ahead (T.plan tree.now) walk.old.path.items walk.old.number))
-        (hits (ahead (T.plan tree.now) walk.new.path.items walk.new.number)) }
+    ensures path { descent.new.path.items ≡ descent.old.path.items }
+    ensures passes { Passes (C.Idle cuts.now) (hits (ahead (T.plan tree.now) descent.old.path.items descent.old.number))
+        (hits (ahead (T.plan tree.now) descent.new.path.items descent.new.number)) }
     ensures same { NoneIdle (C.Idle cuts.now)
-        → (walk.new.number ≡ walk.old.number) × (walk.new.beyond ≡ walk.old.beyond) }
-    ensures known { (walk.new.beyond ≡ Some 0)
-        ⊎ ((walk.new.number ≡ walk.old.number) × (walk.new.beyond ≡ walk.old.beyond)) }
+        → (descent.new.number ≡ descent.old.number) × (descent.new.beyond ≡ descent.old.beyond) }
+    ensures known { (descent.new.beyond ≡ Some 0)
+        ⊎ ((descent.new.number ≡ descent.old.number) × (descent.new.beyond ≡ descent.old.beyond)) }
 {
-    let end = end_number(tree, &walk.path);
-    if walk.number < end && cuts.cuts(&walk.path, &mut walk.room) {
-        walk.number = end;
-        walk.beyond = Some(0);
+    let end = end_number(tree, &descent.path);
+    if descent.number < end && cuts.cuts(&descent.path, &mut descent.room) {
+        descent.number = end;
+        descent.beyond = Some(0);
     }
 }
 
 /// Makes one trial: takes the number if it fits, and otherwise goes on to the next one. The answer is whether it was
 /// taken.
-fn try_number<T: Tree>(tree: &T, walk: &mut Walk) -> bool
-    requires opened { IsOpen (T.plan tree.now) walk.old.path.items }
-    requires tried { walk.old.number < (T.plan tree.now).stop walk.old.path.items }
+fn try_number<T: Tree>(tree: &T, descent: &mut Descent) -> bool
+    requires opened { IsOpen (T.plan tree.now) descent.old.path.items }
+    requires tried { descent.old.number < (T.plan tree.now).stop descent.old.path.items }
     requires few { (T.plan tree.now).places ≤ PLACES }
     requires narrow { (T.plan tree.now).width ≤ PLACES }
-    ensures stands { Stands (T.plan tree.now) walk.new.path.items }
-    ensures goes_on { ahead (T.plan tree.now) walk.old.path.items walk.old.number
-        ≡ Tried ((T.plan tree.now).beyond walk.old.path.items walk.old.number)
-        ∷ ahead (T.plan tree.now) walk.new.path.items walk.new.number }
-    ensures beyond { walk.new.beyond
-        ≡ lower walk.old.beyond ((T.plan tree.now).beyond walk.old.path.items walk.old.number) }
-    ensures places { length walk.new.path.items ≤ length walk.old.path.items + 1 }
+    ensures stands { Stands (T.plan tree.now) descent.new.path.items }
+    ensures goes_on { ahead (T.plan tree.now) descent.old.path.items descent.old.number
+        ≡ Tried ((T.plan tree.now).beyond descent.old.path.items descent.old.number)
+        ∷ ahead (T.plan tree.now) descent.new.path.items descent.new.number }
+    ensures beyond { descent.new.beyond
+        ≡ lower descent.old.beyond ((T.plan tree.now).beyond descent.old.path.items descent.old.number) }
+    ensures places { length descent.new.path.items ≤ length descent.old.path.items + 1 }
 {
-    let number = walk.number as u16;
-    walk.beyond = lower_of(walk.beyond, tree.beyond(&walk.path, number));
-    if tree.admits(&walk.path, number) {
-        walk.path.push(number);
-        walk.number = first_number(tree, &walk.path);
+    let number = descent.number as u16;
+    descent.beyond = lower_of(descent.beyond, tree.beyond(&descent.path, number));
+    if tree.admits(&descent.path, number) {
+        descent.path.push(number);
+        descent.number = first_number(tree, &descent.path);
         true
     } else {
-        walk.number += 1;
+        descent.number += 1;
         false
     }
 }
 
 /// Takes the last number from a path below which nothing is left, and goes on to the next one; false if the path is
 /// empty.
-fn go_back<T: Tree>(tree: &T, walk: &mut Walk) -> bool
-    requires standing { Stands (T.plan tree.now) walk.old.path.items }
-    requires spent { IsSpent (T.plan tree.now) walk.old.path.items walk.old.number }
-    ensures stands { Stands (T.plan tree.now) walk.new.path.items }
-    ensures same { ahead (T.plan tree.now) walk.new.path.items walk.new.number
-        ≡ ahead (T.plan tree.now) walk.old.path.items walk.old.number }
-    ensures beyond { walk.new.beyond ≡ walk.old.beyond }
-    ensures shorter { result ≡ true → length walk.new.path.items < length walk.old.path.items }
-    ensures ended { result ≡ false → ahead (T.plan tree.now) walk.new.path.items walk.new.number ≡ [] }
+fn go_back<T: Tree>(tree: &T, descent: &mut Descent) -> bool
+    requires standing { Stands (T.plan tree.now) descent.old.path.items }
+    requires spent { IsSpent (T.plan tree.now) descent.old.path.items descent.old.number }
+    ensures stands { Stands (T.plan tree.now) descent.new.path.items }
+    ensures same { ahead (T.plan tree.now) descent.new.path.items descent.new.number
+        ≡ ahead (T.plan tree.now) descent.old.path.items descent.old.number }
+    ensures beyond { descent.new.beyond ≡ descent.old.beyond }
+    ensures shorter { result ≡ true → length descent.new.path.items < length descent.old.path.items }
+    ensures ended { result ≡ false → ahead (T.plan tree.now) descent.new.path.items descent.new.number ≡ [] }
 {
-    match walk.path.pop() {
+    match descent.path.pop() {
         Some(number) => {
-            walk.number = number as usize + 1;
+            descent.number = number as usize + 1;
             true
         }
         None => false,
     }
 }
 
-/// Goes on to the next whole path, which the walk then has, unless the budget or the search ends before it. It leaves
+/// Goes on to the next whole path, which the descent then has, unless the budget or the search ends before it. It leaves
 /// out beginnings that are known to be idle: it asks at the start, and wherever a number was taken or given back. No
 /// question is a step.
 pub fn climb_past<T: Tree, C: CutsPaths>(
     tree: &T,
     cuts: &C,
-    walk: &mut Walk,
+    descent: &mut Descent,
     budget: &mut Budget,
 ) -> Drawn
-    requires standing { Stands (T.plan tree.now) walk.old.path.items }
+    requires standing { Stands (T.plan tree.now) descent.old.path.items }
     requires few { (T.plan tree.now).places ≤ PLACES }
     requires narrow { (T.plan tree.now).width ≤ PLACES }
     requires may_ask { (path : List ℕ) → Stands (T.plan tree.now) path → C.MayAsk cuts.now path }
-    ensures stands { Stands (T.plan tree.now) walk.new.path.items }
+    ensures stands { Stands (T.plan tree.now) descent.new.path.items }
     ensures answer { MatchDrawn result
-        (Passes (C.Idle cuts.now) (hits (ahead (T.plan tree.now) walk.old.path.items walk.old.number))
-        (walk.new.path.items ∷ hits (ahead (T.plan tree.now) walk.new.path.items walk.new.number))
-        × (length walk.new.path.items ≡ (T.plan tree.now).places))
-        (Passes (C.Idle cuts.now) (hits (ahead (T.plan tree.now) walk.old.path.items walk.old.number)) []
-        × (ahead (T.plan tree.now) walk.new.path.items walk.new.number ≡ []))
-        (Passes (C.Idle cuts.now) (hits (ahead (T.plan tree.now) walk.old.path.items walk.old.number))
-        (hits (ahead (T.plan tree.now) walk.new.path.items walk.new.number))
+        (Passes (C.Idle cuts.now) (hits (ahead (T.plan tree.now) descent.old.path.items descent.old.number))
+        (descent.new.path.items ∷ hits (ahead (T.plan tree.now) descent.new.path.items descent.new.number))
+        × (length descent.new.path.items ≡ (T.plan tree.now).places))
+        (Passes (C.Idle cuts.now) (hits (ahead (T.plan tree.now) descent.old.path.items descent.old.number)) []
+        × (ahead (T.plan tree.now) descent.new.path.items descent.new.number ≡ []))
+        (Passes (C.Idle cuts.now) (hits (ahead (T.plan tree.now) descent.old.path.items descent.old.number))
+        (hits (ahead (T.plan tree.now) descent.new.path.items descent.new.number))
         × (budget.new.used ≡ budget.new.limit)
-        × (0 < trials (ahead (T.plan tree.now) walk.new.path.items walk.new.number))) }
+        × (0 < trials (ahead (T.plan tree.now) descent.new.path.items descent.new.number))) }
     ensures steps { NoneIdle (C.Idle cuts.now)
-        → budget.new.used + trials (ahead (T.plan tree.now) walk.new.path.items walk.new.number)
-        ≡ budget.old.used + trials (ahead (T.plan tree.now) walk.old.path.items walk.old.number) }
+        → budget.new.used + trials (ahead (T.plan tree.now) descent.new.path.items descent.new.number)
+        ≡ budget.old.used + trials (ahead (T.plan tree.now) descent.old.path.items descent.old.number) }
     ensures beyond { NoneIdle (C.Idle cuts.now)
-        → lower walk.new.beyond (lowest (ahead (T.plan tree.now) walk.new.path.items walk.new.number))
-        ≡ lower walk.old.beyond (lowest (ahead (T.plan tree.now) walk.old.path.items walk.old.number)) }
-    ensures known { KeepsBeyond (T.plan tree.now) walk.old walk.new }
+        → lower descent.new.beyond (lowest (ahead (T.plan tree.now) descent.new.path.items descent.new.number))
+        ≡ lower descent.old.beyond (lowest (ahead (T.plan tree.now) descent.old.path.items descent.old.number)) }
+    ensures known { KeepsBeyond (T.plan tree.now) descent.old descent.new }
     ensures spends { Spends budget.old budget.new }
 {
-    leave_idle(tree, cuts, walk);
+    leave_idle(tree, cuts, descent);
     loop {
-        if walk.path.len() == tree.places() {
-            if walk.number == 0 {
-                walk.number = 1;
+        if descent.path.len() == tree.places() {
+            if descent.number == 0 {
+                descent.number = 1;
                 return Ok(true);
             }
-        } else if walk.number < tree.stop(&walk.path) {
+        } else if descent.number < tree.stop(&descent.path) {
             if budget.used == budget.limit {
                 return Err(Stopped);
             }
             budget.used += 1;
-            if try_number(tree, walk) {
-                leave_idle(tree, cuts, walk);
+            if try_number(tree, descent) {
+                leave_idle(tree, cuts, descent);
             }
             continue;
         }
-        if !go_back(tree, walk) {
+        if !go_back(tree, descent) {
             return Ok(false);
         }
-        leave_idle(tree, cuts, walk);
+        leave_idle(tree, cuts, descent);
     }
 }
 
-/// Goes on to the next whole path, which the walk then has, unless the budget or the search ends before it. Nothing
+/// Goes on to the next whole path, which the descent then has, unless the budget or the search ends before it. Nothing
 /// is left out.
-pub fn climb_on<T: Tree>(tree: &T, walk: &mut Walk, budget: &mut Budget) -> Drawn
-    requires standing { Stands (T.plan tree.now) walk.old.path.items }
+pub fn climb_on<T: Tree>(tree: &T, descent: &mut Descent, budget: &mut Budget) -> Drawn
+    requires standing { Stands (T.plan tree.now) descent.old.path.items }
     requires few { (T.plan tree.now).places ≤ PLACES }
     requires narrow { (T.plan tree.now).width ≤ PLACES }
-    ensures stands { Stands (T.plan tree.now) walk.new.path.items }
+    ensures stands { Stands (T.plan tree.now) descent.new.path.items }
     ensures answer { MatchDrawn result
-        ((hits (ahead (T.plan tree.now) walk.old.path.items walk.old.number)
-        ≡ walk.new.path.items ∷ hits (ahead (T.plan tree.now) walk.new.path.items walk.new.number))
-        × (length walk.new.path.items ≡ (T.plan tree.now).places))
-        ((hits (ahead (T.plan tree.now) walk.old.path.items walk.old.number) ≡ [])
-        × (ahead (T.plan tree.now) walk.new.path.items walk.new.number ≡ []))
-        ((hits (ahead (T.plan tree.now) walk.new.path.items walk.new.number)
-        ≡ hits (ahead (T.plan tree.now) walk.old.path.items walk.old.number))
+        ((hits (ahead (T.plan tree.now) descent.old.path.items descent.old.number)
+        ≡ descent.new.path.items ∷ hits (ahead (T.plan tree.now) descent.new.path.items descent.new.number))
+        × (length descent.new.path.items ≡ (T.plan tree.now).places))
+        ((hits (ahead (T.plan tree.now) descent.old.path.items descent.old.number) ≡ [])
+        × (ahead (T.plan tree.now) descent.new.path.items descent.new.number ≡ []))
+        ((hits (ahead (T.plan tree.now) descent.new.path.items descent.new.number)
+        ≡ hits (ahead (T.plan tree.now) descent.old.path.items descent.old.number))
         × (budget.new.used ≡ budget.new.limit)
-        × (0 < trials (ahead (T.plan tree.now) walk.new.path.items walk.new.number))) }
-    ensures steps { budget.new.used + trials (ahead (T.plan tree.now) walk.new.path.items walk.new.number)
-        ≡ budget.old.used + trials (ahead (T.plan tree.now) walk.old.path.items walk.old.number) }
-    ensures beyond { lower walk.new.beyond (lowest (ahead (T.plan tree.now) walk.new.path.items walk.new.number))
-        ≡ lower walk.old.beyond (lowest (ahead (T.plan tree.now) walk.old.path.items walk.old.number)) }
+        × (0 < trials (ahead (T.plan tree.now) descent.new.path.items descent.new.number))) }
+    ensures steps { budget.new.used + trials (ahead (T.plan tree.now) descent.new.path.items descent.new.number)
+        ≡ budget.old.used + trials (ahead (T.plan tree.now) descent.old.path.items descent.old.number) }
+    ensures beyond { lower descent.new.beyond (lowest (ahead (T.plan tree.now) descent.new.path.items descent.new.number))
+        ≡ lower descent.old.beyond (lowest (ahead (T.plan tree.now) descent.old.path.items descent.old.number)) }
     ensures spends { Spends budget.old budget.new }
 {
-    climb_past(tree, &CutsNothing, walk, budget)
+    climb_past(tree, &CutsNothing, descent, budget)
 }

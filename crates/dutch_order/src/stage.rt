@@ -5,7 +5,7 @@ ghost use Rattle.std.specs.List.{AllByRecursion};
 ghost use Rattle.dutch_order.specs.Sides.{count_of};
 ghost use Rattle.dutch_order.specs.Stages.{least_at, greatest_at, least_difference, greatest_difference, exchange_plan};
 ghost use Rattle.dutch_order.specs.declared.exchange.Side.TheVariants.{In, Out};
-ghost use Rattle.dutch_order.specs.Walks.{IsOpen};
+ghost use Rattle.dutch_order.specs.Descents.{IsOpen};
 
 use crate::exchange::Side;
 use crate::halves::{end_of_half, first_of_half};
@@ -22,7 +22,7 @@ struct Reach {
 
 /// What can still come if a place is tried for a number moved out.
 #[tactic(auto, unfolding(crate::specs::Stages::least_at, crate::specs::Stages::greatest_at))]
-fn reach_out(stage: &Stage<'_>, path: &[u16], place: usize) -> Reach
+fn reach_out(stage: &ExchangeStage<'_>, path: &[u16], place: usize) -> Reach
     requires opened { length path.now < stage.now.size }
     requires walked { AllByRecursion (λ place. place < stage.now.k) path.now }
     requires room { place + (stage.now.size - 1 - length path.now) < stage.now.k }
@@ -47,7 +47,7 @@ fn reach_out(stage: &Stage<'_>, path: &[u16], place: usize) -> Reach
 
 /// What can still come if a place is tried for a number moved in.
 #[tactic(auto, unfolding(crate::specs::Stages::least_at, crate::specs::Stages::greatest_at))]
-fn reach_in(stage: &Stage<'_>, path: &[u16], place: usize) -> Reach
+fn reach_in(stage: &ExchangeStage<'_>, path: &[u16], place: usize) -> Reach
     requires second { stage.now.size ≤ length path.now }
     requires opened { length path.now < stage.now.size + stage.now.size }
     requires walked_out { AllByRecursion (λ place. place < stage.now.k) (take stage.now.size path.now) }
@@ -76,7 +76,7 @@ fn reach_in(stage: &Stage<'_>, path: &[u16], place: usize) -> Reach
 
 /// One stage of the search: a number of exchanged players, and a difference of the sums.
 #[derive(Drop)]
-pub struct Stage<'a> {
+pub struct ExchangeStage<'a> {
     pub pool: &'a [u16],
     pub k: usize,
     pub size: usize,
@@ -89,7 +89,7 @@ pub struct Stage<'a> {
 
 /// What can still come if a place is tried in a stage.
 #[tactic(auto, unfolding(crate::specs::Halves::half_stop))]
-fn reach_of(stage: &Stage<'_>, path: &[u16], place: usize) -> Reach
+fn reach_of(stage: &ExchangeStage<'_>, path: &[u16], place: usize) -> Reach
     requires opened { IsOpen (exchange_plan stage.now.pool.now stage.now.k stage.now.size stage.now.difference)
         path.now }
     requires tried { let plan = exchange_plan stage.now.pool.now stage.now.k stage.now.size stage.now.difference in
@@ -104,7 +104,7 @@ fn reach_of(stage: &Stage<'_>, path: &[u16], place: usize) -> Reach
     }
 }
 
-impl<'a> Tree for Stage<'a> {
+impl<'a> Tree for ExchangeStage<'a> {
     ghost use Rattle.dutch_order.specs.Halves.{half_stop};
     ghost use Rattle.dutch_order.specs.Stages.{exchange_plan};
     ghost use Rattle.std.proofs.Common.{arith};

@@ -13,7 +13,7 @@ use crate::cuts::CutsTuples;
 use crate::generator::Generator;
 use crate::numbers::{LIMIT, Numbers, fill};
 use crate::rules::Rule;
-use crate::search::{CutsPaths, Hinted, Path, Tree, Walk, climb_on, climb_past, first_hint};
+use crate::search::{CutsPaths, Hinted, Path, Tree, Descent, climb_on, climb_past, first_hint};
 use crate::steps::{Budget, Drawn};
 use arrayvec::ArrayVec;
 use std::marker::Model;
@@ -135,7 +135,7 @@ pub struct Transpositions<'a, R: Rule> {
     pool: Numbers,
     rule: &'a R,
     hint: Path,
-    walk: Walk,
+    descent: Descent,
 }
 
 impl<'a, R: Rule> Model for Transpositions<'a, R> {
@@ -143,7 +143,7 @@ impl<'a, R: Rule> Model for Transpositions<'a, R> {
     ghost use Rattle.std.specs.Prelude.{◌≤◌, length, map};
     ghost use Rattle.dutch_order.specs.Steps.{Ahead};
     ghost use Rattle.dutch_order.specs.Trials.{ahead, hits, trials};
-    ghost use Rattle.dutch_order.specs.Walks.{Stands};
+    ghost use Rattle.dutch_order.specs.Descents.{Stands};
     ghost use Rattle.dutch_order.specs.Hints.{hinted};
     ghost use Rattle.dutch_order.specs.TranspositionSearch.{transposition_plan, numbers_at};
 
@@ -152,15 +152,15 @@ impl<'a, R: Rule> Model for Transpositions<'a, R> {
     ghost view = { λ t. record {
       coming = map (numbers_at t.pool.items)
           (hits (ahead (hinted t.hint.items
-          (transposition_plan (R.meets t.rule.now) t.first.items t.pool.items)) t.walk.path.items t.walk.number));
+          (transposition_plan (R.meets t.rule.now) t.first.items t.pool.items)) t.descent.path.items t.descent.number));
       left = trials (ahead (hinted t.hint.items
-          (transposition_plan (R.meets t.rule.now) t.first.items t.pool.items)) t.walk.path.items t.walk.number);
+          (transposition_plan (R.meets t.rule.now) t.first.items t.pool.items)) t.descent.path.items t.descent.number);
     } };
 
     ghost invariant = { λ t.
         (length t.first.items ≤ LIMIT) × (length t.pool.items ≤ LIMIT)
         × Stands (hinted t.hint.items (transposition_plan
-        (R.meets t.rule.now) t.first.items t.pool.items)) t.walk.path.items };
+        (R.meets t.rule.now) t.first.items t.pool.items)) t.descent.path.items };
 }
 
 impl<'a, R: Rule> Transpositions<'a, R> {
@@ -202,7 +202,7 @@ impl<'a, R: Rule> Transpositions<'a, R> {
             pool: ArrayVec::new(),
             rule,
             hint: ArrayVec::new(),
-            walk: Walk::new(1),
+            descent: Descent::new(1),
         }
     }
 
@@ -220,7 +220,7 @@ impl<'a, R: Rule> Transpositions<'a, R> {
         fill(&mut self.pool, meeting.pool);
         self.rule = rule;
         self.hint.clear();
-        self.walk.restart(0);
+        self.descent.restart(0);
     }
 
     /// Begins anew, in place, as `from` does.
@@ -236,7 +236,7 @@ impl<'a, R: Rule> Transpositions<'a, R> {
         fill(&mut self.pool, meeting.pool);
         self.rule = rule;
         put_places(meeting.pool, tuple, &mut self.hint);
-        self.walk.restart(first_hint(&self.hint));
+        self.descent.restart(first_hint(&self.hint));
     }
 
     /// Fills a list with the next one, but lists that the cuts know to be idle may be skipped, at no step: they are
@@ -266,10 +266,10 @@ impl<'a, R: Rule> Transpositions<'a, R> {
             pool: &self.pool,
             cuts,
         };
-        if !climb_past(&tree, &places, &mut self.walk, budget)? {
+        if !climb_past(&tree, &places, &mut self.descent, budget)? {
             return Ok(false);
         }
-        pick(&self.pool, &self.walk.path, numbers);
+        pick(&self.pool, &self.descent.path, numbers);
         Ok(true)
     }
 }
@@ -286,10 +286,10 @@ impl<'a, R: Rule> Generator for Transpositions<'a, R> {
             },
             hint: &self.hint,
         };
-        if !climb_on(&tree, &mut self.walk, budget)? {
+        if !climb_on(&tree, &mut self.descent, budget)? {
             return Ok(false);
         }
-        pick(&self.pool, &self.walk.path, numbers);
+        pick(&self.pool, &self.descent.path, numbers);
         Ok(true)
     }
 }

@@ -18,12 +18,12 @@ use Rattle.dutch_order.proofs.HalfWalks.{Climbs}
 use Rattle.dutch_order.proofs.Orders.{IsIn-filter, all_members, member_has}
 use Rattle.dutch_player.specs.Facts.{Facts}
 use Rattle.dutch_weights.specs.declared.scoped.Reach.TheVariants.{Bracket}
-use Rattle.dutch_bracket.specs.declared.scope.Side.{Side}
-use Rattle.dutch_bracket.specs.declared.scope.Side.TheVariants.{Any, Outside, First, Resident, FirstResident, OtherResident}
+use Rattle.dutch_bracket.specs.declared.scope.Standing.{Standing}
+use Rattle.dutch_bracket.specs.declared.scope.Standing.TheVariants.{Any, Outside, First, Resident, FirstResident, OtherResident}
 use Rattle.dutch_weights.specs.Orders.{Order}
 use Rattle.dutch_bracket.specs.Reached.{IsOf, Reached, frame_of, numbers_meet}
 use Rattle.dutch_bracket.specs.Brackets.{candidates_of}
-use Rattle.dutch_bracket.specs.Scopes.{Covers, CoversBy, Scope, is_joined, may_stay, moved_down_side, resident_side}
+use Rattle.dutch_bracket.specs.Scopes.{Covers, CoversBy, Scope, is_joined, may_stay, moved_down_standing, resident_standing}
 use Rattle.dutch_weights.specs.ScopedCosts.{costs_in}
 use Rattle.dutch_bracket.specs.Weights.{Scale, number_pairs, numbers, weighing}
 use Rattle.dutch_bracket.proofs.AllLemmas.{all_join}
@@ -33,27 +33,27 @@ use Rattle.dutch_bracket.proofs.LegalPairs.{legal_of}
 
 -- ---- where the members of the four lists stand, as far as a scope tells
 
-abbrev first_side : Filling → Side
-first_side S1 = Any
-first_side S2 = First
-first_side S2r = First
+abbrev first_standing : Filling → Standing
+first_standing S1 = Any
+first_standing S2 = First
+first_standing S2r = First
 
-abbrev second_side : Filling → Side
-second_side S1 = Any
-second_side S2 = Resident
-second_side S2r = OtherResident
+abbrev second_standing : Filling → Standing
+second_standing S1 = Any
+second_standing S2 = Resident
+second_standing S2r = OtherResident
 
-abbrev first_resident_side : Filling → Side
-first_resident_side S1 = Any
-first_resident_side S2 = Resident
-first_resident_side S2r = FirstResident
+abbrev first_resident_standing : Filling → Standing
+first_resident_standing S1 = Any
+first_resident_standing S2 = Resident
+first_resident_standing S2r = FirstResident
 
-pairs_join : (f : Filling) → is_joined (first_side f) (second_side f) ≡ true
+pairs_join : (f : Filling) → is_joined (first_standing f) (second_standing f) ≡ true
 pairs_join S1 = refl
 pairs_join S2 = refl
 pairs_join S2r = refl
 
-residents_join : (f : Filling) → is_joined (first_resident_side f) (second_side f) ≡ true
+residents_join : (f : Filling) → is_joined (first_resident_standing f) (second_standing f) ≡ true
 residents_join S1 = refl
 residents_join S2 = refl
 residents_join S2r = refl
@@ -78,42 +78,42 @@ has_lists S2r scope S2r lists a covers begins = (sym covers.1 ∙ begins.0, sym 
 
 -- ---- numbers and their sides
 
--- side_of, by what a scope has
-abbrev side_by : ℕ → Filling → List ℕ → List ℕ → ℕ → Side
-side_by mdps f s1 s1r x = cond (nat_lt mdps x) (resident_side f s1r x) (moved_down_side f s1 x)
+-- standing_of, by what a scope has
+abbrev side_by : ℕ → Filling → List ℕ → List ℕ → ℕ → Standing
+side_by mdps f s1 s1r x = cond (nat_lt mdps x) (resident_standing f s1r x) (moved_down_standing f s1 x)
 
-resident_stands : (mdps : ℕ) (f : Filling) (s1 s1r : List ℕ) (x : ℕ) → mdps < x → side_by mdps f s1 s1r x ≡ resident_side f s1r x
+resident_stands : (mdps : ℕ) (f : Filling) (s1 s1r : List ℕ) (x : ℕ) → mdps < x → side_by mdps f s1 s1r x ≡ resident_standing f s1r x
 resident_stands mdps f s1 s1r x h =
-    ap (λ t. cond t (resident_side f s1r x) (moved_down_side f s1 x)) (let e : nat_lt mdps x ≡ true = grind (arith, nat_tests, h) in e)
+    ap (λ t. cond t (resident_standing f s1r x) (moved_down_standing f s1 x)) (let e : nat_lt mdps x ≡ true = grind (arith, nat_tests, h) in e)
 
-moved_down_stands : (mdps : ℕ) (f : Filling) (s1 s1r : List ℕ) (x : ℕ) → x ≤ mdps → side_by mdps f s1 s1r x ≡ moved_down_side f s1 x
+moved_down_stands : (mdps : ℕ) (f : Filling) (s1 s1r : List ℕ) (x : ℕ) → x ≤ mdps → side_by mdps f s1 s1r x ≡ moved_down_standing f s1 x
 moved_down_stands mdps f s1 s1r x h =
-    ap (λ t. cond t (resident_side f s1r x) (moved_down_side f s1 x)) (let e : nat_lt mdps x ≡ false = grind (arith, nat_tests, h) in e)
+    ap (λ t. cond t (resident_standing f s1r x) (moved_down_standing f s1 x)) (let e : nat_lt mdps x ≡ false = grind (arith, nat_tests, h) in e)
 
-first_by : (f : Filling) (s1 s1r : List ℕ) (a : Arrangement) → HasLists f s1 s1r a → (x : ℕ) → is_member x a.s1 ≡ true → moved_down_side f s1 x ≡ first_side f
+first_by : (f : Filling) (s1 s1r : List ℕ) (a : Arrangement) → HasLists f s1 s1r a → (x : ℕ) → is_member x a.s1 ≡ true → moved_down_standing f s1 x ≡ first_standing f
 first_by S1 s1 s1r a has x m = refl
 first_by S2 s1 s1r a has x m = ap (λ (s : List ℕ). cond (is_member x s) First Outside) has ∙ ap (λ t. cond t First Outside) m
 first_by S2r s1 s1r a has x m = ap (λ (s : List ℕ). cond (is_member x s) First Outside) has.0 ∙ ap (λ t. cond t First Outside) m
 
-other_by : (f : Filling) (s1 s1r : List ℕ) (a : Arrangement) → HasLists f s1 s1r a → (x : ℕ) → is_member x a.s1r ≡ false → resident_side f s1r x ≡ second_side f
+other_by : (f : Filling) (s1 s1r : List ℕ) (a : Arrangement) → HasLists f s1 s1r a → (x : ℕ) → is_member x a.s1r ≡ false → resident_standing f s1r x ≡ second_standing f
 other_by S1 s1 s1r a has x m = refl
 other_by S2 s1 s1r a has x m = refl
 other_by S2r s1 s1r a has x m =
     ap (λ (s : List ℕ). cond (is_member x s) FirstResident OtherResident) has.1 ∙ ap (λ t. cond t FirstResident OtherResident) m
 
 first_resident_by : (f : Filling) (s1 s1r : List ℕ) (a : Arrangement) → HasLists f s1 s1r a → (x : ℕ) → is_member x a.s1r ≡ true
-    → resident_side f s1r x ≡ first_resident_side f
+    → resident_standing f s1r x ≡ first_resident_standing f
 first_resident_by S1 s1 s1r a has x m = refl
 first_resident_by S2 s1 s1r a has x m = refl
 first_resident_by S2r s1 s1r a has x m =
     ap (λ (s : List ℕ). cond (is_member x s) FirstResident OtherResident) has.1 ∙ ap (λ t. cond t FirstResident OtherResident) m
 
-outside_stays : (f : Filling) (s1 s1r : List ℕ) (a : Arrangement) → HasLists f s1 s1r a → (x : ℕ) → is_member x a.s1 ≡ false → may_stay (moved_down_side f s1 x) ≡ true
+outside_stays : (f : Filling) (s1 s1r : List ℕ) (a : Arrangement) → HasLists f s1 s1r a → (x : ℕ) → is_member x a.s1 ≡ false → may_stay (moved_down_standing f s1 x) ≡ true
 outside_stays S1 s1 s1r a has x m = refl
 outside_stays S2 s1 s1r a has x m = ap (λ (s : List ℕ). may_stay (cond (is_member x s) First Outside)) has ∙ ap (λ t. may_stay (cond t First Outside)) m
 outside_stays S2r s1 s1r a has x m = ap (λ (s : List ℕ). may_stay (cond (is_member x s) First Outside)) has.0 ∙ ap (λ t. may_stay (cond t First Outside)) m
 
-second_stays : (f : Filling) → may_stay (second_side f) ≡ true
+second_stays : (f : Filling) → may_stay (second_standing f) ≡ true
 second_stays S1 = refl
 second_stays S2 = refl
 second_stays S2r = refl
@@ -159,49 +159,49 @@ s1_moved_down frame shape a within m =
 
 module _ (frame : Frame) (shape : Shape) (a : Arrangement) (within : frame.mdps ≤ length frame.scores) (m : IsIn a (arrangements frame shape))
     (f : Filling) (s1 s1r : List ℕ) (has : HasLists f s1 s1r a) where
-  abbrev S : ℕ → Side
+  abbrev S : ℕ → Standing
   S = side_by frame.mdps f s1 s1r
 
-  firsts : AllByRecursion (λ x. S x ≡ first_side f) a.s1
+  firsts : AllByRecursion (λ x. S x ≡ first_standing f) a.s1
   firsts =
       let parts = parts_of frame shape a within m in
-      all_members (λ x. S x ≡ first_side f) a.s1
+      all_members (λ x. S x ≡ first_standing f) a.s1
       (λ x i.
       let below : x < 1 + frame.mdps = member_has (λ y. y < 1 + frame.mdps) a.s1 (climbs_below 1 (1 + frame.mdps) a.s1 parts.s1) x i in
       moved_down_stands frame.mdps f s1 s1r x (omega (arith, below)) ∙ first_by f s1 s1r a has x (in-member x a.s1 i))
 
-  seconds : AllByRecursion (λ x. S x ≡ second_side f) a.s2
+  seconds : AllByRecursion (λ x. S x ≡ second_standing f) a.s2
   seconds =
       let parts = parts_of frame shape a within m in
       let lists = lists_of frame shape a within m in
       let none = apart a.s2 a.s1r
       (subset_members (λ x. is_member x a.s2 ≡ false) (left_of (residents_of frame) a.s2) (remainder_pairs shape) a.s1r (none_taken (residents_of frame) a.s2) lists.s1r) in
-      all_members (λ x. S x ≡ second_side f) a.s2
+      all_members (λ x. S x ≡ second_standing f) a.s2
       (λ x i.
       let above = member_has (λ y. (frame.mdps < y) × (y ≤ length frame.scores)) a.s2 parts.s2 x i in
       resident_stands frame.mdps f s1 s1r x above.0 ∙ other_by f s1 s1r a has x (member_has (λ y. is_member y a.s1r ≡ false) a.s2 none x i))
 
-  first_residents : AllByRecursion (λ x. S x ≡ first_resident_side f) a.s1r
+  first_residents : AllByRecursion (λ x. S x ≡ first_resident_standing f) a.s1r
   first_residents =
       let parts = parts_of frame shape a within m in
-      all_members (λ x. S x ≡ first_resident_side f) a.s1r
+      all_members (λ x. S x ≡ first_resident_standing f) a.s1r
       (λ x i.
       let above = member_has (λ y. (frame.mdps < y) × (y ≤ length frame.scores)) a.s1r parts.s1r x i in
       resident_stands frame.mdps f s1 s1r x above.0 ∙ first_resident_by f s1 s1r a has x (in-member x a.s1r i))
 
-  other_residents : AllByRecursion (λ x. S x ≡ second_side f) a.s2r
+  other_residents : AllByRecursion (λ x. S x ≡ second_standing f) a.s2r
   other_residents =
       let parts = parts_of frame shape a within m in
       let lists = lists_of frame shape a within m in
       let rest : List ℕ = left_of (residents_of frame) a.s2 in
       let none = tuple_members (λ x. is_member x a.s1r ≡ false) (left_of rest a.s1r) (remainder_pairs shape) a.s2r (none_taken rest a.s1r) lists.s2r in
-      all_members (λ x. S x ≡ second_side f) a.s2r
+      all_members (λ x. S x ≡ second_standing f) a.s2r
       (λ x i.
       let above = member_has (λ y. (frame.mdps < y) × (y ≤ length frame.scores)) a.s2r parts.s2r x i in
       resident_stands frame.mdps f s1 s1r x above.0 ∙ other_by f s1 s1r a has x (member_has (λ y. is_member y a.s1r ≡ false) a.s2r none x i))
 
   -- a number in none of the four lists may be left over
-  stays_at : (x : ℕ) → is_member x (paired a) ≡ false → (t : Bool) → nat_lt frame.mdps x ≡ t → may_stay (cond t (resident_side f s1r x) (moved_down_side f s1 x)) ≡ true
+  stays_at : (x : ℕ) → is_member x (paired a) ≡ false → (t : Bool) → nat_lt frame.mdps x ≡ t → may_stay (cond t (resident_standing f s1r x) (moved_down_standing f s1 x)) ≡ true
   stays_at x out true e =
       let four = sym (member-four x a.s1 a.s2 a.s1r a.s2r) ∙ out in
       let one = neither (is_member x a.s1) (is_member x a.s2 || (is_member x a.s1r || is_member x a.s2r)) four in
@@ -220,10 +220,10 @@ module _ (frame : Frame) (shape : Shape) (a : Arrangement) (within : frame.mdps 
 
 -- ---- two at once
 
-joined_at : (one other : Side) (p q : Side) (t : Bool) → p ≡ one → q ≡ other → is_joined one other ≡ true → t ≡ true → (is_joined p q && t) ≡ true
+joined_at : (one other : Standing) (p q : Standing) (t : Bool) → p ≡ one → q ≡ other → is_joined one other ≡ true → t ≡ true → (is_joined p q && t) ≡ true
 joined_at one other p q t e e' join m = ap (λ s. is_joined s q && t) e ∙ ap (λ s. is_joined one s && t) e' ∙ ap (λ b. b && t) join ∙ m
 
-all_joined : (S : ℕ → Side) (meets : ℕ → ℕ → Bool) (one other : Side) → is_joined one other ≡ true → (xs ys : List ℕ)
+all_joined : (S : ℕ → Standing) (meets : ℕ → ℕ → Bool) (one other : Standing) → is_joined one other ≡ true → (xs ys : List ℕ)
     → AllByRecursion (λ x. S x ≡ one) xs → AllByRecursion (λ y. S y ≡ other) ys → all_meet meets xs ys ≡ true
     → AllByRecursion (λ (pair : ℕ × ℕ). (is_joined (S pair.0) (S pair.1) && meets pair.0 pair.1) ≡ true) (zip xs ys)
 all_joined S meets one other join [] ys first second meet = tt
@@ -251,15 +251,15 @@ is_matching_in facts reached scale lower shape a of' fits m b begins scope cover
     let plain = candidate_is_matching facts reached scale lower shape a of' fits m in
     let legal = legal_of facts reached shape a m in
     let has = has_lists scope.filling scope b.filling b.lists a covers begins in
-    let side : ℕ → Side = side_by reached.mdps scope.filling scope.s1 scope.s1r in
+    let side : ℕ → Standing = side_by reached.mdps scope.filling scope.s1 scope.s1r in
     let Joined : ℕ × ℕ → Type 0 = λ pair. (is_joined (side pair.0) (side pair.1) && numbers_meet facts reached pair.0 pair.1) ≡ true in
     record {
       whole = plain.whole;
       may_meet = each Joined (number_pairs a) (all_join Joined (zip a.s1 a.s2) (zip a.s1r a.s2r)
-          (all_joined side (numbers_meet facts reached) (first_side scope.filling) (second_side scope.filling) (pairs_join scope.filling) a.s1 a.s2
+          (all_joined side (numbers_meet facts reached) (first_standing scope.filling) (second_standing scope.filling) (pairs_join scope.filling) a.s1 a.s2
           (firsts frame shape a of'.sound.within legal.arranged scope.filling scope.s1 scope.s1r has)
           (seconds frame shape a of'.sound.within legal.arranged scope.filling scope.s1 scope.s1r has) legal.moved_down)
-          (all_joined side (numbers_meet facts reached) (first_resident_side scope.filling) (second_side scope.filling) (residents_join scope.filling) a.s1r a.s2r
+          (all_joined side (numbers_meet facts reached) (first_resident_standing scope.filling) (second_standing scope.filling) (residents_join scope.filling) a.s1r a.s2r
           (first_residents frame shape a of'.sound.within legal.arranged scope.filling scope.s1 scope.s1r has)
           (other_residents frame shape a of'.sound.within legal.arranged scope.filling scope.s1 scope.s1r has) legal.residents));
       may_be_left = each (λ v. (may_stay (side v) && costs.may_be_left v) ≡ true) (down frame a)

@@ -8,9 +8,9 @@ use Rattle.dutch_order.specs.Choices.{numbers_from}
 use Rattle.dutch_player.specs.Meetings.{may_meet}
 use Rattle.dutch_weights.specs.declared.scoped.Reach.{Reach}
 use Rattle.dutch_weights.specs.declared.scoped.Reach.TheVariants.{Bracket, Lower, Next}
-use Rattle.dutch_bracket.specs.declared.scope.Side.{Side}
+use Rattle.dutch_bracket.specs.declared.scope.Standing.{Standing}
 use Rattle.dutch_weights.specs.Orders.{Order, with_lesser}
-use Rattle.dutch_bracket.specs.Scopes.{Scope, is_joined, may_stay, side_of}
+use Rattle.dutch_bracket.specs.Scopes.{Scope, is_joined, may_stay, standing_of}
 use Rattle.dutch_bracket.specs.Seated.{seat_of}
 use Rattle.dutch_bracket.specs.Seats.{seats_meet, seats_may_be_left}
 use Rattle.dutch_bracket.specs.NextMatchings.{count_below, seat_below}
@@ -25,8 +25,8 @@ pub record Scoped : Type 0 where
   pub order : Order
 
 -- where a number of the bracket stands
-abbrev pub side_in : Scoped → ℕ → Side
-side_in s = side_of s.weighing.reached.mdps s.scope
+abbrev pub side_in : Scoped → ℕ → Standing
+side_in s = standing_of s.weighing.reached.mdps s.scope
 
 -- what a pair costs that weighs so much: of two residents also the lesser of what both add
 abbrev pub with_order : ℕ → Order → ℕ → ℕ → ℕ → ℕ
@@ -150,8 +150,8 @@ MeasuresNext Lower scale = Unit {0}
 MeasuresNext Next scale = is_some scale.next ≡ true
 
 -- a table tells where each of the first numbers stands
-abbrev pub TellsSides : ℕ → Scope → List Side → Type 0
-TellsSides mdps scope sides = (a : ℕ) (d : Side) → 0 < a → a ≤ length sides → slice_index_or sides (a - 1) d ≡ side_of mdps scope a
+abbrev pub TellsSides : ℕ → Scope → List Standing → Type 0
+TellsSides mdps scope sides = (a : ℕ) (d : Standing) → 0 < a → a ≤ length sides → slice_index_or sides (a - 1) d ≡ standing_of mdps scope a
 
 -- ---- floors of the matchings
 

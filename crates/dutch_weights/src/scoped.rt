@@ -24,7 +24,7 @@ use crate::weighing::Weighing;
 use arrayvec::ArrayVec;
 use dual::{Floor, Pool, Rule, Table};
 use dutch_bracket::context::Context;
-use dutch_bracket::scope::{Scope, Side};
+use dutch_bracket::scope::{Scope, Standing};
 use dutch_bracket::seats::{BySeat, seats};
 use dutch_order::{LIMIT, Numbers, numbered_from};
 use std::alloc::AllocError;
@@ -65,7 +65,7 @@ pub(crate) struct Scoped<'a, 'b> {
     // what is added to pairs of residents
     order: &'b Order,
     // where each number of the bracket stands
-    sides: ArrayVec<Side, LIMIT>,
+    sides: ArrayVec<Standing, LIMIT>,
 }
 
 impl<'a, 'b> Model for Scoped<'a, 'b> {
@@ -85,13 +85,13 @@ impl<'a, 'b> Model for Scoped<'a, 'b> {
 }
 
 /// Where each number of a bracket stands in the arrangements of a scope.
-fn sides(context: &Context<'_>, scope: &Scope) -> ArrayVec<Side, LIMIT>
+fn sides(context: &Context<'_>, scope: &Scope) -> ArrayVec<Standing, LIMIT>
     ensures { TellsSides context.now.reached.mdps scope.now result.items }
 {
     let mdps = context.reached().mdps();
     let mut sides = ArrayVec::new();
     for place in 0..context.len() {
-        sides.push(scope.side(mdps, place as u16 + 1));
+        sides.push(scope.standing(mdps, place as u16 + 1));
     }
     sides
 }
@@ -191,7 +191,7 @@ impl<'a, 'b> Scoped<'a, 'b> {
     }
 
     /// Where a number of the bracket stands.
-    fn side(&self, number: u16) -> Side
+    fn standing(&self, number: u16) -> Standing
         ensures { result ≡ side_in self.now number }
     {
         let place = usize::from(number);
@@ -199,7 +199,7 @@ impl<'a, 'b> Scoped<'a, 'b> {
             self.sides[place - 1]
         } else {
             let mdps = self.weighing.context().reached().mdps();
-            self.scope.side(mdps, number)
+            self.scope.standing(mdps, number)
         }
     }
 
@@ -229,14 +229,14 @@ impl<'a, 'b> Scoped<'a, 'b> {
         ensures first { result ≡ true → IsNumber self.now.weighing.reached a }
         ensures second { result ≡ true → IsNumber self.now.weighing.reached b }
     {
-        self.side(a).is_joined(self.side(b)) && self.weighing.may_meet(a, b)
+        self.standing(a).is_joined(self.standing(b)) && self.weighing.may_meet(a, b)
     }
 
     /// Whether a number is a lower player's, or may be in no pair of the bracket.
     fn goes_down(&self, number: u16) -> bool
         ensures { result ≡ goes_down self.now number }
     {
-        !self.is_inside(number) || self.side(number).may_stay()
+        !self.is_inside(number) || self.standing(number).may_stay()
     }
 
     /// Whether two are both of those who may go down.
@@ -402,7 +402,7 @@ impl Rule for Scoped<'_, '_> {
 
     fn may_be_left(&self, a: u16) -> bool {
         match self.reach {
-            Reach::Bracket => self.side(a).may_stay() && self.weighing.may_be_left(a),
+            Reach::Bracket => self.standing(a).may_stay() && self.weighing.may_be_left(a),
             Reach::Lower => self.may_have_bye(a),
             Reach::Next => self.goes_down(a),
         }

@@ -10,7 +10,7 @@ use Rattle.dutch_pair.specs.Instead.{IsInstead}
 use Rattle.dutch_pair.specs.declared.instead.Instead.{Instead}
 use Rattle.dutch_pair.specs.declared.stage.Stage.{Stage}
 use Rattle.dutch_choice.specs.declared.wish.Wish.{Wish}
-use Rattle.dutch_choice.specs.declared.wish.Wish.TheVariants.{Pair, Over}
+use Rattle.dutch_choice.specs.declared.wish.Wish.TheVariants.{Pair, LeftOver}
 use Rattle.trf16.specs.Sheet.{Sheet}
 use Rattle.explained.specs.InsteadTexts.{instead_text, search_answer}
 use Rattle.round_lines.specs.Obstacles.{against_bye, against_meeting, obstacle_text}
@@ -53,10 +53,10 @@ number_in stage seat = number_among stage.reached.seats seat
 -- what is wished in a bracket behind which one of the two does not stand: that they meet, where it is the last bracket of both; else that the
 -- one who was paired in it is left over
 abbrev pub wish_in : List Stage → Stage → ℕ → Rival → Wish
-wish_in behind stage player Bye = Over (number_in stage player)
+wish_in behind stage player Bye = LeftOver (number_in stage player)
 wish_in behind stage player (Seat other) =
-    if stands_in_one behind other then Over (number_in stage player)
-    else (if stands_in_one behind player then Over (number_in stage other) else Pair (number_in stage player) (number_in stage other))
+    if stands_in_one behind other then LeftOver (number_in stage player)
+    else (if stands_in_one behind player then LeftOver (number_in stage other) else Pair (number_in stage player) (number_in stage other))
 
 -- the first bracket behind which one of the two does not stand, and what is wished in it
 abbrev pub decided_in : List Stage → ℕ → Rival → Option (Stage × Wish)

@@ -11,7 +11,7 @@ ghost use Rattle.replies.specs.Replies.{answer_of};
 
 use crate::barrier_lines::no_pairing_because;
 use crate::bracket_lines::{put_stages, round_line};
-use crate::instead::{Asked, Paired, instead};
+use crate::instead::{Question, Paired, instead};
 use dutch_pair::{AllStages, PairFault, stages};
 use dutch_player::{Field, FieldFault};
 use replies::refusal::{cannot_be_asked, cannot_be_paired, refused, undecided};
@@ -111,7 +111,7 @@ fn tell_paired(
     put_about(&mut text, round, question.player)?;
     match question.instead {
         Some(number) => {
-            let asked = Asked {
+            let asked = Question {
                 player: question.player,
                 number,
                 steps: options.steps,
@@ -127,7 +127,7 @@ fn with_instead(
     alloc: Global,
     text: String,
     round: &Paired<'_>,
-    asked: Asked,
+    asked: Question,
 ) -> Result<Reply, AllocError>
     requires front { string_bytes text ≡ front_text round.now asked.player }
     requires stages { AllByRecursion (IsStage round.now.facts) round.now.stages }

@@ -52,7 +52,7 @@ impl<'a> Model for Paired<'a> {
 /// What is asked: by whom and for whom, by their start ranks, for the bye by 0; and in how many steps a candidate may
 /// be searched for.
 #[derive(Clone, Copy)]
-pub struct Asked {
+pub struct Question {
     pub player: u16,
     pub number: u16,
     pub steps: u64,
@@ -65,7 +65,7 @@ pub struct Asked {
 ///
 /// # Errors
 /// Memory was refused.
-pub fn instead(alloc: Global, round: &Paired<'_>, asked: Asked) -> Result<Reply, AllocError>
+pub fn instead(alloc: Global, round: &Paired<'_>, asked: Question) -> Result<Reply, AllocError>
     requires { AllByRecursion (IsStage round.now.facts) round.now.stages }
     ensures { IfOk result (λ reply. AnswersInstead round.now asked.player asked.number asked.steps (answer_of reply)) }
 {
@@ -189,13 +189,13 @@ fn wish_in(field: &Field, behind: &[Stage], stage: &Stage, meeting: Meeting) -> 
 {
     let player = meeting.player;
     let Rival::Seat(other) = meeting.rival else {
-        return Wish::Over(number_in(field, stage, player));
+        return Wish::LeftOver(number_in(field, stage, player));
     };
     if stands_in_one(behind, other) {
-        return Wish::Over(number_in(field, stage, player));
+        return Wish::LeftOver(number_in(field, stage, player));
     }
     if stands_in_one(behind, player) {
-        return Wish::Over(number_in(field, stage, other));
+        return Wish::LeftOver(number_in(field, stage, other));
     }
     Wish::Pair(
         number_in(field, stage, player),
@@ -225,7 +225,7 @@ fn by_wish(
     alloc: Global,
     field: &Field,
     decided: (&Stage, Wish),
-    asked: Asked,
+    asked: Question,
 ) -> Result<Reply, AllocError>
     requires { IsStage field.now decided.0.now }
     ensures { IfOk result (λ reply. AnswersWish field.now asked.steps asked.number decided.entry.0.now decided.entry.1
@@ -243,7 +243,7 @@ fn by_search(
     alloc: Global,
     field: &Field,
     decided: (&Stage, Wish),
-    asked: Asked,
+    asked: Question,
 ) -> Result<Reply, AllocError>
     requires { IsStage field.now decided.0.now }
     ensures { IfOk result (λ reply. IsSearched field.now asked.steps asked.number decided.entry.0.now decided.entry.1

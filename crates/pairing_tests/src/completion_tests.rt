@@ -4,7 +4,7 @@ use dutch_order::{Budget, Rule};
 use dutch_pair::seats::seats;
 use dutch_pair::{Answer, BracketAt, BracketKind, Outcome, bracket_at, completes, pair_round};
 use dutch_player::Field;
-use sample_reports::{Line, field_of};
+use sample_reports::{PlayerLine, field_of};
 use std::alloc::Global;
 use std::test::Fail;
 use trf16::Colour;
@@ -64,7 +64,7 @@ fn a_limit_one_too_low(rt: HostRuntime) {
 }
 
 // Two who have met, and two whose game was a forfeit: by rank 3, 1, 2, 4.
-const FOUR: [Line<'static>; 4] = [
+const FOUR: [PlayerLine<'static>; 4] = [
     ("001    1", "   2 w ="),
     ("001    2", "   1 b ="),
     ("001    3", "   4 w +"),
@@ -105,7 +105,7 @@ fn seats_for_the_bye(rt: HostRuntime) -> Result<(), Fail> {
 }
 
 // Two with a full-point bye above two who have met: the first bracket cannot keep its pair.
-const PAIR_GIVEN_UP: [Line<'static>; 4] = [
+const PAIR_GIVEN_UP: [PlayerLine<'static>; 4] = [
     ("001    1", "0000 - F"),
     ("001    2", "0000 - F"),
     ("001    3", "   4 w ="),
@@ -156,7 +156,7 @@ fn brackets_of_a_pair_given_up(rt: HostRuntime) -> Result<(), Fail> {
 }
 
 // Four who have all met.
-const ALL_HAVE_MET: [Line<'static>; 4] = [
+const ALL_HAVE_MET: [PlayerLine<'static>; 4] = [
     ("001    1", "   3 w =     2 b =     4 w ="),
     ("001    2", "   4 b =     1 w =     3 w ="),
     ("001    3", "   1 b =     4 w =     2 b ="),
@@ -164,7 +164,7 @@ const ALL_HAVE_MET: [Line<'static>; 4] = [
 ];
 
 // Two who have won twice, two who have one win, and two who have lost twice.
-const SIX: [Line<'static>; 6] = [
+const SIX: [PlayerLine<'static>; 6] = [
     ("001    1", "   3 w 1     5 w 1"),
     ("001    2", "   4 w 1     6 w 1"),
     ("001    3", "   1 b 0     4 w ="),
@@ -174,7 +174,7 @@ const SIX: [Line<'static>; 6] = [
 ];
 
 // Five who come anew.
-const NEWCOMERS: [Line<'static>; 5] = [
+const NEWCOMERS: [PlayerLine<'static>; 5] = [
     ("001    1", ""),
     ("001    2", ""),
     ("001    3", ""),
@@ -183,7 +183,7 @@ const NEWCOMERS: [Line<'static>; 5] = [
 ];
 
 // One has won, and moves down.
-const ONE_HAS_WON: [Line<'static>; 4] = [
+const ONE_HAS_WON: [PlayerLine<'static>; 4] = [
     ("001    1", "   3 w 1"),
     ("001    2", "   4 b ="),
     ("001    3", "   1 b 0"),
@@ -191,7 +191,7 @@ const ONE_HAS_WON: [Line<'static>; 4] = [
 ];
 
 // Two who have met, and two who had half a point.
-const TWO_HALF_BYES: [Line<'static>; 4] = [
+const TWO_HALF_BYES: [PlayerLine<'static>; 4] = [
     ("001    1", "   3 w ="),
     ("001    2", "0000 - H"),
     ("001    3", "   1 b ="),
@@ -199,7 +199,7 @@ const TWO_HALF_BYES: [Line<'static>; 4] = [
 ];
 
 // Three of six are absent, and one of the others has won by forfeit.
-const THREE_ARE_ABSENT: [Line<'static>; 7] = [
+const THREE_ARE_ABSENT: [PlayerLine<'static>; 7] = [
     ("XXZ 4 5 6", ""),
     ("001    1", "   5 w 1"),
     ("001    2", "   6 b 1"),

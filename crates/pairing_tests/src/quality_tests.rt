@@ -13,13 +13,13 @@ use dutch_pair::{
     BracketAt, Choice, Item, Quality, Reached, bracket_at, choose, lower_of, split_first_group,
 };
 use dutch_player::Field;
-use sample_reports::{Line, field_of};
+use sample_reports::{PlayerLine, field_of};
 use std::alloc::Global;
 use std::test::Fail;
 use trf16::Colour;
 
 // The first won against the third, and the others drew: the first moves down to the second and the fourth.
-const ONE_MOVES_DOWN: [Line<'static>; 4] = [
+const ONE_MOVES_DOWN: [PlayerLine<'static>; 4] = [
     ("001    1", "   3 w 1"),
     ("001    2", "   4 b ="),
     ("001    3", "   1 b 0"),

@@ -5,13 +5,13 @@ ghost use Rattle.dutch_bracket.specs.Reached.{IsOf};
 use dutch_order::{Budget, Numbers};
 use dutch_pair::{BracketAt, BracketKind, Look, LookAhead, Reached, are_left, bracket_at, is_next};
 use dutch_player::Field;
-use sample_reports::{Line, field_of};
+use sample_reports::{PlayerLine, field_of};
 use std::alloc::Global;
 use std::test::Fail;
 use trf16::Colour;
 
 // Eight with a full-point bye, by rank, above four who drew.
-const TWELVE: [Line<'static>; 12] = [
+const TWELVE: [PlayerLine<'static>; 12] = [
     ("001    1", "0000 - F"),
     ("001    2", "0000 - F"),
     ("001    3", "0000 - F"),

@@ -4,12 +4,12 @@ use Rattle.std.specs.List.{flat_map}
 use Rattle.std.specs.Option.{option_map_or}
 use Rattle.trf16.specs.Lines.{columns}
 use Rattle.trf16.specs.Written.{blanks, left_in}
-use Rattle.replies.specs.declared.table.Side.{Side}
-use Rattle.replies.specs.declared.table.Side.TheVariants.{Left, Right}
+use Rattle.replies.specs.declared.table.Alignment.{Alignment}
+use Rattle.replies.specs.declared.table.Alignment.TheVariants.{Left, Right}
 
 -- a label: a text, and the side of its column at which it stands
 pub record LabelFacts : Type 0 where
-  pub side : Side
+  pub side : Alignment
   pub text : List ℕ
 
 -- a text at the left, or at the right, of its column
@@ -38,7 +38,7 @@ widths utf8 zero lines = []
 widths utf8 (suc count) lines = widths utf8 count lines ++ widest utf8 count lines ∷ []
 
 -- a label with blanks up to a width
-abbrev pub padded_by : Bool → ℕ → Side → List ℕ → List ℕ
+abbrev pub padded_by : Bool → ℕ → Alignment → List ℕ → List ℕ
 padded_by utf8 wide Left text = left_in utf8 wide text
 padded_by utf8 wide Right text = blanks (wide - width utf8 text) ++ text
 

@@ -12,7 +12,7 @@ use trf16::column_count;
 
 /// The side of its column at which a label stands.
 #[derive(Debug, Clone, Copy, PartialEq, Eq)]
-pub enum Side {
+pub enum Alignment {
     Left,
     Right,
 }
@@ -20,7 +20,7 @@ pub enum Side {
 // A text that stands at a side of its column.
 #[derive(Debug, Drop)]
 pub struct Label {
-    side: Side,
+    side: Alignment,
     text: Vec<u8>,
 }
 
@@ -46,11 +46,11 @@ impl Label {
     {
         let missing = wide.saturating_sub(self.width(utf8));
         match self.side {
-            Side::Left => {
+            Alignment::Left => {
                 text.extend_from_slice(self.text.as_slice())?;
                 put_blanks(text, missing)
             }
-            Side::Right => {
+            Alignment::Right => {
                 put_blanks(text, missing)?;
                 text.extend_from_slice(self.text.as_slice())
             }
@@ -60,11 +60,11 @@ impl Label {
 
 /// A line of a table: its labels from the first column on.
 #[derive(Debug, Drop)]
-pub struct Line {
+pub struct TableLine {
     labels: Vec<Label>,
 }
 
-impl Model for Line {
+impl Model for TableLine {
     ghost use Rattle.std.specs.Prelude.{List};
     ghost use Rattle.replies.specs.Tables.{LabelFacts};
 
@@ -73,12 +73,12 @@ impl Model for Line {
     ghost view = { λ l. l.labels.items };
 }
 
-impl Line {
+impl TableLine {
     /// A line without labels.
-    pub fn new(alloc: Global) -> Line
+    pub fn new(alloc: Global) -> TableLine
         ensures { result ≡ [] }
     {
-        Line {
+        TableLine {
             labels: Vec::new(alloc),
         }
     }
@@ -93,7 +93,7 @@ impl Line {
         ensures { OnOk result (self.new ≡ self.old ++ right (string_bytes text) ∷ []) }
     {
         self.labels.push(Label {
-            side: Side::Right,
+            side: Alignment::Right,
             text: text.into_bytes(),
         })?;
         Ok(())
@@ -106,7 +106,7 @@ impl Line {
     {
         let text = shown(self.allocator(), name)?;
         self.labels.push(Label {
-            side: Side::Left,
+            side: Alignment::Left,
             text,
         })?;
         Ok(())
@@ -143,7 +143,7 @@ fn put_blanks(text: &mut Vec<u8>, count: usize) -> Result<(), AllocError>
 }
 
 // How wide a column is.
-fn widest(lines: &[Line], utf8: bool, column: usize) -> usize
+fn widest(lines: &[TableLine], utf8: bool, column: usize) -> usize
     ensures { result ≡ widest utf8 column lines.now }
 {
     let mut most = 0usize;
@@ -154,7 +154,7 @@ fn widest(lines: &[Line], utf8: bool, column: usize) -> usize
 }
 
 // How wide the first columns are, so many of them.
-fn widths(alloc: Global, lines: &[Line], utf8: bool, count: usize) -> Result<Vec<usize>, AllocError>
+fn widths(alloc: Global, lines: &[TableLine], utf8: bool, count: usize) -> Result<Vec<usize>, AllocError>
     ensures { IfOk result (λ all. all.items ≡ widths utf8 count lines.now) }
 {
     let mut all = Vec::new(alloc);
@@ -180,7 +180,7 @@ fn put_gap(text: &mut Vec<u8>, behind: &[Label]) -> Result<(), AllocError>
 }
 
 // Puts a line, each of its labels as wide as its column.
-fn put_line(text: &mut Vec<u8>, utf8: bool, widths: &[usize], line: &Line) -> Result<(), AllocError>
+fn put_line(text: &mut Vec<u8>, utf8: bool, widths: &[usize], line: &TableLine) -> Result<(), AllocError>
     ensures { OnOk result (text.new.items ≡ text.old.items ++ labels_text utf8 widths.now 0 line.now) }
 {
     let labels = line.labels.as_slice();
@@ -192,7 +192,7 @@ fn put_line(text: &mut Vec<u8>, utf8: bool, widths: &[usize], line: &Line) -> Re
 }
 
 /// The text of a table of `count` columns, whose columns are characters where `utf8` says so, else bytes.
-pub fn table(alloc: Global, lines: &[Line], utf8: bool, count: usize) -> Result<Vec<u8>, AllocError>
+pub fn table(alloc: Global, lines: &[TableLine], utf8: bool, count: usize) -> Result<Vec<u8>, AllocError>
     ensures { IfOk result (λ text. text.items ≡ table_text utf8 count lines.now) }
 {
     let widths = widths(alloc, lines, utf8, count)?;

@@ -8,7 +8,7 @@ ghost use Rattle.replies.specs.WallTexts.{values_labels};
 
 use crate::points::{HalfPoints, KeyValue};
 use crate::reply::{Reply, Status};
-use crate::table::{Line, table};
+use crate::table::{TableLine, table};
 use std::alloc::{AllocError, Global};
 use tiebreak::{Key, Row};
 use trf16::Report;
@@ -39,7 +39,7 @@ pub fn standings(
 {
     let mut lines = Vec::new(alloc);
     for (i, row) in rows.iter().enumerate() {
-        let mut line = Line::new(alloc);
+        let mut line = TableLine::new(alloc);
         line.push_text((i + 1).to_string(alloc)?)?;
         push_row(&mut line, report, keys, row)?;
         lines.push(line)?;
@@ -55,11 +55,11 @@ fn board_line(
     report: &Report<'_>,
     number: usize,
     board: Board,
-) -> Result<Line, AllocError>
+) -> Result<TableLine, AllocError>
     ensures { IfOk result (λ line. line ≡ board_labels report.now number board) }
 {
     let (white, black) = board;
-    let mut line = Line::new(alloc);
+    let mut line = TableLine::new(alloc);
     line.push_text(number.to_string(alloc)?)?;
     push_paired(&mut line, report, white)?;
     push_opponent(&mut line, report, black)?;
@@ -67,7 +67,7 @@ fn board_line(
 }
 
 // Puts who meets white: black, or if black is 0, that white has the bye.
-fn push_opponent(line: &mut Line, report: &Report<'_>, black: u16) -> Result<(), AllocError>
+fn push_opponent(line: &mut TableLine, report: &Report<'_>, black: u16) -> Result<(), AllocError>
     ensures { OnOk result (line.new ≡ line.old ++ opponent_labels report.now black) }
 {
     if black == 0 {
@@ -77,7 +77,7 @@ fn push_opponent(line: &mut Line, report: &Report<'_>, black: u16) -> Result<(),
 }
 
 // Puts a player of the next round, with the score so far.
-fn push_paired(line: &mut Line, report: &Report<'_>, start: u16) -> Result<(), AllocError>
+fn push_paired(line: &mut TableLine, report: &Report<'_>, start: u16) -> Result<(), AllocError>
     ensures { OnOk result (line.new ≡ line.old ++ paired_labels report.now start) }
 {
     let score = report.points(start, report.rounds_played());
@@ -87,7 +87,7 @@ fn push_paired(line: &mut Line, report: &Report<'_>, start: u16) -> Result<(), A
 // Puts a player: start rank, name and score.
 #[tactic(auto, unfolding(crate::specs::WallTexts::player_labels))]
 fn push_player(
-    line: &mut Line,
+    line: &mut TableLine,
     report: &Report<'_>,
     start: u16,
     score: u16,
@@ -102,7 +102,7 @@ fn push_player(
 
 // Puts a player of the standings, and the values of the keys.
 #[tactic(auto, unfolding(crate::specs::WallTexts::row_labels))]
-fn push_row(line: &mut Line, report: &Report<'_>, keys: &[Key], row: &Row) -> Result<(), AllocError>
+fn push_row(line: &mut TableLine, report: &Report<'_>, keys: &[Key], row: &Row) -> Result<(), AllocError>
     ensures { OnOk result (line.new ≡ line.old ++ row_labels report.now keys.now row.now) }
 {
     push_player(line, report, row.start(), row.score())?;
@@ -111,7 +111,7 @@ fn push_row(line: &mut Line, report: &Report<'_>, keys: &[Key], row: &Row) -> Re
 
 // Puts the values of some keys, in their order.
 #[tactic(auto, using(crate::proofs::TableLemmas::labels_end))]
-fn push_values(line: &mut Line, keys: &[Key], values: &[Option<u32>]) -> Result<(), AllocError>
+fn push_values(line: &mut TableLine, keys: &[Key], values: &[Option<u32>]) -> Result<(), AllocError>
     ensures { OnOk result (line.new ≡ line.old ++ values_labels keys.now values.now) }
 {
     for (i, key) in keys.iter().enumerate() {

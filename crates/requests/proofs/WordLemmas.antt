@@ -15,8 +15,8 @@ use Rattle.requests.specs.CommandLine.{bracket_rule, by_rule, bye_rule, count_ru
 use Rattle.requests.specs.Words.{ComesTo, FitsKind, arbiter_app, asked_by, check_app, format_app, is_mistake, is_shown, settled, task_by, versioned, with_command, with_engine, with_pairing}
 use Rattle.requests.specs.declared.options.WordFault.{WordFault}
 use Rattle.requests.specs.declared.words.Task.{Task}
-use Rattle.requests.specs.declared.words.Asked.{Asked}
-use Rattle.requests.specs.declared.words.Asked.TheVariants.{Command, Help, Mistake, Refused}
+use Rattle.requests.specs.declared.words.Meaning.{Meaning}
+use Rattle.requests.specs.declared.words.Meaning.TheVariants.{Command, Help, Mistake, Refused}
 
 -- what a proof unfolds to see the options of a command
 unfoldable pub options_on_literals : ⊤
@@ -51,7 +51,7 @@ among_passes p k (x ∷ xs) (inl same) e = ap (λ y. p y || list_any p xs) (sym 
 among_passes p k (x ∷ xs) (inr later) e = or_right (p x) (list_any p xs) (among_passes p k xs later e)
 
 -- what an error of a parse comes to is what the words come to
-pub told_of_words : (words : List Text) (error : Error) (asked : Asked) → HasKind (fault_of arbiter_app words) error → FitsKind (kind_of error) asked → ComesTo words asked
+pub told_of_words : (words : List Text) (error : Error) (asked : Meaning) → HasKind (fault_of arbiter_app words) error → FitsKind (kind_of error) asked → ComesTo words asked
 told_of_words words error (Command task) h told = absurd told
 told_of_words words error (Refused fault) h told = absurd told
 told_of_words words error (Help text) (inl memory) told = let bad : false ≡ true = sym (ap is_shown memory) ∙ told in cc

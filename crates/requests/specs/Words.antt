@@ -12,8 +12,8 @@ use Rattle.requests.specs.declared.words.Request.{Request}
 use Rattle.requests.specs.declared.words.Request.TheVariants.{Check, Format, Pair, Candidates, Explain, Standings}
 use Rattle.requests.specs.CommandLine.{bye_rule, candidates_app, explain_app, notes_rule, pair_app, points_rule, standings_app, with_option}
 use Rattle.requests.specs.Options.{◌>>=◌, bye_in, candidates_options, check_options, explain_options, format_options, pair_options, standings_options}
-use Rattle.requests.specs.declared.words.Asked.{Asked}
-use Rattle.requests.specs.declared.words.Asked.TheVariants.{Command, Help, Mistake, Refused}
+use Rattle.requests.specs.declared.words.Meaning.{Meaning}
+use Rattle.requests.specs.declared.words.Meaning.TheVariants.{Command, Help, Mistake, Refused}
 use Rattle.requests.specs.declared.options.WordFault.{WordFault}
 
 -- `check`
@@ -101,7 +101,7 @@ abbrev pub task_by : Option (Text × List Row) → Option (Result Task WordFault
 task_by = option_and_then (λ command. task_of command.0 command.1)
 
 -- what a task comes to, or what is wrong with its options
-abbrev pub asked_by : Result Task WordFault → Asked
+abbrev pub asked_by : Result Task WordFault → Meaning
 asked_by (Ok task) = Command task
 asked_by (Err fault) = Refused fault
 
@@ -142,14 +142,14 @@ abbrev pub IsMistaken : List Text → Type 0
 IsMistaken words = list_any is_mistake (fault_of arbiter_app words) ≡ true
 
 -- what the words come to; the texts of help and mistakes are clap's
-abbrev pub ComesTo : List Text → Asked → Type 0
+abbrev pub ComesTo : List Text → Meaning → Type 0
 ComesTo words (Command task) = AsksFor words task
 ComesTo words (Help text) = AsksForHelp words
 ComesTo words (Mistake text) = IsMistaken words
 ComesTo words (Refused fault) = AsksWrongly words fault
 
 -- the same of one error of clap's
-abbrev pub FitsKind : ErrorKind → Asked → Type 0
+abbrev pub FitsKind : ErrorKind → Meaning → Type 0
 FitsKind kind (Command task) = ⊥
 FitsKind kind (Help text) = is_shown kind ≡ true
 FitsKind kind (Mistake text) = is_mistake kind ≡ true

@@ -20,4 +20,4 @@ pub use options::{
     CandidatesOptions, CheckOptions, ExplainOptions, FormatOptions, GivenCursor, PairOptions,
     Question, Shown, StandingsOptions, WordFault,
 };
-pub use words::{Asked, Request, Task, meant, read_words};
+pub use words::{Meaning, Request, Task, meant, read_words};

@@ -53,7 +53,7 @@ pub struct Task<'a> {
 
 /// What the words of a command line come to.
 #[derive(Debug, Drop)]
-pub enum Asked<'a> {
+pub enum Meaning<'a> {
     /// They ask for a command.
     Command(Task<'a>),
     /// They ask for help or the version, which is this text.
@@ -91,7 +91,7 @@ fn with_help<'a>(alloc: Global, words: &'a [&'a str]) -> Result<Vec<&'a str>, Al
 }
 
 /// Reads the words after the program's name.
-pub fn read_words<'a>(alloc: Global, words: &'a [&'a str]) -> Result<Asked<'a>, AllocError>
+pub fn read_words<'a>(alloc: Global, words: &'a [&'a str]) -> Result<Meaning<'a>, AllocError>
     ensures { IfOk result (ComesTo (map (λ word. word.now) words.now)) }
 {
     match arbiter_command(alloc)?.try_get_matches_from(words) {
@@ -192,25 +192,25 @@ impl CursorSyntax for Cursor {
 }
 
 // What a task comes to, or what is wrong with its options.
-fn asked_by<'a>(task: Result<Task<'a>, WordFault>) -> Asked<'a>
+fn asked_by<'a>(task: Result<Task<'a>, WordFault>) -> Meaning<'a>
     ensures { result ≡ asked_by task.entry }
 {
     match task {
-        Ok(task) => Asked::Command(task),
-        Err(fault) => Asked::Refused(fault),
+        Ok(task) => Meaning::Command(task),
+        Err(fault) => Meaning::Refused(fault),
     }
 }
 
 // What an error of clap's comes to.
-fn told<'a>(alloc: Global, error: &Error) -> Result<Asked<'a>, AllocError>
+fn told<'a>(alloc: Global, error: &Error) -> Result<Meaning<'a>, AllocError>
     ensures { IfOk result (FitsKind (kind_of error.now)) }
 {
     match error.kind() {
         ErrorKind::OutOfMemory => Err(AllocError),
         ErrorKind::DisplayHelp | ErrorKind::DisplayVersion => {
-            Ok(Asked::Help(error.to_string(alloc)?))
+            Ok(Meaning::Help(error.to_string(alloc)?))
         }
-        _ => Ok(Asked::Mistake(error.to_string(alloc)?)),
+        _ => Ok(Meaning::Mistake(error.to_string(alloc)?)),
     }
 }
 

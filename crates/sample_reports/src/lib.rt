@@ -7,14 +7,14 @@ use std::test::Fail;
 use trf16::Colour;
 
 /// What stands in front of column 9 of a player's line, and what stands from column 92 on.
-pub type Line<'a> = (&'a str, &'a str);
+pub type PlayerLine<'a> = (&'a str, &'a str);
 
 // Columns 9 to 91 of a player's line, without a name and without points.
 const BLANK: &str =
     "                                                                                   ";
 
 /// The text of some lines.
-pub fn text_of(alloc: Global, lines: &[Line<'_>]) -> Result<String, AllocError> {
+pub fn text_of(alloc: Global, lines: &[PlayerLine<'_>]) -> Result<String, AllocError> {
     let mut text = String::new(alloc);
     for (front, cells) in lines {
         text.push_str(*front)?;
@@ -28,7 +28,7 @@ pub fn text_of(alloc: Global, lines: &[Line<'_>]) -> Result<String, AllocError> 
 /// The field of some lines, for a total of rounds and an initial colour that are asked for.
 pub fn field_of(
     alloc: Global,
-    lines: &[Line<'_>],
+    lines: &[PlayerLine<'_>],
     total: Option<u8>,
     initial: Option<Colour>,
 ) -> Result<Field, Fail> {

@@ -5,7 +5,7 @@
 use dutch_player::{
     ColourRule, Field, FieldFault, Float, Pref, Strength, colour_played, opponent_played,
 };
-use sample_reports::{Line, field_of, text_of};
+use sample_reports::{PlayerLine, field_of, text_of};
 use std::alloc::Global;
 use std::test::Fail;
 use trf16::{Cell, Colour, GameOutcome};
@@ -28,7 +28,7 @@ const MILD_WHITE: Option<Pref> = Some(Pref {
 // Why some lines are refused, for a total of rounds that is asked for.
 fn refusal_of(
     alloc: Global,
-    lines: &[Line<'_>],
+    lines: &[PlayerLine<'_>],
     total: Option<u8>,
 ) -> Result<Option<FieldFault>, Fail> {
     let text = text_of(alloc, lines)?;
@@ -109,7 +109,7 @@ fn topscorer(field: &Field, seat: u16) -> Option<bool> {
     }
 }
 
-const TWICE_MORE_WHITE: [Line<'static>; 7] = [
+const TWICE_MORE_WHITE: [PlayerLine<'static>; 7] = [
     (
         "001    1",
         "   2 w =     3 w =     4 w =     5 w =     6 b =     7 b =",
@@ -140,7 +140,7 @@ fn a_difference_of_two_is_absolute(rt: HostRuntime) -> Result<(), Fail> {
     Ok(())
 }
 
-const BLACK_TWICE: [Line<'static>; 5] = [
+const BLACK_TWICE: [PlayerLine<'static>; 5] = [
     ("001    1", "   2 w =     3 w =     4 b =     5 b ="),
     ("001    2", "   1 b ="),
     ("001    3", "             1 b ="),
@@ -157,7 +157,7 @@ fn two_games_with_one_colour_are_absolute(rt: HostRuntime) -> Result<(), Fail> {
     Ok(())
 }
 
-const FOUR_GAMES: [Line<'static>; 6] = [
+const FOUR_GAMES: [PlayerLine<'static>; 6] = [
     ("001    1", "   3 b =     4 w =     5 w =     6 b ="),
     ("001    2", "   4 w =     5 b =     6 w =     3 b ="),
     ("001    3", "   1 w =                         2 w ="),
@@ -176,7 +176,7 @@ fn the_last_games_that_differ_decide(rt: HostRuntime) -> Result<(), Fail> {
     Ok(())
 }
 
-const TOPSCORERS: [Line<'static>; 6] = [
+const TOPSCORERS: [PlayerLine<'static>; 6] = [
     ("001    1", "   3 w 1     5 w 1"),
     ("001    2", "   4 w 1     6 w 1"),
     ("001    3", "   1 b 0     4 w ="),
@@ -228,7 +228,7 @@ fn topscorers_do_not_meet_earlier(rt: HostRuntime) -> Result<(), Fail> {
     Ok(())
 }
 
-const A_FORFEIT: [Line<'static>; 8] = [
+const A_FORFEIT: [PlayerLine<'static>; 8] = [
     ("XXR 5", ""),
     ("XXZ 4 5 6", ""),
     ("001    1", "   5 w 1"),
@@ -270,7 +270,7 @@ fn a_forfeit_has_no_colour_and_no_opponent(rt: HostRuntime) -> Result<(), Fail> 
     Ok(())
 }
 
-const WITHOUT_GAMES: [Line<'static>; 6] = [
+const WITHOUT_GAMES: [PlayerLine<'static>; 6] = [
     ("XXR 5", ""),
     ("XXC black1", ""),
     ("001    1", ""),
@@ -294,7 +294,7 @@ fn without_games_the_initial_colour_is_the_reports(rt: HostRuntime) -> Result<()
     Ok(())
 }
 
-const WITHOUT_A_RESULT: [Line<'static>; 3] = [
+const WITHOUT_A_RESULT: [PlayerLine<'static>; 3] = [
     ("001    1", "   2 w"),
     ("001    2", "   1 b"),
     ("XXS x", ""),
@@ -311,9 +311,9 @@ fn a_game_without_a_result_is_told_first(rt: HostRuntime) -> Result<(), Fail> {
     Ok(())
 }
 
-const UNSUPPORTED: [Line<'static>; 3] = [("001    1", ""), ("001    2", ""), ("XXS x", "")];
+const UNSUPPORTED: [PlayerLine<'static>; 3] = [("001    1", ""), ("001    2", ""), ("XXS x", "")];
 
-const ONE_ROUND: [Line<'static>; 2] = [("001    1", "   2 w 1"), ("001    2", "   1 b 0")];
+const ONE_ROUND: [PlayerLine<'static>; 2] = [("001    1", "   2 w 1"), ("001    2", "   1 b 0")];
 
 #[test]
 fn other_refusals_come_in_their_order(rt: HostRuntime) -> Result<(), Fail> {

@@ -1,5 +1,5 @@
 // Standings of small tournaments, by hand.
-use sample_reports::{Line, text_of};
+use sample_reports::{PlayerLine, text_of};
 use std::alloc::Global;
 use std::test::Fail;
 use tiebreak::{Key, Standings, TieFault, table};
@@ -10,14 +10,14 @@ const KEYS: [Key; 3] = [Key::Direct, Key::Buchholz, Key::SonnebornBerger];
 type Wanted<'a> = (u16, u16, &'a [Option<u32>]);
 
 // The standings of some lines.
-fn table_of(alloc: Global, lines: &[Line<'_>], keys: &[Key]) -> Result<Standings, Fail> {
+fn table_of(alloc: Global, lines: &[PlayerLine<'_>], keys: &[Key]) -> Result<Standings, Fail> {
     let text = text_of(alloc, lines)?;
     let report = trf16::read(alloc, text.as_bytes())?;
     Ok(table(alloc, &report, keys)?)
 }
 
 // Why some lines have no standings.
-fn refusal_of(alloc: Global, lines: &[Line<'_>]) -> Result<Option<TieFault>, Fail> {
+fn refusal_of(alloc: Global, lines: &[PlayerLine<'_>]) -> Result<Option<TieFault>, Fail> {
     let text = text_of(alloc, lines)?;
     let report = trf16::read(alloc, text.as_bytes())?;
     Ok(table(alloc, &report, &KEYS).err())
@@ -31,7 +31,7 @@ fn has_rows(standings: &Standings, wanted: &[Wanted<'_>]) -> bool {
         })
 }
 
-const TWO_WHO_DREW: [Line<'static>; 4] = [
+const TWO_WHO_DREW: [PlayerLine<'static>; 4] = [
     ("001    1", "   3 w 1"),
     ("001    2", "   4 b ="),
     ("001    3", "   1 b 0"),
@@ -62,7 +62,7 @@ fn two_who_drew_are_told_apart_by_start_rank(rt: HostRuntime) -> Result<(), Fail
     Ok(())
 }
 
-const WITHOUT_A_GAME: [Line<'static>; 3] = [
+const WITHOUT_A_GAME: [PlayerLine<'static>; 3] = [
     ("001    1", "0000 - H     2 w +"),
     ("001    2", "   3 w 1     1 b -"),
     ("001    3", "   2 b 0  0000 - U"),
@@ -79,7 +79,7 @@ fn rounds_without_a_game_have_a_virtual_opponent(rt: HostRuntime) -> Result<(), 
     Ok(())
 }
 
-const BEHIND_THE_LAST: [Line<'static>; 3] = [
+const BEHIND_THE_LAST: [PlayerLine<'static>; 3] = [
     ("001    1", "   2 w 1  0000 - H"),
     ("001    2", "   1 b 0"),
     ("001    3", ""),
@@ -97,7 +97,7 @@ fn rounds_behind_the_last_that_was_paired_do_not_count(rt: HostRuntime) -> Resul
     Ok(())
 }
 
-const LEVEL: [Line<'static>; 3] = [
+const LEVEL: [PlayerLine<'static>; 3] = [
     ("001    1", "   2 w 0     3 b 1"),
     ("001    2", "   1 b 1  0000 - Z"),
     ("001    3", "0000 - Z     1 w 0"),
@@ -110,7 +110,7 @@ fn who_won_against_a_level_player_goes_first(rt: HostRuntime) -> Result<(), Fail
     Ok(())
 }
 
-const TWICE_DIRECT: [Line<'static>; 5] = [
+const TWICE_DIRECT: [PlayerLine<'static>; 5] = [
     ("001    1", "   2 w =  0000 - H"),
     ("001    2", "   1 b =  0000 - H"),
     ("001    3", "0000 - U  0000 - Z"),
@@ -146,7 +146,7 @@ fn a_tie_in_every_key_goes_by_start_rank(rt: HostRuntime) -> Result<(), Fail> {
     Ok(())
 }
 
-const WITHOUT_A_RESULT: [Line<'static>; 4] = [
+const WITHOUT_A_RESULT: [PlayerLine<'static>; 4] = [
     ("XXS 1", ""),
     ("001    2", "   3 w 1     1 w  "),
     ("001    1", "             2 b  "),
@@ -163,7 +163,7 @@ fn a_game_without_a_result_is_refused_first(rt: HostRuntime) -> Result<(), Fail>
     Ok(())
 }
 
-const OTHER_POINTS: [Line<'static>; 4] = [
+const OTHER_POINTS: [PlayerLine<'static>; 4] = [
     ("XXA 1", ""),
     ("001    2", ""),
     ("xxs x", ""),

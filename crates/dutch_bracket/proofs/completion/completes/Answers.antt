@@ -1,6 +1,6 @@
 -- The list in which the search works holds the players, and what it tells is the answer about a list of pairs.
 use Rattle.std.proofs.Common.{◌≡◌, ◌∙◌, ◌++◌, ℕ, List, [], true, length, ap, subst}
-use Rattle.dutch_bracket.specs.Completion.{Completable, most, IsStopped, MatchAnswer, Spends, Takes}
+use Rattle.dutch_bracket.specs.Completion.{Completable, most, IsStopped, MatchAnswer, SpendsAtMost, Takes}
 use Rattle.dutch_bracket.proofs.Covering.{answer_by_search}
 use Rattle.dutch_bracket.proofs.completion.completes.Goals as goal
 
@@ -19,7 +19,7 @@ returns-clause-answer g c =
 
 pub returns-clause-steps : goal.returns-clause-steps
 returns-clause-steps g c =
-    subst (λ (xs : List ℕ). Spends (most (length xs) true) c.args.budget.now c.can_pair.new.budget) (copied _ _ _ _ c.deref_mut.ensures.value c.push_all.ensures c.new-all.ensures) c.can_pair.ensures.searched.steps
+    subst (λ (xs : List ℕ). SpendsAtMost (most (length xs) true) c.args.budget.now c.can_pair.new.budget) (copied _ _ _ _ c.deref_mut.ensures.value c.push_all.ensures c.new-all.ensures) c.can_pair.ensures.searched.steps
 
 pub returns-clause-taken : goal.returns-clause-taken
 returns-clause-taken g c =

@@ -14,5 +14,5 @@ returns g c = λ yes' path on of.
     c.cuts.ensures yes' (set_of pool k stage.size path)
     (exchange-at (known_exchange pool k stage.size stage.difference c.args.begun.now) (set_of pool k stage.size path) _ _ _ _ known
     c.split_at-2.ensures.front c.split_at-2.ensures.back
-    (c.split_at.ensures.front ∙ ap (take c.put_known-count.result) c.deref.ensures.0 ∙ c.put_known-count.ensures.held)
-    (c.split_at.ensures.back ∙ ap (drop c.put_known-count.result) c.deref.ensures.0 ∙ c.put_known-count.ensures.barred))
+    (c.split_at.ensures.front ∙ ap (take c.put_held_and_barred-count.result) c.deref.ensures.0 ∙ c.put_held_and_barred-count.ensures.held)
+    (c.split_at.ensures.back ∙ ap (drop c.put_held_and_barred-count.result) c.deref.ensures.0 ∙ c.put_held_and_barred-count.ensures.barred))

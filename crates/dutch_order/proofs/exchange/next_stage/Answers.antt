@@ -3,7 +3,7 @@ use Rattle.dutch_order.specs.Stages.{least_difference, stages_ahead}
 use Rattle.dutch_order.proofs.StageMoves.{sets-entered, trials-entered, sets-next, trials-next, sets-larger, trials-larger, stages-larger, sets-none, trials-none}
 use Rattle.dutch_order.specs.Hints.{hinted}
 use Rattle.dutch_order.specs.Stages.{exchange_plan, most_exchanged}
-use Rattle.dutch_order.specs.Walks.{Walked}
+use Rattle.dutch_order.specs.Descents.{Walked}
 use Rattle.dutch_order.proofs.Places.{new-place}
 use Rattle.dutch_order.proofs.exchange.next_stage.Goals as goal
 
@@ -15,14 +15,14 @@ returns-in-Some-clause-sets c =
     let p = c.args.place.now in
     let entered = c.enter.ensures in
     sets-entered c.args.pool.now c.args.k c.enter.new.self p.size c.in-Some.next entered.size entered.difference entered.hint entered.path entered.number entered.beyond
-    ∙ sets-next c.args.pool.now c.args.k p.hint.items p.size p.difference p.walk.path.items p.walk.number p.walk.beyond c.requires.spent c.in-Some.next (search rules)
+    ∙ sets-next c.args.pool.now c.args.k p.hint.items p.size p.difference p.descent.path.items p.descent.number p.descent.beyond c.requires.spent c.in-Some.next (search rules)
 
 pub returns-in-Some-clause-trials : goal.returns-in-Some-clause-trials
 returns-in-Some-clause-trials c =
     let p = c.args.place.now in
     let entered = c.enter.ensures in
     trials-entered c.args.pool.now c.args.k c.enter.new.self p.size c.in-Some.next entered.size entered.difference entered.hint entered.path entered.number entered.beyond
-    ∙ trials-next c.args.pool.now c.args.k p.hint.items p.size p.difference p.walk.path.items p.walk.number p.walk.beyond c.requires.spent c.in-Some.next (search rules)
+    ∙ trials-next c.args.pool.now c.args.k p.hint.items p.size p.difference p.descent.path.items p.descent.number p.descent.beyond c.requires.spent c.in-Some.next (search rules)
 
 pub returns-then-place-min-clause-sets : goal.returns-then-place-min-clause-sets
 returns-then-place-min-clause-sets c =
@@ -30,7 +30,7 @@ returns-then-place-min-clause-sets c =
     let entered = c.enter-then-place-min.ensures in
     sets-entered c.args.pool.now c.args.k c.enter-then-place-min.new.self (suc p.size) (least_difference c.args.pool.now c.args.k (suc p.size)) (entered.size ∙ one_up p.size)
     (entered.difference ∙ c.least_of.ensures ∙ ap (least_difference c.args.pool.now c.args.k) (one_up p.size)) entered.hint entered.path entered.number entered.beyond
-    ∙ sets-larger c.args.pool.now c.args.k p.hint.items p.size p.difference p.walk.path.items p.walk.number p.walk.beyond c.requires.spent (search rules) (search rules)
+    ∙ sets-larger c.args.pool.now c.args.k p.hint.items p.size p.difference p.descent.path.items p.descent.number p.descent.beyond c.requires.spent (search rules) (search rules)
 
 pub returns-then-place-min-clause-trials : goal.returns-then-place-min-clause-trials
 returns-then-place-min-clause-trials c =
@@ -38,14 +38,14 @@ returns-then-place-min-clause-trials c =
     let entered = c.enter-then-place-min.ensures in
     trials-entered c.args.pool.now c.args.k c.enter-then-place-min.new.self (suc p.size) (least_difference c.args.pool.now c.args.k (suc p.size)) (entered.size ∙ one_up p.size)
     (entered.difference ∙ c.least_of.ensures ∙ ap (least_difference c.args.pool.now c.args.k) (one_up p.size)) entered.hint entered.path entered.number entered.beyond
-    ∙ trials-larger c.args.pool.now c.args.k p.hint.items p.size p.difference p.walk.path.items p.walk.number p.walk.beyond c.requires.spent (search rules) (search rules)
+    ∙ trials-larger c.args.pool.now c.args.k p.hint.items p.size p.difference p.descent.path.items p.descent.number p.descent.beyond c.requires.spent (search rules) (search rules)
 
 pub returns-then-place-min-clause-nearer : goal.returns-then-place-min-clause-nearer
 returns-then-place-min-clause-nearer c _ =
     let p = c.args.place.now in
     let entered = c.enter-then-place-min.ensures in
     let larger : stages_ahead c.args.pool.now c.args.k (suc p.size) (least_difference c.args.pool.now c.args.k (suc p.size)) < stages_ahead c.args.pool.now c.args.k p.size p.difference =
-    stages-larger c.args.pool.now c.args.k p.hint.items p.size p.difference p.walk.path.items p.walk.number p.walk.beyond c.requires.spent (search rules) (search rules) in
+    stages-larger c.args.pool.now c.args.k p.hint.items p.size p.difference p.descent.path.items p.descent.number p.descent.beyond c.requires.spent (search rules) (search rules) in
     subst (λ size. stages_ahead c.args.pool.now c.args.k size c.enter-then-place-min.new.self.difference < stages_ahead c.args.pool.now c.args.k p.size p.difference) (sym (entered.size ∙ one_up p.size))
     (subst (λ d. stages_ahead c.args.pool.now c.args.k (suc p.size) d < stages_ahead c.args.pool.now c.args.k p.size p.difference)
     (sym (entered.difference ∙ c.least_of.ensures ∙ ap (least_difference c.args.pool.now c.args.k) (one_up p.size))) larger)
@@ -53,8 +53,8 @@ returns-then-place-min-clause-nearer c _ =
 pub returns-clause-ended : goal.returns-clause-ended
 returns-clause-ended c _ =
     let p = c.args.place.now in (
-      sets-none c.args.pool.now c.args.k p.hint.items p.size p.difference p.walk.path.items p.walk.number p.walk.beyond c.requires.spent (search rules) (search rules),
-      trials-none c.args.pool.now c.args.k p.hint.items p.size p.difference p.walk.path.items p.walk.number p.walk.beyond c.requires.spent (search rules) (search rules),
+      sets-none c.args.pool.now c.args.k p.hint.items p.size p.difference p.descent.path.items p.descent.number p.descent.beyond c.requires.spent (search rules) (search rules),
+      trials-none c.args.pool.now c.args.k p.hint.items p.size p.difference p.descent.path.items p.descent.number p.descent.beyond c.requires.spent (search rules) (search rules),
     )
 
 pub returns-in-Some-clause-stands : goal.returns-in-Some-clause-stands

@@ -1,7 +1,7 @@
 use Rattle.std.proofs.Common.{◌≡◌, [], refl, None, length, ap, arith, subst, sym}
 use Rattle.std.specs.List.{AllByRecursion}
 use Rattle.dutch_order.specs.Hints.{hinted}
-use Rattle.dutch_order.specs.Walks.{Walked}
+use Rattle.dutch_order.specs.Descents.{Walked}
 use Rattle.dutch_order.proofs.Places.{ended-hits, ended-known}
 use Rattle.dutch_order.specs.Trials.{ahead, below, after}
 use Rattle.dutch_order.specs.Stages.{IsOfStage, exchange_plan, sets_ahead, stage_left, sets_of_stages, sets_of_sizes}
@@ -15,7 +15,7 @@ pub invariant_of-result : goal.invariant_of-result
 invariant_of-result c =
     let pool = c.new.result.items in
     let long : length pool ≡ 0 = ap length c.new.ensures in
-    let walk = c.new-3.result in
+    let descent = c.new-3.result in
     let hint = c.new-2.result in (
       omega (arith, long),
       omega arith,
@@ -24,7 +24,7 @@ invariant_of-result c =
         omega arith,
         omega arith,
         (omega (arith, ap length c.new-3.ensures.path), subst (Walked (hinted hint.items (exchange_plan pool 0 0 0)) []) (sym c.new-3.ensures.path) tt),
-        ended-known pool hint.items walk.path.items walk.number walk.beyond c.new.ensures,
-        subst (AllByRecursion (IsOfStage pool 0 0 0)) (sym (ended-hits pool hint.items walk.path.items walk.number c.new.ensures c.new-2.ensures c.new-3.ensures.path c.new-3.ensures.number)) tt,
+        ended-known pool hint.items descent.path.items descent.number descent.beyond c.new.ensures,
+        subst (AllByRecursion (IsOfStage pool 0 0 0)) (sym (ended-hits pool hint.items descent.path.items descent.number c.new.ensures c.new-2.ensures c.new-3.ensures.path c.new-3.ensures.number)) tt,
       ),
     )

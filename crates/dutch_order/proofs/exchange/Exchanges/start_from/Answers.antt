@@ -1,6 +1,6 @@
 use Rattle.std.proofs.Common.{[], length, ap, arith, subst, sym}
 use Rattle.dutch_order.specs.Hints.{hinted}
-use Rattle.dutch_order.specs.Walks.{Walked}
+use Rattle.dutch_order.specs.Descents.{Walked}
 use Rattle.dutch_order.specs.Stages.{exchange_plan}
 use Rattle.dutch_order.proofs.LateSets.{exchange-room, exchanges-from}
 use Rattle.std.specs.List.Sorted.{IsStrictlyIncreasing}

@@ -14,4 +14,4 @@ put_numbers-requires-clause-within c =
     (AllByRecursion-drop (λ place. place < LIMIT) k c.deref-2.result.now
     (subst (AllByRecursion (λ place. place < LIMIT)) (sym c.deref-2.ensures.0)
     (Walked-below (limbo_plan scores k) LIMIT
-    (λ path. omega (arith, half_stop-one k (length scores) path, c.deref.ensures.1)) [] c.climb_on.new.walk.path.items c.climb_on.ensures.stands.1)))
+    (λ path. omega (arith, half_stop-one k (length scores) path, c.deref.ensures.1)) [] c.climb_on.new.descent.path.items c.climb_on.ensures.stands.1)))

@@ -3,21 +3,21 @@ use Rattle.std.specs.List.{filter}
 use Rattle.std.proofs.lemmas.List.{length-map, map-append}
 use Rattle.dutch_order.specs.Choices.{numbers_from}
 use Rattle.dutch_order.specs.Sides.{count_of}
-use Rattle.dutch_order.specs.Stages.{is_told, value_of}
+use Rattle.dutch_order.specs.Stages.{is_fixed, value_of}
 use Rattle.dutch_order.proofs.Asked.{filter-room}
 use Rattle.dutch_order.proofs.Members.{filter-more, filter-no_more}
-use Rattle.dutch_order.proofs.exchange.put_told.Goals as goal
-use Rattle.dutch_order.proofs.exchange.put_told.Goals.{then-is_told, else-is_told}
+use Rattle.dutch_order.proofs.exchange.put_fixed.Goals as goal
+use Rattle.dutch_order.proofs.exchange.put_fixed.Goals.{then-is_fixed, else-is_fixed}
 
 pub push-requires : goal.push-requires
 push-requires c =
     let stage = c.args.stage.now in
-    let told = c.args.told.now in
-    let test : ℕ → Bool = is_told told.taken.now told.limit c.args.chosen in
-    let value : ℕ → ℕ = value_of stage.pool.now stage.k told.side in
+    let fixed = c.args.fixed.now in
+    let test : ℕ → Bool = is_fixed fixed.taken.now fixed.limit c.args.chosen in
+    let value : ℕ → ℕ = value_of stage.pool.now stage.k fixed.side in
     let n : ℕ = c.loop-place.place in
-    let count : ℕ = count_of stage.pool.now stage.k told.side in
-    let room = filter-room test n count (omega (arith, c.count_at-place-end.ensures)) (sym c.is_told.ensures ∙ c.if-is_told.true) in
+    let count : ℕ = count_of stage.pool.now stage.k fixed.side in
+    let room = filter-room test n count (omega (arith, c.count_at-place-end.ensures)) (sym c.is_fixed.ensures ∙ c.if-is_fixed.true) in
     omega (
       arith,
       ap length c.loop-place.invariant.so_far,
@@ -31,15 +31,15 @@ push-requires c =
 pub loop-place-preserved : goal.loop-place-preserved
 loop-place-preserved c =
     let stage = c.args.stage.now in
-    let told = c.args.told.now in
-    let test : ℕ → Bool = is_told told.taken.now told.limit c.args.chosen in
-    let value : ℕ → ℕ = value_of stage.pool.now stage.k told.side in
+    let fixed = c.args.fixed.now in
+    let test : ℕ → Bool = is_fixed fixed.taken.now fixed.limit c.args.chosen in
+    let value : ℕ → ℕ = value_of stage.pool.now stage.k fixed.side in
     let n : ℕ = c.loop-place.place in
     let before : List ℕ = c.args.numbers.now.items in
     let old = c.loop-place.invariant in
-    elim c.if-is_told.branch [
-      | then-is_told w ↦
-          let passes : test n ≡ true = sym c.is_told.ensures ∙ w.if-is_told.true in
+    elim c.if-is_fixed.branch [
+      | then-is_fixed w ↦
+          let passes : test n ≡ true = sym c.is_fixed.ensures ∙ w.if-is_fixed.true in
           record {
             so_far = ap (λ v. v.items) w.numbers-is ∙ w.push.ensures.items
                 ∙ ap (λ x. c.loop-place.numbers.items ++ x ∷ []) w.value_at.ensures.value
@@ -48,8 +48,8 @@ loop-place-preserved c =
                 ∙ ap (λ xs. before ++ xs) (sym (map-append value (filter test (numbers_from 0 n)) (n ∷ [])))
                 ∙ ap (λ xs. before ++ map value xs) (sym (filter-more test n passes));
           }
-      | else-is_told w ↦
-          let fails : test n ≡ false = sym c.is_told.ensures ∙ w.if-is_told.false in
+      | else-is_fixed w ↦
+          let fails : test n ≡ false = sym c.is_fixed.ensures ∙ w.if-is_fixed.false in
           record {
             so_far = ap (λ v. v.items) w.numbers-is ∙ old.so_far ∙ ap (λ xs. before ++ map value xs) (sym (filter-no_more test n fails));
           }

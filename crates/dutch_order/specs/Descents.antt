@@ -1,7 +1,7 @@
 -- Where a search may stand: a model that carries the search, and which a reader of the promises may pass by.
 use Rattle.std.specs.Prelude.{◌≡◌, ◌⊎◌, ℕ, ◌-◌, ◌<◌, ◌≤◌, List, [], ◌∷◌, ◌++◌, length, Option, Some}
 use Rattle.dutch_order.specs.Trials.{Plan, below, ahead, lower, lowest}
-use Rattle.dutch_order.specs.declared.search.Walk.{Walk}
+use Rattle.dutch_order.specs.declared.search.Descent.{Descent}
 
 -- each number of a path, after what has begun, is below the end of the numbers that its place tries
 abbrev pub Walked : Plan → List ℕ → List ℕ → Type 0
@@ -25,9 +25,9 @@ abbrev pub NoneIdle : {T : Type 0} → (T → Type 0) → Type 0
 NoneIdle {T} Idle = (x : T) → Idle x → ⊥
 
 -- what lies beyond the trials of a search, those made and those to come, if anything was noted
-abbrev pub beyond_all : Plan → Walk → Option ℕ
-beyond_all plan walk = lower walk.beyond (lowest (ahead plan walk.path.items walk.number))
+abbrev pub beyond_all : Plan → Descent → Option ℕ
+beyond_all plan descent = lower descent.beyond (lowest (ahead plan descent.path.items descent.number))
 
--- a walk keeps what lies beyond its trials, or it has left some without a trial, and nothing is known
-abbrev pub KeepsBeyond : Plan → Walk → Walk → Type 0
+-- a descent keeps what lies beyond its trials, or it has left some without a trial, and nothing is known
+abbrev pub KeepsBeyond : Plan → Descent → Descent → Type 0
 KeepsBeyond plan old new = (beyond_all plan new ≡ Some 0) ⊎ (beyond_all plan new ≡ beyond_all plan old)
