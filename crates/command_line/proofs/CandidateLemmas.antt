@@ -1,13 +1,11 @@
 -- A listing as an answer, and the bracket that is found.
 use Rattle.std.proofs.Common.{◌≡◌, ◌++◌, ℕ, List, Result, Ok, Err, IfOk, sym, subst, refl}
-use Rattle.dutch_order.specs.Arrangements.{Arrangement, Frame, IsBracket, arrangements}
-use Rattle.dutch_order.specs.Cursors.{cursor_of}
-use Rattle.dutch_order.specs.Keys.{IsIn}
+use Rattle.dutch_order.specs.Prelude.{Arrangement, Frame, IsBracket, arrangements, cursor_of, IsIn}
 use Rattle.dutch_order.specs.declared.bracket.Shape.{Shape}
 use Rattle.dutch_order.proofs.CursorReads.{read-is}
-use Rattle.dutch_pair.specs.Outcomes.{IsBracketAt}
-use Rattle.dutch_bracket.specs.Reached.{Reached}
-use Rattle.dutch_player.specs.Facts.{Facts}
+use Rattle.dutch_pair.specs.Prelude.{IsBracketAt}
+use Rattle.dutch_bracket.specs.Prelude.{Reached}
+use Rattle.dutch_player.specs.Prelude.{Facts}
 use Rattle.dutch_pair.specs.declared.round.BracketAt.{BracketAt}
 use Rattle.dutch_pair.specs.declared.round.BracketAt.TheVariants.{Bracket, NotReached, NoPairing as NoPairingAt, Undecided as UndecidedAt}
 use Rattle.dutch_order.specs.declared.cursor.CursorFault.{CursorFault}
@@ -15,8 +13,7 @@ use Rattle.command_line.specs.CandidateAnswers.{IsAnswerToField, Lists, AnswersF
 use Rattle.command_line.specs.Known.{CanBeListed}
 use Rattle.round_lines.specs.CandidateTexts.{bracket_text, line_text}
 use Rattle.round_lines.specs.Listings.{IsListing, ending_text, status_of}
-use Rattle.replies.specs.Replies.{answer_of}
-use Rattle.replies.specs.Statuses.{not_of_bracket, plain}
+use Rattle.replies.specs.Prelude.{answer_of, not_of_bracket, plain}
 use Rattle.round_lines.specs.declared.listing.Ending.{Ending}
 use Rattle.requests.specs.declared.options.CandidatesOptions.{CandidatesOptions}
 use Rattle.replies.specs.declared.reply.Reply.{Reply}

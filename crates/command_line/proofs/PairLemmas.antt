@@ -1,14 +1,10 @@
 -- The boards of an outcome can be the next round of the report that it was paired from.
 use Rattle.std.proofs.Common.{◌≡◌, ◌≤◌, ℕ, List, Option, Some, None, Ok, refl, subst}
 use Rattle.std.specs.Prelude.{IfSome, option_map}
-use Rattle.trf16.specs.Round.{CanBePaired}
-use Rattle.trf16.specs.Sheet.{Sheet}
-use Rattle.trf16.specs.Verdict.{verdict}
+use Rattle.trf16.specs.Prelude.{CanBePaired, Sheet, verdict}
 use Rattle.trf16.specs.declared.cell.Colour.{Colour}
-use Rattle.dutch_player.specs.Facts.{Facts, facts_of}
-use Rattle.dutch_pair.specs.Boards.{boards}
-use Rattle.dutch_pair.specs.Outcomes.{IsOutcome}
-use Rattle.dutch_pair.specs.Round.{Pairing, round}
+use Rattle.dutch_player.specs.Prelude.{Facts, facts_of}
+use Rattle.dutch_pair.specs.Prelude.{boards, IsOutcome, Pairing, round}
 use Rattle.dutch_pair.specs.declared.round.Outcome.{Outcome}
 use Rattle.dutch_pair.specs.declared.round.Outcome.TheVariants.{Paired, NoPairing, Undecided}
 use Rattle.command_line.specs.Known.{CanBeTold, HasFewRounds, IsAccepted}

@@ -3,15 +3,11 @@ use Rattle.std.proofs.Common.{Bool, true, false, nat_lt, ◌≡◌, ◌≤◌, �
 use Rattle.std.specs.Io.KnownBytes.{Consumes, IsAtEnd}
 use Rattle.std.proofs.lemmas.Bool.{cases_lt}
 use Rattle.std.proofs.lemmas.Bool.Decides.{nat_tests}
-use Rattle.trf16.specs.Verdict.{laid_out, verdict}
+use Rattle.trf16.specs.Prelude.{laid_out, verdict, verdict_unsummed}
 use Rattle.trf16.specs.declared.fault.Excess.TheVariants.{Bytes}
 use Rattle.trf16.specs.declared.fault.Fault.TheVariants.{TooMany}
-use Rattle.trf16.specs.Summed.{verdict_unsummed}
 use Rattle.command_line.specs.Commands.{Answers, AnswersReport, verdict_for}
-use Rattle.replies.specs.ReportAnswers.{check_answer, format_verdict}
-use Rattle.replies.specs.Statuses.{Answer}
-use Rattle.replies.specs.Devices.{Reading}
-use Rattle.replies.specs.Input.{IsRead, most_read}
+use Rattle.replies.specs.Prelude.{check_answer, format_verdict, Answer, Reading, IsRead, most_read}
 use Rattle.command_line.specs.Run.{IsAnswered, IsInput}
 use Rattle.requests.specs.declared.words.Request.{Request}
 use Rattle.requests.specs.declared.words.Request.TheVariants.{Check, Format, Pair, Candidates, Explain, Standings}

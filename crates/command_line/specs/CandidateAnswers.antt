@@ -1,18 +1,17 @@
 -- What `candidates` answers: a bracket, its shape, and the candidates of that shape in article D's order, from a cursor on or all.
 use Rattle.std.specs.Prelude.{◌≡◌, ℕ, List, [], ◌++◌, Option, Some, None, Result, Ok, Err}
-use Rattle.dutch_order.specs.Arrangements.{Arrangement, candidates, rest}
-use Rattle.dutch_order.specs.Cursors.{cursor_of}
+use Rattle.dutch_order.specs.Prelude.{Arrangement, candidates, rest, cursor_of}
 use Rattle.dutch_order.specs.declared.bracket.Shape.{Shape}
 use Rattle.dutch_order.specs.declared.cursor.CursorFault.{CursorFault}
-use Rattle.dutch_pair.specs.Outcomes.{IsBracketAt}
-use Rattle.dutch_bracket.specs.Reached.{Reached, frame_of, numbers_meet, number_may_be_left}
+use Rattle.dutch_pair.specs.Prelude.{IsBracketAt}
+use Rattle.dutch_bracket.specs.Prelude.{Reached, frame_of, numbers_meet, number_may_be_left}
 use Rattle.dutch_pair.specs.declared.round.BracketAt.{BracketAt}
 use Rattle.dutch_pair.specs.declared.round.BracketAt.TheVariants.{Bracket, NotReached, NoPairing as NoPairingAt, Undecided as UndecidedAt}
-use Rattle.dutch_player.specs.Facts.{Facts, facts_of}
+use Rattle.dutch_player.specs.Prelude.{Facts, facts_of}
 use Rattle.dutch_player.specs.declared.fault.FieldFault.{FieldFault}
-use Rattle.trf16.specs.Sheet.{Sheet}
+use Rattle.trf16.specs.Prelude.{Sheet}
 use Rattle.trf16.specs.declared.fault.Fault.{Fault}
-use Rattle.replies.specs.Statuses.{Answer, field_refusal, no_pairing, not_of_bracket, not_reached, refusal, undecided}
+use Rattle.replies.specs.Prelude.{Answer, field_refusal, no_pairing, not_of_bracket, not_reached, refusal, undecided}
 use Rattle.round_lines.specs.CandidateTexts.{bracket_text, line_text}
 use Rattle.round_lines.specs.Listings.{IsListing, ending_text, status_of}
 use Rattle.round_lines.specs.declared.listing.Ending.{Ending}

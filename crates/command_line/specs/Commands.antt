@@ -1,14 +1,11 @@
 -- What each command answers to the bytes of its input: a status, and the text that goes with it.
 use Rattle.std.specs.Prelude.{◌≡◌, ℕ, List, Result}
-use Rattle.trf16.specs.Sheet.{Sheet}
-use Rattle.trf16.specs.Verdict.{verdict}
+use Rattle.trf16.specs.Prelude.{Sheet, verdict}
 use Rattle.trf16.specs.declared.fault.Fault.{Fault}
 use Rattle.command_line.specs.CandidateAnswers.{AnswersCandidates}
 use Rattle.explained.specs.ExplainAnswers.{AnswersExplain}
 use Rattle.command_line.specs.PairAnswers.{AnswersPair}
-use Rattle.replies.specs.ReportAnswers.{check_answer, format_answer, format_verdict}
-use Rattle.replies.specs.StandingsAnswers.{standings_answer}
-use Rattle.replies.specs.Statuses.{Answer}
+use Rattle.replies.specs.Prelude.{check_answer, format_answer, format_verdict, standings_answer, Answer}
 use Rattle.requests.specs.declared.words.Task.{Task}
 use Rattle.requests.specs.declared.words.Request.{Request}
 use Rattle.requests.specs.declared.words.Request.TheVariants.{Check, Format, Pair, Candidates, Explain, Standings}

@@ -1,15 +1,13 @@
 -- What is known where a request is answered, from its words and from its report: a model that carries the proof that boards fit.
 use Rattle.std.specs.Prelude.{◌≡◌, ℕ, ◌≤◌, List, IfSome, Ok}
-use Rattle.dutch_bracket.specs.Reached.{IsOf, frame_of}
-use Rattle.dutch_order.specs.Arrangements.{Fits}
+use Rattle.dutch_bracket.specs.Prelude.{IsOf, frame_of}
+use Rattle.dutch_order.specs.Prelude.{Fits}
 use Rattle.dutch_pair.specs.declared.round.BracketAt.{BracketAt}
 use Rattle.dutch_pair.specs.declared.round.BracketAt.TheVariants.{Bracket, NotReached, NoPairing as NoPairingAt, Undecided as UndecidedAt}
 use Rattle.dutch_pair.specs.declared.round.Outcome.{Outcome}
 use Rattle.dutch_pair.specs.declared.round.Outcome.TheVariants.{Paired, NoPairing, Undecided}
-use Rattle.dutch_player.specs.Facts.{Facts}
-use Rattle.trf16.specs.Round.{CanBePaired}
-use Rattle.trf16.specs.Sheet.{Sheet}
-use Rattle.trf16.specs.Verdict.{verdict}
+use Rattle.dutch_player.specs.Prelude.{Facts}
+use Rattle.trf16.specs.Prelude.{CanBePaired, Sheet, verdict}
 use Rattle.requests.specs.declared.options.PairOptions.{PairOptions}
 use Rattle.requests.specs.declared.words.Request.{Request}
 use Rattle.requests.specs.declared.words.Request.TheVariants.{Check, Format, Pair, Candidates, Explain, Standings}

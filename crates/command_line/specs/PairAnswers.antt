@@ -2,17 +2,14 @@
 use Rattle.std.specs.Prelude.{◌≡◌, ℕ, List, ◌++◌, length, Result, Ok, Err, codes}
 use Rattle.std.specs.List.{flat_map}
 use Rattle.std.specs.Fmt.{decimal}
-use Rattle.dutch_pair.specs.Outcomes.{IsOutcome}
+use Rattle.dutch_pair.specs.Prelude.{IsOutcome}
 use Rattle.dutch_pair.specs.declared.round.Outcome.{Outcome}
 use Rattle.dutch_pair.specs.declared.round.Outcome.TheVariants.{Paired, NoPairing, Undecided}
-use Rattle.dutch_player.specs.Facts.{Facts, facts_of}
+use Rattle.dutch_player.specs.Prelude.{Facts, facts_of}
 use Rattle.dutch_player.specs.declared.fault.FieldFault.{FieldFault}
-use Rattle.trf16.specs.Round.{with_round}
-use Rattle.trf16.specs.Sheet.{Sheet}
-use Rattle.trf16.specs.Written.{written}
+use Rattle.trf16.specs.Prelude.{with_round, Sheet, written}
 use Rattle.trf16.specs.declared.fault.Fault.{Fault}
-use Rattle.replies.specs.Statuses.{Answer, done, field_refusal, no_pairing, refusal, report_answer, undecided}
-use Rattle.replies.specs.WallTexts.{named_boards_text}
+use Rattle.replies.specs.Prelude.{Answer, done, field_refusal, no_pairing, refusal, report_answer, undecided, named_boards_text}
 use Rattle.requests.specs.declared.options.PairOptions.{PairOptions}
 use Rattle.requests.specs.declared.options.Shown.{Shown}
 use Rattle.requests.specs.declared.options.Shown.TheVariants.{Boards, Names, Report}

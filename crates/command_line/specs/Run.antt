@@ -1,13 +1,9 @@
 -- A run: what is answered to the words and to the bytes of the source, and that it is written.
 use Rattle.std.specs.Prelude.{◌≡◌, ◌⊎◌, ◌+◌, ◌≤◌, ℕ, List, [], Option, None, Some}
-use Rattle.replies.specs.Devices.{Reading, IsUnread}
-use Rattle.trf16.specs.Output.{Use, HasFailed, HasNotFailed}
+use Rattle.replies.specs.Prelude.{Reading, IsUnread, Answer, out_of_memory, plain, read_fault, most_read, word_text, IsWritten}
+use Rattle.trf16.specs.Prelude.{Use, HasFailed, HasNotFailed}
 use Rattle.command_line.specs.Commands.{Answers}
-use Rattle.replies.specs.Statuses.{Answer, out_of_memory, plain, read_fault}
-use Rattle.replies.specs.Input.{most_read}
-use Rattle.replies.specs.Texts.{word_text}
-use Rattle.replies.specs.WrittenAnswers.{IsWritten}
-use Rattle.requests.specs.Words.{AsksFor, AsksForHelp, AsksWrongly, IsMistaken, meant}
+use Rattle.requests.specs.Prelude.{AsksFor, AsksForHelp, AsksWrongly, IsMistaken, meant}
 use Rattle.requests.specs.declared.options.WordFault.{WordFault}
 use Rattle.replies.specs.declared.reply.Status.{Status}
 use Rattle.replies.specs.declared.reply.Status.TheVariants.{Done, BadWords}

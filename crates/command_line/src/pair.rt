@@ -2,15 +2,12 @@
 ghost use Rattle.std.specs.Prelude.{◌≡◌, ◌≤◌, ◌++◌, IfOk, Ok, OnOk, codes, length, string_bytes};
 ghost use Rattle.std.specs.List.{flat_map};
 ghost use Rattle.std.specs.Fmt.{decimal};
-ghost use Rattle.dutch_player.specs.Facts.{facts_of};
-ghost use Rattle.trf16.specs.Verdict.{verdict};
-ghost use Rattle.trf16.specs.Round.{CanBePaired, with_round};
-ghost use Rattle.trf16.specs.Written.{written};
+ghost use Rattle.dutch_player.specs.Prelude.{facts_of};
+ghost use Rattle.trf16.specs.Prelude.{verdict, CanBePaired, with_round, written};
 ghost use Rattle.command_line.specs.PairAnswers.{AnswersPair, PairsField, TellsBoards, TellsOutcome, TellsReport};
 ghost use Rattle.command_line.specs.PairAnswers.{board_text, boards_text};
 ghost use Rattle.command_line.specs.Known.{CanBeTold, HasFewRounds, IsAccepted};
-ghost use Rattle.replies.specs.Replies.{answer_of};
-ghost use Rattle.replies.specs.Statuses.{done};
+ghost use Rattle.replies.specs.Prelude.{answer_of, done};
 
 use dutch_pair::boards::Board;
 use dutch_pair::laws::boards_can_be_the_next_round;

@@ -2,13 +2,10 @@
 ghost use Rattle.std.specs.Prelude.{◌≡◌, ◌≤◌, ◌+◌, IfOk, map};
 ghost use Rattle.command_line.specs.Commands.{Answers};
 ghost use Rattle.command_line.specs.Known.{CanBeAnswered};
-ghost use Rattle.replies.specs.Statuses.{out_of_memory, read_fault};
-ghost use Rattle.replies.specs.Devices.{reading_of};
-ghost use Rattle.trf16.specs.Output.{use_of};
-ghost use Rattle.replies.specs.Input.{most_read};
-ghost use Rattle.replies.specs.Replies.{answer_of};
+ghost use Rattle.replies.specs.Prelude.{out_of_memory, read_fault, reading_of, most_read, answer_of};
+ghost use Rattle.trf16.specs.Prelude.{use_of};
 ghost use Rattle.command_line.specs.Run.{IsAnswer, IsOutOfMemory, IsReplyTo, IsRun};
-ghost use Rattle.requests.specs.Words.{meant};
+ghost use Rattle.requests.specs.Prelude.{meant};
 
 use crate::candidates::candidates;
 use crate::pair::pair;

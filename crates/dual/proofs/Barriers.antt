@@ -6,9 +6,7 @@ use Rattle.std.proofs.lemmas.Bool.{cases_Bool, cases_lt, eqb-true, eq-eqb}
 use Rattle.std.proofs.lemmas.List.Elements.{All-nil}
 use Rattle.std.proofs.lemmas.List.Folds.{list_any_at}
 use Rattle.std.proofs.lemmas.List.Sums.{sum_by-cons, sum_by-le-sum_by}
-use Rattle.dual.specs.Matchings.{Costs, IsMatching, MakeUp, Covers, MayBeLeftOut, Completable}
-use Rattle.dual.specs.Duals.{Priced, Certificate, toll, Bears, BearsLeft, IsFeasible, most_inside}
-use Rattle.dual.specs.Barriers.{Suits, IsBarrier, group_size, blockers, odd_groups, is_of_odd_group, served, IsTooNarrow}
+use Rattle.dual.specs.Prelude.{Costs, IsMatching, MakeUp, Covers, MayBeLeftOut, Completable, Priced, Certificate, toll, Bears, BearsLeft, IsFeasible, most_inside, Suits, IsBarrier, group_size, blockers, odd_groups, is_of_odd_group, served, IsTooNarrow}
 use Rattle.dual.proofs.Sums.{sum_plus, sum_none, sum_of_ones, one, one_itself, of_member, of_members, named, sum_named}
 use Rattle.dual.proofs.WeakDuality.{counted, bounded}
 use Rattle.dual.proofs.Covering.{covers_whole, covers_meet}

@@ -2,7 +2,7 @@
 use Rattle.std.proofs.Common.{◌≡◌, ℕ, ◌+◌, Bool, true, List, [], ◌∷◌, ◌++◌, All, sum_by, ap, arith}
 use Rattle.std.proofs.lemmas.List.Elements.{All-nil, All-cons}
 use Rattle.std.proofs.lemmas.List.Sums.{sum_by-cons, sum_by-append}
-use Rattle.dual.specs.Matchings.{Costs, in_both, IsMatching, Covers}
+use Rattle.dual.specs.Prelude.{Costs, in_both, IsMatching, Covers}
 
 module _ (meets : ℕ → ℕ → Bool) where
   pub covers_whole : (w : ℕ → ℕ) (players : List ℕ) (pairs : List (ℕ × ℕ)) (out : List ℕ) → Covers meets players pairs out

@@ -5,10 +5,7 @@ use Rattle.std.proofs.lemmas.Bool.{cases_Bool, cases_lt, eqb-true, eq-eqb, lt-lt
 use Rattle.std.proofs.lemmas.List.Elements.{All-more, All-weaker, All-head, All-tail}
 use Rattle.std.proofs.lemmas.List.Sums.{sum_by-cons, sum_by-drop_more, sum_by-le-sum_by}
 use Rattle.std.proofs.Math.Nat.{add-mul, mul-add, mul-le-mul_right}
-use Rattle.dual.specs.Checks.{HasSlacks}
-use Rattle.dual.specs.Duals.{Certificate, GivesEvenly, IsFeasible, slack, slack_left, losses, pairs_of}
-use Rattle.dual.specs.Floors.{FloorTable, extra_in, extra_left_in, IsFloor, IsFloorOf, TellsSlack, TellsSlackLeft}
-use Rattle.dual.specs.Matchings.{Costs, IsPartOf, in_both}
+use Rattle.dual.specs.Prelude.{HasSlacks, Certificate, GivesEvenly, IsFeasible, slack, slack_left, losses, pairs_of, FloorTable, extra_in, extra_left_in, IsFloor, IsFloorOf, TellsSlack, TellsSlackLeft, Costs, IsPartOf, in_both}
 use Rattle.dual.proofs.Sums.{sum_plus, one, one_itself, of_member}
 use Rattle.dual.proofs.WeakDuality.{bounded_beside, counted}
 

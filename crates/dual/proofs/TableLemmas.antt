@@ -1,7 +1,6 @@
 -- The value of a certificate is a bound.
 use Rattle.std.proofs.Common.{◌≡◌, ℕ, ◌-◌, ◌/◌, ◌≤◌, List, [], length, sym, ap, ◌∙◌, arith}
-use Rattle.dual.specs.Matchings.{Costs, IsMatching, IsPartOf, cost}
-use Rattle.dual.specs.Duals.{Certificate, IsFeasible, losses, value}
+use Rattle.dual.specs.Prelude.{Costs, IsMatching, IsPartOf, cost, Certificate, IsFeasible, losses, value}
 use Rattle.dual.proofs.WeakDuality.{bounded_beside, counted}
 
 -- the number of pairs is known by that of the players left over

@@ -3,8 +3,7 @@ use Rattle.std.proofs.Common.{◌≡◌, ℕ, ◌+◌, ◌*◌, ◌<◌, ◌≤�
 use Rattle.std.proofs.lemmas.List.Elements.{All-head, All-tail}
 use Rattle.std.proofs.lemmas.List.Sums.{sum_by-cons, sum_by-le-sum_by}
 use Rattle.std.proofs.Math.Nat.{mul-add, mul-le-mul_left}
-use Rattle.dual.specs.Matchings.{Costs, in_both, IsMatching, IsPartOf, cost, beside_times}
-use Rattle.dual.specs.Duals.{Priced, Certificate, toll, Bears, BearsLeft, IsFeasible, slack, slack_left, most_inside, gains, losses}
+use Rattle.dual.specs.Prelude.{Costs, in_both, IsMatching, IsPartOf, cost, beside_times, Priced, Certificate, toll, Bears, BearsLeft, IsFeasible, slack, slack_left, most_inside, gains, losses}
 use Rattle.dual.proofs.Sums.{sum_plus, sum_none, sum_times, sum_of_ones, sum_of_twos, one, one_itself, of_member}
 
 -- ---- a set

@@ -4,8 +4,7 @@ use Rattle.std.specs.Option.{option_to_list}
 use Rattle.std.proofs.lemmas.Bool.{cases_Bool, cases_lt, eqb-true}
 use Rattle.std.proofs.lemmas.List.Elements.{All-nil, All-cons, All-head, All-tail}
 use Rattle.std.proofs.lemmas.List.Sums.{sum_by-cons, sum_by-append}
-use Rattle.dual.specs.Matchings.{in_both, MakeUp, Covers, MayBeLeftOut, Completable, IsWitness}
-use Rattle.dual.specs.Counts.{times_named, StandsAsOften}
+use Rattle.dual.specs.Prelude.{in_both, MakeUp, Covers, MayBeLeftOut, Completable, IsWitness, times_named, StandsAsOften}
 use Rattle.dual.proofs.Sums.{sum_plus, sum_of_ones, sum_of_twos, one, one_itself, of_member, named, sum_named}
 
 -- ---- where a member stands

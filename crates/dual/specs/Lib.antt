@@ -5,3 +5,4 @@ pub mod Floors
 pub mod Checks
 pub mod Barriers
 pub mod Counts
+pub mod Prelude

@@ -1,13 +1,9 @@
 -- A bracket in which all candidates can be chosen has the greatest shape of a legal arrangement, whatever seats are below it (C.04.3 C.5).
 use Rattle.std.proofs.Common.{◌≡◌, if◌then◌else◌, List, [], ◌∷◌, Option, Some, refl, sym, ap, ◌∙◌, subst}
 use Rattle.dutch_order.specs.declared.bracket.Shape.{Shape}
-use Rattle.dutch_order.specs.Arrangements.{Arrangement, Fits, Frame}
-use Rattle.dutch_player.specs.Facts.{Facts}
-use Rattle.dutch_bracket.specs.Joins.{IsAlwaysShape}
-use Rattle.dutch_bracket.specs.NextBracket.{legal_by, legal_in}
-use Rattle.dutch_bracket.specs.Reached.{Reached, frame_of}
-use Rattle.dutch_bracket.specs.Brackets.{candidates_of, eligible, shape_of}
-use Rattle.dutch_bracket.specs.Shapes.{first_with, greatest_shape, has_member, shapes}
+use Rattle.dutch_order.specs.Prelude.{Arrangement, Fits, Frame}
+use Rattle.dutch_player.specs.Prelude.{Facts}
+use Rattle.dutch_bracket.specs.Prelude.{IsAlwaysShape, legal_by, legal_in, Reached, frame_of, candidates_of, eligible, shape_of, first_with, greatest_shape, has_member, shapes}
 use Rattle.dutch_bracket.proofs.EligibleLemmas.{eligible_all}
 use Rattle.dutch_bracket.proofs.ShapeLaws.{has_room}
 

@@ -5,11 +5,7 @@ use Rattle.std.proofs.lemmas.Bool.{ne_eqb, eq-eqb}
 use Rattle.std.proofs.lemmas.Bool.Decides.{nat_tests}
 use Rattle.std.proofs.lemmas.List.{length-take-le}
 use Rattle.dutch_order.specs.declared.bracket.Shape.{Shape}
-use Rattle.dutch_order.specs.Choices.{numbers_from, subsets, tuples, is_member, without}
-use Rattle.dutch_order.specs.Keys.{IsIn, sorted, lower_first}
-use Rattle.dutch_order.specs.Exchange.{exchanges, exchange_cmp}
-use Rattle.dutch_order.specs.Limbo.{limbo_exchanges, limbo_cmp}
-use Rattle.dutch_order.specs.Arrangements.{Frame, Arrangement, left_of, residents_of, moved_down_scores, remainder_pairs, with_s2r, with_s1r, with_s2, arrangements}
+use Rattle.dutch_order.specs.Prelude.{numbers_from, subsets, tuples, is_member, without, IsIn, sorted, lower_first, exchanges, exchange_cmp, limbo_exchanges, limbo_cmp, Frame, Arrangement, left_of, residents_of, moved_down_scores, remainder_pairs, with_s2r, with_s1r, with_s2, arrangements}
 use Rattle.dutch_order.proofs.HalfWalks.{Climbs}
 use Rattle.dutch_order.proofs.Lists.{filter-all, filter-same}
 use Rattle.dutch_order.proofs.Orders.{member_has, IsIn-append, IsIn-map, IsIn-flat_map, Rises, Rises-filter}

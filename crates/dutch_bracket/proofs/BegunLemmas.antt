@@ -1,16 +1,13 @@
 -- The lists of a beginning: the fronts of S1 and of S1R that have opponents.
 use Rattle.std.proofs.Common.{◌≡◌, ◌<◌, ◌≤◌, ℕ, List, [], ◌∷◌, length, take, refl, ap, sym, subst, inl, inr}
-use Rattle.dutch_order.specs.Arrangements.{Arrangement}
+use Rattle.dutch_order.specs.Prelude.{Arrangement, BeginsAt, GoesOn}
 use Rattle.dutch_order.specs.declared.prefix.Filling.{Filling}
 use Rattle.dutch_order.specs.declared.prefix.Filling.TheVariants.{S1, S2, S2r}
 use Rattle.dutch_order.proofs.Moves.{AllByRecursion-take}
-use Rattle.dutch_order.specs.Prefixes.{BeginsAt, GoesOn}
-use Rattle.dutch_player.specs.Facts.{Facts}
-use Rattle.dutch_bracket.specs.Seated.{IsPair, seat_of, pairs_of, all_pairs, AreSeats, AllNumbers, AllPairs}
-use Rattle.dutch_bracket.specs.Reached.{Reached}
+use Rattle.dutch_player.specs.Prelude.{Facts}
+use Rattle.dutch_bracket.specs.Prelude.{IsPair, seat_of, pairs_of, all_pairs, AreSeats, AllNumbers, AllPairs, Reached, HasPairsOf, LacksEndOfS2r, lists_by}
 use Rattle.dutch_bracket.proofs.AllLemmas.{all_join}
 use Rattle.dutch_bracket.proofs.CandidateSeats.{pairs_within}
-use Rattle.dutch_bracket.specs.Beginnings.{HasPairsOf, LacksEndOfS2r, lists_by}
 use Rattle.dutch_bracket.proofs.FixedPairs.{has_pairs}
 
 pub front_pairs : (seats firsts seconds : List ℕ) → pairs_of seats (take (length seconds) firsts) seconds ≡ pairs_of seats firsts seconds

@@ -5,7 +5,7 @@ use Rattle.std.proofs.lemmas.List.{get_or-set_same, get_or-set_other, get_or-rep
 use Rattle.std.proofs.lemmas.Nat.Bits.{bit_at-zero, bit_at_set_same, bit_at_set_other}
 use Rattle.std.specs.Prelude.{bit_or, slice_index}
 use Rattle.std.specs.Int.{bit_at}
-use Rattle.dutch_bracket.specs.BitTables.{has_bit}
+use Rattle.dutch_bracket.specs.Prelude.{has_bit}
 
 pub none_set : (n i : ℕ) → has_bit (replicate n 0) i ≡ false
 unfolding has_bit

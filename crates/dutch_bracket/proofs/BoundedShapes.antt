@@ -2,13 +2,10 @@
 use Rattle.std.proofs.Common.{◌≡◌, ℕ, ◌<◌, Bool, false, List, None, ◌⊎◌, inl, inr, ap, ◌∙◌, arith}
 use Rattle.std.proofs.lemmas.Bool.{false_from_ne_true, and_parts}
 use Rattle.dutch_order.specs.declared.bracket.Shape.{Shape}
-use Rattle.dutch_order.specs.Arrangements.{Fits}
+use Rattle.dutch_order.specs.Prelude.{Fits}
 use Rattle.dutch_order.proofs.Orders.{IsIn-map}
-use Rattle.dutch_player.specs.Facts.{Facts}
-use Rattle.dutch_bracket.specs.Joins.{IsMost}
-use Rattle.dutch_bracket.specs.Reached.{Reached, frame_of}
-use Rattle.dutch_bracket.specs.Brackets.{eligible}
-use Rattle.dutch_bracket.specs.Shapes.{down_from, fits, has_member, shapes_with}
+use Rattle.dutch_player.specs.Prelude.{Facts}
+use Rattle.dutch_bracket.specs.Prelude.{IsMost, Reached, frame_of, eligible, down_from, fits, has_member, shapes_with}
 use Rattle.dutch_bracket.proofs.JoinedPairs.{eligible_candidate}
 use Rattle.dutch_bracket.proofs.ShapeSearch.{fits_by_test, found_in, has, none_in, shape_with}
 

@@ -10,17 +10,10 @@ use Rattle.std.proofs.lemmas.List.{length-map}
 use Rattle.std.proofs.lemmas.List.Folds.{list_any_at}
 use Rattle.std.proofs.lemmas.Bool.{ne_eqb, cases_eq, eq-eqb, or_cases, and_parts, and_from, or_left, or_right, cases_Bool, false_from_ne_true}
 use Rattle.dutch_order.specs.declared.bracket.Shape.{Shape}
-use Rattle.dutch_order.specs.Keys.{IsIn}
+use Rattle.dutch_order.specs.Prelude.{IsIn, Frame, Arrangement, arrangements, is_legal, down}
 use Rattle.dutch_order.proofs.Orders.{IsIn-filter, IsIn-map}
-use Rattle.dutch_order.specs.Arrangements.{Frame, Arrangement, arrangements, is_legal, down}
-use Rattle.dutch_player.specs.Facts.{Facts}
-use Rattle.dutch_bracket.specs.CompletionSearch.{can_cover, left_over, meets_one, nobody, some_partner, takes_one}
-use Rattle.dutch_bracket.specs.Seated.{seat_of, score_at, AllNumbers}
-use Rattle.dutch_bracket.specs.Seats.{seats_meet, seats_may_be_left}
-use Rattle.dutch_bracket.specs.Reached.{Reached, frame_of, numbers_meet, number_may_be_left}
-use Rattle.dutch_bracket.specs.Shapes.{down_from, fits, shapes_with, has_member, first_with}
-use Rattle.dutch_bracket.specs.Brackets.{is_penultimate, completable, downfloaters, candidates_of, eligible}
-use Rattle.dutch_bracket.specs.Takers.{can_go_out}
+use Rattle.dutch_player.specs.Prelude.{Facts}
+use Rattle.dutch_bracket.specs.Prelude.{can_cover, left_over, meets_one, nobody, some_partner, takes_one, seat_of, score_at, AllNumbers, seats_meet, seats_may_be_left, Reached, frame_of, numbers_meet, number_may_be_left, down_from, fits, shapes_with, has_member, first_with, is_penultimate, completable, downfloaters, candidates_of, eligible, can_go_out}
 use Rattle.dutch_bracket.proofs.GhostPairs.{down_count}
 use Rattle.dutch_bracket.proofs.AllPairings.{Picked, complete_by_search, other_first, picked_between, picked_length, picked_parts}
 use Rattle.dutch_bracket.proofs.Partners.{partner_of, partner_serves}

@@ -12,21 +12,12 @@ use Rattle.std.proofs.lemmas.List.{map-append, length-map, nil_from_length}
 use Rattle.std.proofs.lemmas.Map.Lookups.{exact_bytes}
 use Rattle.std.proofs.lemmas.Bool.{eqb-true, or_cases}
 use Rattle.dutch_order.specs.declared.bracket.Shape.{Shape}
-use Rattle.dutch_order.specs.Choices.{numbers_from, is_member}
-use Rattle.dutch_order.specs.Keys.{IsIn}
-use Rattle.dutch_order.specs.Arrangements.{Arrangement, arrangements, down, left_of, remainder_pairs}
+use Rattle.dutch_order.specs.Prelude.{numbers_from, is_member, IsIn, Arrangement, arrangements, down, left_of, remainder_pairs}
 use Rattle.dutch_order.proofs.HalfWalks.{Climbs, Climbs-room}
 use Rattle.dutch_order.proofs.Members.{climbs-filter, filter-climbs, filter-length, length-numbers}
 use Rattle.dutch_order.proofs.ExchangeSets.{numbers-climb}
-use Rattle.dutch_player.specs.Facts.{Facts}
-use Rattle.dutch_bracket.specs.Beginnings.{HasPairsOf, seated_so}
-use Rattle.dutch_bracket.specs.ColourFloors.{residents_down}
-use Rattle.dutch_bracket.specs.NextBracket.{is_lower, IsFlat, quality}
-use Rattle.dutch_bracket.specs.PsdFloors.{repeated, psd_with, IsUniform, is_uniform}
-use Rattle.dutch_bracket.specs.Quality.{highest_first, psd, quality_with}
-use Rattle.dutch_bracket.specs.Reached.{Reached, frame_of, IsOf}
-use Rattle.dutch_bracket.specs.Brackets.{downfloaters, quality_of}
-use Rattle.dutch_bracket.specs.Seated.{seat_of, score_at, all_pairs, difference, difference_down, lowest}
+use Rattle.dutch_player.specs.Prelude.{Facts}
+use Rattle.dutch_bracket.specs.Prelude.{HasPairsOf, seated_so, residents_down, is_lower, IsFlat, quality, repeated, psd_with, IsUniform, is_uniform, highest_first, psd, quality_with, Reached, frame_of, IsOf, downfloaters, quality_of, seat_of, score_at, all_pairs, difference, difference_down, lowest}
 use Rattle.dutch_bracket.proofs.ArrangementParts.{parts_of}
 use Rattle.dutch_bracket.proofs.C08ToC19Fixed.{more_copies}
 use Rattle.dutch_bracket.proofs.Copies.{copies, copies_append}

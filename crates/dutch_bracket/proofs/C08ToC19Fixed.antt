@@ -6,21 +6,14 @@ use Rattle.std.specs.Prelude.{sum_by}
 use Rattle.std.proofs.lemmas.List.{map-append}
 use Rattle.std.proofs.lemmas.List.Elements.{filter-append}
 use Rattle.std.proofs.lemmas.List.Sums.{sum_by-append}
-use Rattle.dutch_order.specs.Arrangements.{Arrangement, down}
-use Rattle.dutch_order.specs.Candidates.{Candidate}
+use Rattle.dutch_order.specs.Prelude.{Arrangement, down, Candidate}
 use Rattle.dutch_player.specs.declared.float.Float.{Float}
 use Rattle.dutch_player.specs.declared.float.Float.TheVariants.{Up, Down}
-use Rattle.dutch_player.specs.Facts.{SeatFacts, Facts}
+use Rattle.dutch_player.specs.Prelude.{SeatFacts, Facts}
 use Rattle.trf16.specs.declared.cell.Colour.{Colour}
 use Rattle.dutch_bracket.specs.declared.seated.Floater.{Floater}
 use Rattle.dutch_bracket.specs.declared.colours_missed.Miss.TheVariants.{Wide, Third}
-use Rattle.dutch_bracket.specs.Beginnings.{HasPairsOf, fixed, seated_so}
-use Rattle.dutch_bracket.specs.Floors.{NotBelow}
-use Rattle.dutch_bracket.specs.NextBracket.{is_lower, quality}
-use Rattle.dutch_bracket.specs.Quality.{again, count_in, count_with_topscorers, differences, has_topscorer, highest_first, misses, quality_with}
-use Rattle.dutch_bracket.specs.Reached.{Reached, frame_of}
-use Rattle.dutch_bracket.specs.Brackets.{downfloaters, quality_of}
-use Rattle.dutch_bracket.specs.Seated.{Seated, all_pairs, by_seats, floats_down, goes_down, goes_up, going_down, going_up, is_uneven, seat_of}
+use Rattle.dutch_bracket.specs.Prelude.{HasPairsOf, fixed, seated_so, NotBelow, is_lower, quality, again, count_in, count_with_topscorers, differences, has_topscorer, highest_first, misses, quality_with, Reached, frame_of, downfloaters, quality_of, Seated, all_pairs, by_seats, floats_down, goes_down, goes_up, going_down, going_up, is_uneven, seat_of}
 use Rattle.dutch_bracket.proofs.Copies.{copies, copies_append, highest_first_copies, highest_first_falls, not_lower}
 use Rattle.dutch_bracket.proofs.FixedPairs.{AddsUp, Beside, beside, none_known}
 use Rattle.dutch_bracket.proofs.PairsWithBeginning.{no_less}

@@ -1,9 +1,9 @@
 -- A candidate by seats has players of the field.
 use Rattle.std.proofs.Common.{◌≡◌, ℕ, zero, suc, ◌+◌, ◌-◌, ◌<◌, ◌≤◌, length, subst, List, [], ◌∷◌, map, sym, arith, length-append}
 use Rattle.std.proofs.lemmas.List.{length-map}
-use Rattle.dutch_order.specs.Candidates.{Candidate}
-use Rattle.dutch_player.specs.Facts.{Facts}
-use Rattle.dutch_bracket.specs.Seated.{IsPair, Seated, seat_of, pairs_of, all_pairs, by_seats, AreSeats, AllPairs, AllNumbers, HasSeats, IsCandidate}
+use Rattle.dutch_order.specs.Prelude.{Candidate}
+use Rattle.dutch_player.specs.Prelude.{Facts}
+use Rattle.dutch_bracket.specs.Prelude.{IsPair, Seated, seat_of, pairs_of, all_pairs, by_seats, AreSeats, AllPairs, AllNumbers, HasSeats, IsCandidate}
 use Rattle.dutch_bracket.proofs.AllLemmas.{all_join}
 
 seat_within : (facts : Facts) (seats : List ℕ) (number : ℕ) → AreSeats facts seats → (0 < number) × (number ≤ length seats)

@@ -2,8 +2,7 @@
 use Rattle.std.proofs.Common.{ℕ, ◌<◌, Bool, true, false, if◌then◌else◌, nat_lt}
 use Rattle.trf16.specs.declared.cell.Colour.{Colour}
 use Rattle.trf16.specs.declared.cell.Colour.TheVariants.{White, Black}
-use Rattle.dutch_player.specs.Facts.{Facts}
-use Rattle.dutch_player.specs.Colours.{with_colour, colour_of_higher, colours}
+use Rattle.dutch_player.specs.Prelude.{Facts, with_colour, colour_of_higher, colours}
 
 with_within : (n a b : ℕ) (colour : Colour) → a < n → b < n → ((with_colour a b colour).0 < n) × ((with_colour a b colour).1 < n)
 with_within n a b White p q = (p, q)

@@ -1,10 +1,9 @@
 -- What a witness and a barrier tell of players who are to be paired out.
 use Rattle.std.proofs.Common.{◌≡◌, ℕ, true, false, List, sym}
 use Rattle.std.proofs.lemmas.Bool.{false_from_ne_true}
-use Rattle.dutch_bracket.specs.Completion.{Completable, can_complete}
-use Rattle.dutch_player.specs.Facts.{Facts}
-use Rattle.dutch_bracket.specs.Seats.{seats_meet, seats_may_be_left}
-use Rattle.dutch_bracket.specs.Brackets.{completable}
+use Rattle.dutch_bracket.specs.Prelude.{can_complete, seats_meet, seats_may_be_left, completable}
+use Rattle.dutch_bracket.specs.Completion.{Completable}
+use Rattle.dutch_player.specs.Prelude.{Facts}
 use Rattle.dutch_bracket.proofs.Covering.{completable_by_test}
 
 -- a witness that was confirmed

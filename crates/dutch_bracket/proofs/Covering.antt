@@ -4,8 +4,8 @@ use Rattle.std.proofs.lemmas.Bool.{or_cases, and_parts, and_from, or_left, or_ri
 use Rattle.std.proofs.lemmas.List.{length-append}
 use Rattle.dutch_bracket.specs.declared.completion.Answer.{Answer}
 use Rattle.dutch_bracket.specs.declared.completion.Answer.TheVariants.{Yes, No, Undecided}
-use Rattle.dutch_bracket.specs.Completion.{Covers, MayBeLeftOut, Completable, can_complete, MatchAnswer, Tells}
-use Rattle.dutch_bracket.specs.CompletionSearch.{some_partner, nobody, can_cover}
+use Rattle.dutch_bracket.specs.Prelude.{can_complete, MatchAnswer, Tells, some_partner, nobody, can_cover}
+use Rattle.dutch_bracket.specs.Completion.{Covers, MayBeLeftOut, Completable}
 use Rattle.dutch_bracket.proofs.AllPairings.{complete_by_search}
 use Rattle.dutch_bracket.proofs.Partners.{partner_of, partner_serves}
 

@@ -1,12 +1,10 @@
 -- Those whom an arrangement leaves over are numbers of the bracket.
 use Rattle.std.proofs.Common.{◌≡◌, ◌<◌, ◌≤◌, ℕ, Bool, not, List, length, arith}
 use Rattle.std.proofs.lemmas.List.{length-map}
-use Rattle.dutch_order.specs.Choices.{is_member, numbers_from}
-use Rattle.dutch_order.specs.Arrangements.{Arrangement, down, paired}
+use Rattle.dutch_order.specs.Prelude.{is_member, numbers_from, Arrangement, down, paired}
 use Rattle.dutch_order.proofs.Members.{filter-length, length-numbers}
-use Rattle.dutch_player.specs.Facts.{Facts}
-use Rattle.dutch_bracket.specs.Reached.{Reached, frame_of}
-use Rattle.dutch_bracket.specs.Seated.{AllNumbers, score_at}
+use Rattle.dutch_player.specs.Prelude.{Facts}
+use Rattle.dutch_bracket.specs.Prelude.{Reached, frame_of, AllNumbers, score_at}
 use Rattle.dutch_bracket.proofs.AllLemmas.{all_filter}
 use Rattle.dutch_bracket.proofs.ArrangementParts.{numbers_within}
 

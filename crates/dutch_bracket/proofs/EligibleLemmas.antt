@@ -1,12 +1,10 @@
 -- The candidates of a shape that can be chosen, one candidate after another.
 use Rattle.std.proofs.Common.{◌≡◌, ℕ, Bool, true, false, cond, List, [], ◌∷◌, filter, refl, ap, ◌∙◌, not, ◌||◌, ◌++◌}
-use Rattle.dutch_order.specs.Arrangements.{Arrangement}
+use Rattle.dutch_order.specs.Prelude.{Arrangement}
 use Rattle.dutch_order.specs.declared.bracket.Shape.{Shape}
 use Rattle.dutch_order.proofs.Lists.{filter-all}
-use Rattle.dutch_player.specs.Facts.{Facts}
-use Rattle.dutch_bracket.specs.Reached.{Reached}
-use Rattle.dutch_bracket.specs.Shapes.{has_member}
-use Rattle.dutch_bracket.specs.Brackets.{candidates_of, eligible, completable, downfloaters, is_penultimate}
+use Rattle.dutch_player.specs.Prelude.{Facts}
+use Rattle.dutch_bracket.specs.Prelude.{Reached, has_member, candidates_of, eligible, completable, downfloaters, is_penultimate}
 use Rattle.dutch_bracket.specs.Eligible.{can_be_chosen}
 
 -- those that can be chosen, by the test of each

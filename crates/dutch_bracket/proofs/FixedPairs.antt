@@ -1,13 +1,9 @@
 -- The pairs of an arrangement are those of a beginning that it has, and others: place by place, and so in every sum.
 use Rattle.std.proofs.Common.{◌≡◌, ℕ, ◌+◌, ◌⊎◌, List, [], ◌∷◌, ◌++◌, length, sum_by, inl, inr, refl, sym, ap, subst, ◌∙◌, arith, append-nil, length-append}
 use Rattle.std.proofs.lemmas.List.Sums.{sum_by-append}
-use Rattle.dutch_order.specs.Arrangements.{Arrangement}
-use Rattle.dutch_order.specs.Keys.{IsIn}
-use Rattle.dutch_order.specs.Prefixes.{GoesOn}
+use Rattle.dutch_order.specs.Prelude.{Arrangement, IsIn, GoesOn}
 use Rattle.dutch_order.proofs.Orders.{IsIn-append, IsIn-back, IsIn-front}
-use Rattle.dutch_bracket.specs.Seated.{seat_of, pairs_of, all_pairs}
-use Rattle.dutch_bracket.specs.Beginnings.{HasPairsOf, LacksEndOfS2r}
-use Rattle.dutch_bracket.specs.ColourFloors.{beyond}
+use Rattle.dutch_bracket.specs.Prelude.{seat_of, pairs_of, all_pairs, HasPairsOf, LacksEndOfS2r, beyond}
 
 pub no_seconds : (seats firsts : List ℕ) → pairs_of seats firsts [] ≡ []
 no_seconds seats [] = refl

@@ -4,16 +4,9 @@ use Rattle.std.specs.Prelude.{slice_index, Some}
 use Rattle.std.proofs.lemmas.List.{get_or-map}
 use Rattle.std.proofs.lemmas.Bool.{cases_lt}
 use Rattle.dutch_order.specs.declared.bracket.Shape.{Shape}
-use Rattle.dutch_order.specs.Keys.{IsIn}
-use Rattle.dutch_order.specs.Limbo.{IsNonAscending}
-use Rattle.dutch_order.specs.Candidates.{Candidate}
-use Rattle.dutch_order.specs.Arrangements.{Frame, Arrangement, candidates, arrangements, is_legal, down}
-use Rattle.dutch_player.specs.Facts.{Facts}
-use Rattle.dutch_bracket.specs.Seated.{seat_of, score_at, lowest, by_seats, AllNumbers, IsCandidate}
-use Rattle.dutch_bracket.specs.Reached.{Reached, frame_of, numbers_meet, number_may_be_left, IsOf}
-use Rattle.dutch_bracket.specs.Quality.{NextValue, psd}
-use Rattle.dutch_bracket.specs.Shapes.{IsFirst, greatest_shape}
-use Rattle.dutch_bracket.specs.NextBracket.{legal_in, psd_in, value_of_shape, IsFlat}
+use Rattle.dutch_order.specs.Prelude.{IsIn, IsNonAscending, Candidate, Frame, Arrangement, candidates, arrangements, is_legal, down}
+use Rattle.dutch_player.specs.Prelude.{Facts}
+use Rattle.dutch_bracket.specs.Prelude.{seat_of, score_at, lowest, by_seats, AllNumbers, IsCandidate, Reached, frame_of, numbers_meet, number_may_be_left, IsOf, NextValue, psd, IsFirst, greatest_shape, legal_in, psd_in, value_of_shape, IsFlat}
 use Rattle.dutch_bracket.proofs.ArrangementParts.{parts_of, Residents}
 use Rattle.dutch_bracket.proofs.Everybody.{how_many}
 use Rattle.dutch_bracket.proofs.PsdParts.{OneScore}

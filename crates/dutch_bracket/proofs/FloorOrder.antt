@@ -7,16 +7,10 @@ use Rattle.std.specs.declared.cmp.Ordering.TheVariants.{Less, Equal, Greater}
 use Rattle.std.specs.Ordering.{nat_cmp, is_lt, ordering_then}
 use Rattle.std.specs.Cmp.Lexicographic.{slice_cmp}
 use Rattle.std.proofs.lemmas.Cmp.{ranked, by_ranked}
-use Rattle.dutch_order.specs.Arrangements.{Arrangement}
-use Rattle.dutch_player.specs.Facts.{Facts}
+use Rattle.dutch_order.specs.Prelude.{Arrangement}
+use Rattle.dutch_player.specs.Prelude.{Facts}
 use Rattle.dutch_bracket.specs.declared.colours_missed.Miss.TheVariants.{Wide, Third, Preference, StrongPreference}
-use Rattle.dutch_bracket.specs.Beginnings.{HasPairsOf, seated_so}
-use Rattle.dutch_bracket.specs.Floors.{IsFloor, floor_over, floor_with}
-use Rattle.dutch_bracket.specs.NextBracket.{is_lower}
-use Rattle.dutch_bracket.specs.Quality.{Quality, NextValue, misses, count_in_pairs, count_with_topscorers, is_better, quality_with}
-use Rattle.dutch_bracket.specs.Reached.{Reached}
-use Rattle.dutch_bracket.specs.Brackets.{downfloaters, quality_of}
-use Rattle.dutch_bracket.specs.Seated.{all_pairs}
+use Rattle.dutch_bracket.specs.Prelude.{HasPairsOf, seated_so, IsFloor, floor_over, floor_with, is_lower, Quality, NextValue, misses, count_in_pairs, count_with_topscorers, is_better, quality_with, Reached, downfloaters, quality_of, all_pairs}
 use Rattle.dutch_bracket.proofs.C08ToC19Fixed.{least_of_known}
 use Rattle.dutch_bracket.proofs.FixedPairs.{Beside, beside, none_known}
 use Rattle.dutch_bracket.proofs.InTurn.{better_in_turn, compared_by_colours, compared_by_floats, compared_by_differences}

@@ -6,13 +6,10 @@ use Rattle.std.specs.List.{list_any}
 use Rattle.std.proofs.lemmas.List.Folds.{list_any_at}
 use Rattle.std.proofs.lemmas.Bool.{leb-true, leb-false}
 use Rattle.dutch_order.specs.declared.bracket.Shape.{Shape}
-use Rattle.dutch_order.specs.Keys.{IsIn}
-use Rattle.dutch_order.specs.Arrangements.{Frame, Arrangement, arrangements, down}
-use Rattle.dutch_player.specs.Facts.{Facts}
-use Rattle.dutch_player.specs.Meetings.{may_meet}
+use Rattle.dutch_order.specs.Prelude.{IsIn, Frame, Arrangement, arrangements, down}
+use Rattle.dutch_player.specs.Prelude.{Facts, may_meet}
 use Rattle.dutch_player.proofs.LawLemmas.{meeting_sym}
-use Rattle.dutch_bracket.specs.Seated.{seat_of, AllNumbers}
-use Rattle.dutch_bracket.specs.Ghosts.{ghost_pair, may_bye}
+use Rattle.dutch_bracket.specs.Prelude.{seat_of, AllNumbers, ghost_pair, may_bye}
 use Rattle.dutch_bracket.proofs.ArrangementParts.{parts_of}
 use Rattle.dutch_bracket.proofs.Everybody.{how_many}
 

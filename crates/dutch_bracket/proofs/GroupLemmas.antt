@@ -3,10 +3,8 @@ use Rattle.std.proofs.Common.{◌≡◌, ℕ, suc, ◌+◌, Bool, true, false, �
 use Rattle.std.specs.List.{concat}
 use Rattle.std.proofs.lemmas.Bool.Decides.{nat_tests}
 use Rattle.std.proofs.lemmas.Bool.{eqb-true}
-use Rattle.dutch_player.specs.Facts.{Facts}
-use Rattle.dutch_bracket.specs.Seated.{score_at}
-use Rattle.dutch_bracket.specs.Brackets.{onto_group, first_group, scoregroups}
-use Rattle.dutch_bracket.specs.Groups.{front_with}
+use Rattle.dutch_player.specs.Prelude.{Facts}
+use Rattle.dutch_bracket.specs.Prelude.{score_at, onto_group, first_group, scoregroups, front_with}
 
 swap_of : (a b : ℕ) (t : Bool) → (a == b) ≡ t → (b == a) ≡ t
 swap_of a b true h = grind (arith, nat_tests)

@@ -8,7 +8,7 @@ use Rattle.std.specs.Ordering.{nat_cmp, on, then_cmp, flip_args, is_lt, is_ne, o
 use Rattle.std.specs.Cmp.Lexicographic.{slice_cmp}
 use Rattle.dutch_bracket.specs.declared.item.Item.{Item}
 use Rattle.dutch_bracket.specs.declared.item.Item.TheVariants.{Psd, WideDifferences, ThirdColours, MissedPreferences, MissedStrong, DownAgain, UpAgain, DownAgainBefore, UpAgainBefore, DownAgainBy, UpAgainBy, DownAgainBeforeBy, UpAgainBeforeBy}
-use Rattle.dutch_bracket.specs.Quality.{Quality, all_items, compared_in, first_that_differs, is_better}
+use Rattle.dutch_bracket.specs.Prelude.{Quality, all_items, compared_in, first_that_differs, is_better}
 
 -- by a number first, and then by something else
 abbrev pub number_then : (Quality → ℕ) → (Quality → Quality → Ordering) → Quality → Quality → Ordering

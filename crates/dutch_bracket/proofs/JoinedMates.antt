@@ -9,17 +9,11 @@ use Rattle.std.proofs.lemmas.List.Elements.{All-head, All-tail}
 use Rattle.std.proofs.lemmas.Option.{slice_get_within}
 use Rattle.matching.specs.Matchings.{Gives, IsPair, IsMatching}
 use Rattle.dutch_order.specs.declared.bracket.Shape.{Shape}
-use Rattle.dutch_order.specs.Choices.{numbers_from}
-use Rattle.dutch_order.specs.Forms.{IsMovedDown}
-use Rattle.dutch_order.specs.Keys.{IsIn}
+use Rattle.dutch_order.specs.Prelude.{numbers_from, IsMovedDown, IsIn, Frame, Fits, candidates}
 use Rattle.dutch_order.proofs.FoundPaths.{in-numbers}
-use Rattle.dutch_order.specs.Arrangements.{Frame, Fits, candidates}
-use Rattle.dutch_player.specs.Facts.{Facts}
-use Rattle.dutch_bracket.specs.Reached.{Reached, IsOf, ends_round, frame_of, numbers_meet, number_may_be_left}
-use Rattle.dutch_bracket.specs.Brackets.{candidates_of, eligible, is_penultimate, shape_of}
-use Rattle.dutch_bracket.specs.Seated.{score_at}
-use Rattle.dutch_bracket.specs.Shapes.{IsGreater, has_member}
-use Rattle.dutch_bracket.specs.Joins.{AreMatched, Joins, IsMost, go_together, is_matched, is_matched_at, joined, joins_of_all, mate_at, mate_of, matched_shape, may_pair, takes_bye, vertices}
+use Rattle.dutch_player.specs.Prelude.{Facts}
+use Rattle.dutch_bracket.specs.Prelude.{Reached, IsOf, ends_round, frame_of, numbers_meet, number_may_be_left, candidates_of, eligible, is_penultimate, shape_of, score_at, IsGreater, has_member, AreMatched, Joins, IsMost, go_together, is_matched, is_matched_at, joins_of_all, mate_at, mate_of, matched_shape, may_pair, takes_bye}
+use Rattle.dutch_bracket.specs.Joins.{joined, vertices}
 use Rattle.dutch_bracket.proofs.EligibleLemmas.{eligible_all}
 use Rattle.dutch_bracket.proofs.JoinedPairs.{eligible_candidate}
 use Rattle.dutch_bracket.proofs.MateLists.{IsNumber, NumberMates, mates_candidate, mates_fit, mates_open, mates_shape}

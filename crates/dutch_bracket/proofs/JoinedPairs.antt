@@ -5,24 +5,17 @@ use Rattle.std.proofs.lemmas.Bool.Decides.{nat_tests}
 use Rattle.std.proofs.lemmas.List.{length-map, length-append}
 use Rattle.std.proofs.lemmas.List.Elements.{All-nil, All-cons}
 use Rattle.std.proofs.lemmas.List.Sums.{sum_by-cons, sum_by-append}
-use Rattle.dual.specs.Matchings.{in_both, MakeUp}
+use Rattle.dual.specs.Prelude.{in_both, MakeUp}
 use Rattle.dual.proofs.Sums.{sum_of_ones, sum_of_twos}
 use Rattle.dutch_order.specs.declared.bracket.Shape.{Shape}
-use Rattle.dutch_order.specs.Choices.{numbers_from, all_meet}
-use Rattle.dutch_order.specs.Keys.{IsIn}
-use Rattle.dutch_order.specs.Forms.{by_place, IsMovedDown, IsResident}
-use Rattle.dutch_order.specs.Arrangements.{Frame, Arrangement, left_of, residents_of}
+use Rattle.dutch_order.specs.Prelude.{numbers_from, all_meet, IsIn, by_place, IsMovedDown, IsResident, Frame, Arrangement, left_of, residents_of}
 use Rattle.dutch_order.proofs.CursorSets.{AreLists}
 use Rattle.dutch_order.proofs.FormArrangements.{lists-in, in-moved_down, in-residents}
 use Rattle.dutch_order.proofs.Members.{length-numbers, numbers-append}
 use Rattle.dutch_order.proofs.NoneTwice.{in-left, places-count}
-use Rattle.dutch_player.specs.Facts.{Facts}
-use Rattle.dutch_bracket.specs.Reached.{Reached, frame_of, numbers_meet}
-use Rattle.dutch_bracket.specs.Brackets.{candidates_of, eligible}
+use Rattle.dutch_player.specs.Prelude.{Facts}
+use Rattle.dutch_bracket.specs.Prelude.{Reached, frame_of, numbers_meet, candidates_of, eligible, score_at, has_member, Joins, AreAtMost, IsMost, go_together, may_pair}
 use Rattle.dutch_bracket.specs.Eligible.{can_be_chosen}
-use Rattle.dutch_bracket.specs.Seated.{score_at}
-use Rattle.dutch_bracket.specs.Shapes.{has_member}
-use Rattle.dutch_bracket.specs.Joins.{Joins, AreAtMost, IsMost, go_together, may_pair}
 use Rattle.dutch_bracket.proofs.ArrangementParts.{FourLists, lists_of, residents_whole, subset_whole, numbers_rise}
 use Rattle.dutch_bracket.proofs.EligibleLemmas.{eligible_is}
 use Rattle.dutch_bracket.proofs.LeastPsd.{in_filter}

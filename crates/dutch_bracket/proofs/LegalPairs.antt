@@ -4,14 +4,9 @@ use Rattle.std.specs.Prelude.{filter}
 use Rattle.std.specs.List.{AllByRecursion}
 use Rattle.std.proofs.lemmas.Bool.{and_parts}
 use Rattle.dutch_order.specs.declared.bracket.Shape.{Shape}
-use Rattle.dutch_order.specs.Choices.{all_meet}
-use Rattle.dutch_order.specs.Keys.{IsIn}
-use Rattle.dutch_order.specs.Arrangements.{Arrangement, arrangements, is_legal}
-use Rattle.dutch_player.specs.Facts.{Facts}
-use Rattle.dutch_player.specs.Meetings.{may_meet}
-use Rattle.dutch_bracket.specs.Seated.{seat_of, pairs_of, all_pairs}
-use Rattle.dutch_bracket.specs.Reached.{Reached, frame_of, is_number, numbers_meet, number_may_be_left}
-use Rattle.dutch_bracket.specs.Brackets.{candidates_of}
+use Rattle.dutch_order.specs.Prelude.{all_meet, IsIn, Arrangement, arrangements, is_legal}
+use Rattle.dutch_player.specs.Prelude.{Facts, may_meet}
+use Rattle.dutch_bracket.specs.Prelude.{seat_of, pairs_of, all_pairs, Reached, frame_of, is_number, numbers_meet, number_may_be_left, candidates_of}
 use Rattle.dutch_bracket.proofs.AllLemmas.{all_join}
 use Rattle.dutch_bracket.proofs.FixedPairs.{Beside}
 use Rattle.dutch_order.proofs.Orders.{IsIn-filter, all_members, member_has}

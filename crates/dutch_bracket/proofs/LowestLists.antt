@@ -1,9 +1,7 @@
 -- The lowest of some lists is one of them.
 use Rattle.std.proofs.Common.{◌≡◌, ℕ, true, false, List, [], ◌∷◌, map, cond, inl, inr, refl}
-use Rattle.dutch_order.specs.Arrangements.{Arrangement}
-use Rattle.dutch_order.specs.Keys.{IsIn}
-use Rattle.dutch_bracket.specs.NextBracket.{is_lower, lowest_list, lowest_list_upto}
-use Rattle.dutch_bracket.specs.Shapes.{has_member}
+use Rattle.dutch_order.specs.Prelude.{Arrangement, IsIn}
+use Rattle.dutch_bracket.specs.Prelude.{is_lower, lowest_list, lowest_list_upto, has_member}
 
 -- a list is that of one of some arrangements
 pub record IsOneOfThem (f : Arrangement → List ℕ) (all : List Arrangement) (low : List ℕ) : Type 0 where

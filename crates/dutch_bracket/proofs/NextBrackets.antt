@@ -7,17 +7,13 @@ use Rattle.std.proofs.lemmas.List.{length-map, get_or-map, map-append, get_or_ap
 use Rattle.std.proofs.lemmas.List.Kept.{IsStrictlyIncreasing-filter}
 use Rattle.std.proofs.lemmas.Simd.{map-map}
 use Rattle.std.proofs.lemmas.Bool.{cases_lt}
-use Rattle.dutch_order.specs.Choices.{numbers_from, is_member}
-use Rattle.dutch_order.specs.Candidates.{Candidate}
-use Rattle.dutch_order.specs.Arrangements.{paired}
+use Rattle.dutch_order.specs.Prelude.{numbers_from, is_member, Candidate, paired}
 use Rattle.dutch_order.proofs.Counts.{numbers-rise}
 use Rattle.dutch_order.proofs.Orders.{Rises, Rises-from}
 use Rattle.dutch_order.proofs.Turns.{at_index}
-use Rattle.dutch_player.specs.Facts.{Facts}
+use Rattle.dutch_player.specs.Prelude.{Facts}
 use Rattle.dutch_bracket.specs.declared.reached.BracketKind.TheVariants.{Ordinary}
-use Rattle.dutch_bracket.specs.Seated.{seat_of, score_at, AreSeats, AllNumbers}
-use Rattle.dutch_bracket.specs.Reached.{Reached, frame_of, IsOf}
-use Rattle.dutch_bracket.specs.NextBracket.{next_bracket, IsFlat, IsOfBracket, AreLeft, IsNext}
+use Rattle.dutch_bracket.specs.Prelude.{seat_of, score_at, AreSeats, AllNumbers, Reached, frame_of, IsOf, next_bracket, IsFlat, IsOfBracket, AreLeft, IsNext}
 use Rattle.dutch_bracket.proofs.AllLemmas.{all_at, all_join}
 use Rattle.dutch_bracket.proofs.CandidateSeats.{all_within}
 use Rattle.dutch_bracket.proofs.DownLemmas.{down_numbers}

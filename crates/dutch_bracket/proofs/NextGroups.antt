@@ -2,15 +2,9 @@
 use Rattle.std.proofs.Common.{◌≡◌, ℕ, zero, suc, ◌<◌, Bool, true, false, ◌==◌, cond, List, [], ◌∷◌, length, take, get_or, refl, sym, ap, ◌∙◌, subst, arith}
 use Rattle.std.proofs.lemmas.List.{length-take}
 use Rattle.std.proofs.lemmas.Bool.{eqb-true}
-use Rattle.dutch_order.specs.Arrangements.{down}
-use Rattle.dutch_order.specs.Candidates.{Candidate}
-use Rattle.dutch_player.specs.Facts.{Facts}
-use Rattle.dutch_bracket.specs.Seated.{score_at}
-use Rattle.dutch_bracket.specs.Reached.{Reached, IsAbove, frame_of}
-use Rattle.dutch_bracket.specs.Quality.{Quality}
-use Rattle.dutch_bracket.specs.Groups.{front_with}
-use Rattle.dutch_bracket.specs.Brackets.{first_group, scoregroups, quality_of}
-use Rattle.dutch_bracket.specs.NextBracket.{IsNext, quality}
+use Rattle.dutch_order.specs.Prelude.{down, Candidate}
+use Rattle.dutch_player.specs.Prelude.{Facts}
+use Rattle.dutch_bracket.specs.Prelude.{score_at, Reached, IsAbove, frame_of, Quality, front_with, first_group, scoregroups, quality_of, IsNext, quality}
 use Rattle.dutch_bracket.proofs.GroupLemmas.{first_group_is}
 
 -- the seat at a place of a front has the score, and is that at the same place of all

@@ -4,13 +4,10 @@ use Rattle.std.specs.Option.{option_map_or}
 use Rattle.trf16.specs.declared.cell.Colour.{Colour}
 use Rattle.trf16.specs.declared.cell.Colour.TheVariants.{White, Black}
 use Rattle.dutch_player.specs.declared.preference.Pref.{Pref}
-use Rattle.dutch_player.specs.Preferences.{other, is_same, preference}
-use Rattle.dutch_player.specs.Facts.{Facts, SeatFacts, seat_at}
-use Rattle.dutch_player.specs.Colours.{granted, with_colour, colour_of_higher, colours}
+use Rattle.dutch_player.specs.Prelude.{other, is_same, preference, Facts, SeatFacts, seat_at, granted, with_colour, colour_of_higher, colours}
 use Rattle.dutch_player.proofs.LawLemmas.{granted-pair, same_comm}
 use Rattle.dutch_bracket.specs.declared.colours_missed.Miss.TheVariants.{Preference, StrongPreference}
-use Rattle.dutch_bracket.specs.Quality.{one_if, is_strong, misses, count_of_both, count_in}
-use Rattle.dutch_bracket.specs.ColourFloors.{collide}
+use Rattle.dutch_bracket.specs.Prelude.{one_if, is_strong, misses, count_of_both, count_in, collide}
 
 -- a colour is not that of a preference
 abbrev unmet : Option Pref → Colour → Bool

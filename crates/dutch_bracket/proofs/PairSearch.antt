@@ -8,8 +8,7 @@ use Rattle.dutch_order.specs.declared.steps.Budget.{Budget}
 use Rattle.dutch_bracket.specs.declared.completion.Answer.{Answer}
 use Rattle.dutch_bracket.specs.declared.completion.Answer.TheVariants.{Yes, No, Undecided}
 use Rattle.dutch_bracket.specs.declared.completion.Spare.{Spare}
-use Rattle.dutch_bracket.specs.Completion.{most_of_bye, most_of_one, most_taking}
-use Rattle.dutch_bracket.specs.CompletionSearch.{Searched, can_cover, can_go, left_over, meets_one, nobody, some_partner, takes_one}
+use Rattle.dutch_bracket.specs.Prelude.{most_of_bye, most_of_one, most_taking, Searched, can_cover, can_go, left_over, meets_one, nobody, some_partner, takes_one}
 use Rattle.dutch_bracket.proofs.Turned.{brought, swap-turned, turned}
 
 -- No at once

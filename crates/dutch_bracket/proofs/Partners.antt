@@ -1,7 +1,7 @@
 -- The first player's partner in the search of completable players.
 use Rattle.std.proofs.Common.{◌≡◌, ℕ, Bool, true, ◌&&◌, inl, inr, List, [], ◌∷◌, ◌++◌, refl, ◌∙◌, ap, subst, append_assoc}
 use Rattle.std.proofs.lemmas.Bool.{or_cases, and_parts, and_from, or_left, or_right}
-use Rattle.dutch_bracket.specs.CompletionSearch.{some_partner}
+use Rattle.dutch_bracket.specs.Prelude.{some_partner}
 
 -- what a partner that serves is found by
 pub record IsPartner (meets : ℕ → Bool) (holds : List ℕ → Bool) (players : List ℕ) : Type 0 where

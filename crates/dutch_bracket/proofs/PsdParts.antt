@@ -8,16 +8,12 @@ use Rattle.std.proofs.lemmas.Simd.{map-map}
 use Rattle.std.proofs.lemmas.Bool.{ne_eqb}
 use Rattle.std.proofs.Math.Bool.{or-false}
 use Rattle.dutch_order.proofs.Lists.{filter-all}
-use Rattle.dutch_order.specs.Choices.{numbers_from, is_member}
-use Rattle.dutch_order.specs.Arrangements.{Frame, Arrangement, left_of, paired, down}
+use Rattle.dutch_order.specs.Prelude.{numbers_from, is_member, Frame, Arrangement, left_of, paired, down}
 use Rattle.dutch_order.proofs.HalfWalks.{Climbs}
 use Rattle.dutch_order.proofs.Members.{filter-numbers, numbers-append}
 use Rattle.dutch_order.proofs.Counts.{left-append, member-append}
-use Rattle.dutch_player.specs.Facts.{Facts}
-use Rattle.dutch_bracket.specs.Seated.{seat_of, score_at, pairs_of, all_pairs, lowest, difference, difference_down}
-use Rattle.dutch_bracket.specs.Reached.{Reached, frame_of}
-use Rattle.dutch_bracket.specs.Quality.{one_if}
-use Rattle.dutch_bracket.specs.PsdFloors.{repeated}
+use Rattle.dutch_player.specs.Prelude.{Facts}
+use Rattle.dutch_bracket.specs.Prelude.{seat_of, score_at, pairs_of, all_pairs, lowest, difference, difference_down, Reached, frame_of, one_if, repeated}
 use Rattle.dutch_bracket.proofs.Copies.{copies, copies_append}
 use Rattle.dutch_bracket.proofs.ArrangementParts.{Parts, Residents, not_member, numbers_within}
 

@@ -7,10 +7,10 @@ use Rattle.std.specs.Cmp.{IsTotalOrder}
 use Rattle.std.specs.Cmp.Lexicographic.{slice_cmp}
 use Rattle.std.proofs.lemmas.Cmp.{then_total, on_total, back_total, nat_cmp_total, nat_list_cmp_total, tied_itself}
 pub use Rattle.dutch_order.proofs.Comparing.{both_tied, numbers_tied, lists_tied}
-use Rattle.dutch_order.specs.Keys.{IsIn}
+use Rattle.dutch_order.specs.Prelude.{IsIn}
 use Rattle.dutch_bracket.specs.declared.item.Item.{Item}
 use Rattle.dutch_bracket.specs.declared.item.Item.TheVariants.{Psd, NextBracket, WideDifferences, ThirdColours, MissedPreferences, MissedStrong, DownAgain, UpAgain, DownAgainBefore, UpAgainBefore, DownAgainBy, UpAgainBy, DownAgainBeforeBy, UpAgainBeforeBy}
-use Rattle.dutch_bracket.specs.Quality.{Quality, all_items, compared_in, is_better}
+use Rattle.dutch_bracket.specs.Prelude.{Quality, all_items, compared_in, is_better}
 use Rattle.dutch_bracket.proofs.InTurn.{better_in_turn, compared_in_turn, in_turn, number_then, list_then, compared, compared_by_colours, compared_by_floats, compared_by_differences}
 
 number_total : (item : Quality → ℕ) {others : Quality → Quality → Ordering} → IsTotalOrder others → IsTotalOrder (number_then item others)

@@ -4,15 +4,11 @@ use Rattle.std.specs.List.{list_all}
 use Rattle.std.proofs.lemmas.Bool.{leb-true, and_parts}
 use Rattle.std.proofs.lemmas.List.{length-map}
 use Rattle.dutch_order.specs.declared.bracket.Shape.{Shape}
-use Rattle.dutch_order.specs.Arrangements.{Arrangement, Fits, remainder_pairs}
-use Rattle.dutch_order.specs.Choices.{numbers_from}
+use Rattle.dutch_order.specs.Prelude.{Arrangement, Fits, remainder_pairs, numbers_from}
 use Rattle.dutch_order.proofs.Members.{length-numbers}
 use Rattle.dutch_order.specs.declared.numbers.TheConstants.{LIMIT}
-use Rattle.dutch_player.specs.Facts.{Facts}
-use Rattle.dutch_bracket.specs.Reached.{Reached, IsOf, is_number, frame_of}
-use Rattle.dutch_bracket.specs.Seated.{score_at, AllNumbers}
-use Rattle.dutch_bracket.specs.ColourFloors.{residents_down}
-use Rattle.dutch_bracket.specs.Beginnings.{HasNumbers, are_numbers, is_of_shape}
+use Rattle.dutch_player.specs.Prelude.{Facts}
+use Rattle.dutch_bracket.specs.Prelude.{Reached, IsOf, is_number, frame_of, score_at, AllNumbers, residents_down, HasNumbers, are_numbers, is_of_shape}
 use Rattle.dutch_bracket.proofs.ArrangementParts.{numbers_within}
 
 all_numbers : (reached : Reached) (numbers : List ℕ) → are_numbers reached numbers ≡ true → AllNumbers reached.seats numbers

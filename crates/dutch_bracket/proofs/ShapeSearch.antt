@@ -3,10 +3,8 @@ use Rattle.std.proofs.Common.{◌≡◌, ℕ, zero, suc, ◌+◌, ◌-◌, ◌*�
 use Rattle.std.specs.Prelude.{flat_map}
 use Rattle.std.proofs.lemmas.Bool.Decides.{nat_tests}
 use Rattle.dutch_order.specs.declared.bracket.Shape.{Shape}
-use Rattle.dutch_order.specs.Arrangements.{Frame, Arrangement, Fits, remainder_pairs}
-use Rattle.dutch_order.specs.Candidates.{Candidate}
-use Rattle.dutch_order.specs.Keys.{IsIn}
-use Rattle.dutch_bracket.specs.Shapes.{IsFirst, down_from, fits, shapes_with, has_member, first_with}
+use Rattle.dutch_order.specs.Prelude.{Frame, Arrangement, Fits, remainder_pairs, Candidate, IsIn}
+use Rattle.dutch_bracket.specs.Prelude.{IsFirst, down_from, fits, shapes_with, has_member, first_with}
 use Rattle.std.proofs.lemmas.Bool.{and_parts}
 
 not_below : (a b : ℕ) → not (nat_lt a b) ≡ true → b ≤ a

@@ -2,18 +2,14 @@
 use Rattle.std.proofs.Common.{◌≡◌, ℕ, Bool, true, false, true≢false, not, ◌||◌, List, ◌++◌, map, Result, Ok, Err, sym, subst}
 use Rattle.std.specs.Result.{IsErr}
 use Rattle.std.proofs.lemmas.Bool.{false_from_ne_true}
-use Rattle.dutch_order.specs.Arrangements.{Arrangement, down}
-use Rattle.dutch_order.specs.Steps.{MatchDrawn}
+use Rattle.dutch_order.specs.Prelude.{Arrangement, down, MatchDrawn}
 use Rattle.dutch_order.specs.declared.steps.Stopped.{Stopped}
-use Rattle.dutch_player.specs.Facts.{Facts}
+use Rattle.dutch_player.specs.Prelude.{Facts}
 use Rattle.dutch_bracket.specs.declared.completion.Answer.{Answer}
 use Rattle.dutch_bracket.specs.declared.completion.Answer.TheVariants.{Yes, No, Undecided}
-use Rattle.dutch_bracket.specs.Completion.{Completable, can_complete, MatchAnswer, Tells}
-use Rattle.dutch_bracket.specs.Reached.{Reached, frame_of}
-use Rattle.dutch_bracket.specs.Seated.{seat_of}
-use Rattle.dutch_bracket.specs.Brackets.{is_penultimate, completable, downfloaters}
+use Rattle.dutch_bracket.specs.Prelude.{can_complete, MatchAnswer, Tells, Reached, frame_of, seat_of, is_penultimate, completable, downfloaters, Decides}
+use Rattle.dutch_bracket.specs.Completion.{Completable}
 use Rattle.dutch_bracket.specs.Eligible.{can_be_chosen}
-use Rattle.dutch_bracket.specs.Stops.{Decides}
 use Rattle.dutch_bracket.proofs.Covering.{completable_by_test}
 
 pub decided_by : (answer : Answer) (decided : Result Bool Stopped) (test : Bool) (old new : Type 0) → (old → new)

@@ -1,18 +1,9 @@
 -- Where all S1 of a shape give one PSD, that is the value of the bracket, and no arrangement of it is looked for (C.04.3 C.7).
 use Rattle.std.proofs.Common.{◌≡◌, ◌+◌, ℕ, true, List, [], Some, refl, sym, ap, ◌∙◌}
 use Rattle.dutch_order.specs.declared.bracket.Shape.{Shape}
-use Rattle.dutch_order.specs.Arrangements.{Arrangement, arrangements, is_legal}
-use Rattle.dutch_order.specs.Choices.{numbers_from}
-use Rattle.dutch_order.specs.Keys.{IsIn}
-use Rattle.dutch_player.specs.Facts.{Facts}
-use Rattle.dutch_bracket.specs.PsdFloors.{is_uniform, psd_with}
-use Rattle.dutch_bracket.specs.Joins.{IsAlwaysShape}
-use Rattle.dutch_bracket.specs.NextBracket.{IsFlat, legal_in, psd_in, quality, value_of, value_of_shape}
-use Rattle.dutch_bracket.specs.Quality.{NextValue, quality_with}
-use Rattle.dutch_bracket.specs.Reached.{IsOf, Reached, frame_of, number_may_be_left, numbers_meet}
-use Rattle.dutch_bracket.specs.Brackets.{quality_of}
-use Rattle.dutch_bracket.specs.Seated.{score_at, seat_of}
-use Rattle.dutch_bracket.specs.Shapes.{greatest_shape, shapes}
+use Rattle.dutch_order.specs.Prelude.{Arrangement, arrangements, is_legal, numbers_from, IsIn}
+use Rattle.dutch_player.specs.Prelude.{Facts}
+use Rattle.dutch_bracket.specs.Prelude.{is_uniform, psd_with, IsAlwaysShape, IsFlat, legal_in, psd_in, quality, value_of, value_of_shape, NextValue, quality_with, IsOf, Reached, frame_of, number_may_be_left, numbers_meet, quality_of, score_at, seat_of, greatest_shape, shapes}
 use Rattle.dutch_bracket.proofs.AlwaysShapes.{always_greatest}
 use Rattle.dutch_bracket.proofs.C06Psd.{psd_of_all, uniform_of}
 use Rattle.dutch_bracket.proofs.LeastPsd.{in_filter}

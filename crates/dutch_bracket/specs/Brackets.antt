@@ -1,9 +1,9 @@
 -- A bracket of a round and the choice in it, above all lower seats (C.04.3 A.3, A.9, B.8).
 use Rattle.std.specs.Prelude.{ℕ, Bool, true, false, not, ◌||◌, ◌==◌, if◌then◌else◌, List, [], ◌∷◌, ◌++◌, map, filter, length, Option, Some}
 use Rattle.dutch_order.specs.declared.bracket.Shape.{Shape}
-use Rattle.dutch_order.specs.Arrangements.{Arrangement, candidates, down}
+use Rattle.dutch_order.specs.Prelude.{Arrangement, candidates, down}
 use Rattle.dutch_order.specs.Cursors.{◌>>=◌}
-use Rattle.dutch_player.specs.Facts.{Facts}
+use Rattle.dutch_player.specs.Prelude.{Facts}
 use Rattle.dutch_bracket.specs.declared.reached.BracketKind.{BracketKind}
 use Rattle.dutch_bracket.specs.declared.reached.BracketKind.TheVariants.{Ordinary, Last, Penultimate, Collapsed}
 use Rattle.dutch_bracket.specs.Reached.{Reached, frame_of, numbers_meet, number_may_be_left}

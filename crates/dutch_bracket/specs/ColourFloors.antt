@@ -5,12 +5,11 @@ use Rattle.std.specs.Option.{option_map_or}
 use Rattle.trf16.specs.declared.cell.Colour.{Colour}
 use Rattle.trf16.specs.declared.cell.Colour.TheVariants.{White, Black}
 use Rattle.dutch_order.specs.declared.bracket.Shape.{Shape}
-use Rattle.dutch_order.specs.Arrangements.{Arrangement, left_of, residents_of, remainder_pairs}
+use Rattle.dutch_order.specs.Prelude.{Arrangement, left_of, residents_of, remainder_pairs}
 use Rattle.dutch_player.specs.declared.preference.Pref.{Pref}
 use Rattle.dutch_player.specs.declared.preference.Strength.{Strength}
 use Rattle.dutch_player.specs.declared.preference.Strength.TheVariants.{Absolute, Strong, Mild}
-use Rattle.dutch_player.specs.Preferences.{is_same, preference}
-use Rattle.dutch_player.specs.Facts.{Facts, seat_at}
+use Rattle.dutch_player.specs.Prelude.{is_same, preference, Facts, seat_at}
 use Rattle.dutch_bracket.specs.declared.colours_missed.Miss.TheVariants.{Wide, Third, Preference}
 use Rattle.dutch_bracket.specs.Quality.{one_if, misses, count_in, count_with_topscorers}
 use Rattle.dutch_bracket.specs.Reached.{Reached, frame_of, numbers_meet}

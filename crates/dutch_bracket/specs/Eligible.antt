@@ -1,10 +1,9 @@
 -- Which candidates of a bracket can be chosen, as a test of each (C.04.3 C.4).
 use Rattle.std.specs.Prelude.{◌≡◌, ℕ, true, List}
-use Rattle.dutch_order.specs.Arrangements.{Fits}
-use Rattle.dutch_order.specs.Listings.{Listing}
+use Rattle.dutch_order.specs.Prelude.{Fits, Listing}
 use Rattle.dutch_bracket.specs.declared.reached.ByNumber.{ByNumber}
 use Rattle.dutch_order.specs.declared.bracket.Shape.{Shape}
-use Rattle.dutch_player.specs.Facts.{Facts}
+use Rattle.dutch_player.specs.Prelude.{Facts}
 use Rattle.dutch_bracket.specs.Reached.{Reached, frame_of}
 use Rattle.dutch_bracket.specs.Brackets.{eligible}
 use Rattle.dutch_bracket.specs.Shapes.{has_member}

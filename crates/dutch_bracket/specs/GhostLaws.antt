@@ -2,8 +2,7 @@
 use Rattle.std.proofs.Common.{◌≡◌, ℕ, ◌+◌, ◌-◌, Bool, true, false, not, ◌&&◌, ◌||◌, nat_le, cond, List, length, refl, ap, ◌∙◌}
 use Rattle.std.specs.Prelude.{◌==◌}
 use Rattle.std.proofs.Math.Bool.{and_comm}
-use Rattle.dutch_player.specs.Facts.{Facts}
-use Rattle.dutch_player.specs.Meetings.{may_meet}
+use Rattle.dutch_player.specs.Prelude.{Facts, may_meet}
 use Rattle.dutch_player.proofs.LawLemmas.{meeting_sym}
 use Rattle.dutch_bracket.specs.Seated.{seat_of}
 use Rattle.dutch_bracket.specs.Ghosts.{some_meets, is_upto, ghost_pair, ghosts_meet}

@@ -3,9 +3,8 @@
 use Rattle.std.specs.Prelude.{◌≡◌, ℕ, ◌+◌, ◌-◌, ◌*◌, ◌/◌, ◌⊎◌, ◌<◌, ◌==◌, Bool, false, not, ◌&&◌, ◌||◌, nat_le, if◌then◌else◌, List, ◌++◌, map, length}
 use Rattle.std.specs.List.{list_any}
 use Rattle.dutch_order.specs.declared.bracket.Shape.{Shape}
-use Rattle.dutch_order.specs.Arrangements.{Frame}
-use Rattle.dutch_player.specs.Facts.{Facts, seat_at}
-use Rattle.dutch_player.specs.Meetings.{may_meet}
+use Rattle.dutch_order.specs.Prelude.{Frame}
+use Rattle.dutch_player.specs.Prelude.{Facts, seat_at, may_meet}
 use Rattle.dutch_bracket.specs.NextBracket.{is_lower}
 use Rattle.dutch_bracket.specs.Quality.{NextValue, highest_first}
 use Rattle.dutch_bracket.specs.Reached.{Reached}

@@ -1,7 +1,7 @@
 -- Scoregroups (C.04.3 A.3): what they are, and where one ends among seats by rank.
 use Rattle.std.specs.Prelude.{◌≡◌, ℕ, suc, ◌==◌, ◌≢◌, if◌then◌else◌, List, [], ◌∷◌}
 use Rattle.std.specs.List.{AllByRecursion}
-use Rattle.dutch_player.specs.Facts.{Facts}
+use Rattle.dutch_player.specs.Prelude.{Facts}
 use Rattle.dutch_bracket.specs.Seated.{score_at}
 
 -- how many seats at the front have a score

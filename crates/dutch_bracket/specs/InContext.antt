@@ -1,10 +1,7 @@
 -- What is said of a bracket above its lower seats, by the one record that holds its field, the bracket and those seats: each word here is
 -- the definition of the same name over the three.
 use Rattle.std.specs.Prelude.{ℕ, Bool, List, Option}
-use Rattle.dutch_order.specs.Arrangements.{Frame, Arrangement, Fits}
-use Rattle.dutch_order.specs.Keys.{IsIn}
-use Rattle.dutch_order.specs.Listings.{Listing}
-use Rattle.dutch_order.specs.Prefixes.{Beginning, Begins}
+use Rattle.dutch_order.specs.Prelude.{Frame, Arrangement, Fits, IsIn, Listing, Beginning, Begins}
 use Rattle.dutch_order.specs.declared.bracket.Shape.{Shape}
 use Rattle.dutch_bracket.specs.declared.reached.ByNumber.{ByNumber}
 use Rattle.dutch_bracket.specs.Context.{Context}

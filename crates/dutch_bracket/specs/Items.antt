@@ -3,10 +3,9 @@ use Rattle.std.specs.Prelude.{◌≡◌, ℕ, ◌<◌, Bool, true, false, List, 
 use Rattle.std.specs.declared.cmp.Ordering.TheVariants.{Less, Equal}
 use Rattle.trf16.specs.declared.cell.Colour.{Colour}
 use Rattle.trf16.specs.declared.cell.Colour.TheVariants.{White, Black}
-use Rattle.dutch_order.specs.Candidates.{Candidate}
+use Rattle.dutch_order.specs.Prelude.{Candidate}
 use Rattle.dutch_player.specs.declared.float.Float.TheVariants.{Up, Down}
-use Rattle.dutch_player.specs.Colours.{colours}
-use Rattle.dutch_player.specs.Facts.{SeatFacts, Facts, seat_at}
+use Rattle.dutch_player.specs.Prelude.{colours, SeatFacts, Facts, seat_at}
 use Rattle.dutch_bracket.specs.declared.colours_missed.Miss.TheVariants.{Wide, Third, Preference, StrongPreference}
 use Rattle.dutch_bracket.specs.declared.seated.Floater.{Floater}
 use Rattle.dutch_bracket.specs.declared.item.Item.{Item}

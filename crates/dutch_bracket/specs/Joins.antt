@@ -2,11 +2,10 @@
 -- matching of them tells of the bracket's shapes (C.5, B.1).
 use Rattle.std.specs.Prelude.{◌≡◌, ℕ, ◌+◌, ◌-◌, ◌%◌, ◌≤◌, Bool, true, false, not, ◌&&◌, ◌||◌, ◌==◌, nat_le, nat_lt, if◌then◌else◌, List, All, filter, length, Option, Some, None}
 use Rattle.std.specs.List.{slice_get}
-use Rattle.dual.specs.Matchings.{Costs, MakeUp}
+use Rattle.dual.specs.Prelude.{Costs, MakeUp}
 use Rattle.dutch_order.specs.declared.bracket.Shape.{Shape}
-use Rattle.dutch_order.specs.Choices.{numbers_from}
-use Rattle.dutch_order.specs.Arrangements.{Fits}
-use Rattle.dutch_player.specs.Facts.{Facts}
+use Rattle.dutch_order.specs.Prelude.{numbers_from, Fits}
+use Rattle.dutch_player.specs.Prelude.{Facts}
 use Rattle.dutch_bracket.specs.Reached.{Reached, ends_round, frame_of, numbers_meet, number_may_be_left}
 use Rattle.dutch_bracket.specs.Brackets.{candidates_of, is_penultimate, shape_of}
 use Rattle.dutch_bracket.specs.Shapes.{has_member}

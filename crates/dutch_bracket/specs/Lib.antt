@@ -30,3 +30,4 @@ pub mod GhostLaws
 pub mod BitTables
 pub mod Weights
 pub mod Scopes
+pub mod Prelude

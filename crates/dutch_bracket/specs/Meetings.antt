@@ -1,7 +1,7 @@
 -- Seats of a list as vertices of a graph, joined if they may be paired (C.04.3 A.9, C.1 to C.3).
 use Rattle.std.specs.Prelude.{ℕ, ◌+◌, ◌%◌, Bool, false, List, length, Option, Some, None}
 use Rattle.std.specs.List.{slice_get}
-use Rattle.dutch_player.specs.Facts.{Facts}
+use Rattle.dutch_player.specs.Prelude.{Facts}
 use Rattle.dutch_bracket.specs.Seats.{seats_meet, seats_may_be_left}
 
 -- seats of a field

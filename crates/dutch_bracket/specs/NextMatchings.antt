@@ -1,13 +1,10 @@
 -- What the next bracket can be (C.04.3 C.7) as a matching: the pairs of a candidate, and those of an arrangement of the next bracket that has
 -- its value, by one numbering of the bracket and the next lower scoregroup.
 use Rattle.std.specs.Prelude.{◌≡◌, ℕ, ◌+◌, ◌-◌, ◌*◌, ◌<◌, ◌≤◌, ◌⊎◌, true, List, ◌++◌, All, length, map, slice_index}
-use Rattle.dual.specs.Matchings.{MakeUp}
+use Rattle.dual.specs.Prelude.{MakeUp}
 use Rattle.dutch_order.specs.declared.bracket.Shape.{Shape}
-use Rattle.dutch_order.specs.Arrangements.{Arrangement, down}
-use Rattle.dutch_order.specs.Choices.{numbers_from}
-use Rattle.dutch_order.specs.Keys.{IsIn}
-use Rattle.dutch_player.specs.Facts.{Facts}
-use Rattle.dutch_player.specs.Meetings.{may_meet}
+use Rattle.dutch_order.specs.Prelude.{Arrangement, down, numbers_from, IsIn}
+use Rattle.dutch_player.specs.Prelude.{Facts, may_meet}
 use Rattle.dutch_bracket.specs.Quality.{NextValue, highest_first}
 use Rattle.dutch_bracket.specs.QualityIn.{next_in}
 use Rattle.dutch_bracket.specs.Reached.{Reached, frame_of}

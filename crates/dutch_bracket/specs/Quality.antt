@@ -10,10 +10,7 @@ use Rattle.dutch_player.specs.declared.float.Float.{Float}
 use Rattle.dutch_player.specs.declared.float.Float.TheVariants.{Up, Down}
 use Rattle.dutch_player.specs.declared.preference.Strength.{Strength}
 use Rattle.dutch_player.specs.declared.preference.Strength.TheVariants.{Absolute, Strong, Mild}
-use Rattle.dutch_player.specs.Preferences.{is_same, last_two, preference}
-use Rattle.dutch_player.specs.Meetings.{is_topscorer}
-use Rattle.dutch_player.specs.Colours.{distance, colours}
-use Rattle.dutch_player.specs.Facts.{SeatFacts, Facts, seat_at}
+use Rattle.dutch_player.specs.Prelude.{is_same, last_two, preference, is_topscorer, distance, colours, SeatFacts, Facts, seat_at}
 use Rattle.dutch_bracket.specs.declared.seated.Floater.{Floater}
 use Rattle.dutch_bracket.specs.declared.item.Item.{Item}
 use Rattle.dutch_bracket.specs.declared.item.Item.TheVariants.{Psd, NextBracket, WideDifferences, ThirdColours, MissedPreferences, MissedStrong, DownAgain, UpAgain, DownAgainBefore, UpAgainBefore, DownAgainBy, UpAgainBy, DownAgainBeforeBy, UpAgainBeforeBy}

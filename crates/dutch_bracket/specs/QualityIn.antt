@@ -1,6 +1,6 @@
 -- The items of a quality, as they stand in its fields.
 use Rattle.dutch_bracket.specs.declared.quality.Quality.{Quality as Fields}
-use Rattle.dutch_player.specs.Facts.{Facts}
+use Rattle.dutch_player.specs.Prelude.{Facts}
 use Rattle.dutch_bracket.specs.Seated.{Seated}
 use Rattle.dutch_bracket.specs.Quality.{Quality, NextValue, quality_with}
 

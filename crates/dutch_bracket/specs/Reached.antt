@@ -1,10 +1,9 @@
 -- The brackets that a round reaches (C.04.3 A.3, A.9), by the seats of their players.
 use Rattle.std.specs.Prelude.{◌≡◌, ℕ, ◌+◌, ◌<◌, ◌≤◌, Bool, true, false, ◌&&◌, not, ◌==◌, nat_le, List, map, length, slice_index}
-use Rattle.dutch_order.specs.Arrangements.{Frame, IsBracket}
+use Rattle.dutch_order.specs.Prelude.{Frame, IsBracket}
 use Rattle.dutch_bracket.specs.declared.reached.BracketKind.{BracketKind}
 use Rattle.dutch_bracket.specs.declared.reached.BracketKind.TheVariants.{Ordinary, Last, Penultimate, Collapsed}
-use Rattle.dutch_player.specs.Facts.{Facts, seat_at}
-use Rattle.dutch_player.specs.Meetings.{may_meet}
+use Rattle.dutch_player.specs.Prelude.{Facts, seat_at, may_meet}
 use Rattle.dutch_bracket.specs.Seated.{seat_of, score_at, AreSeats}
 use Rattle.dutch_order.specs.declared.numbers.TheConstants.{LIMIT}
 

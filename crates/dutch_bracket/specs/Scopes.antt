@@ -3,8 +3,7 @@
 use Rattle.std.specs.Prelude.{◌≡◌, ℕ, Bool, true, false, if◌then◌else◌, nat_lt, List}
 use Rattle.dutch_order.specs.declared.prefix.Filling.{Filling}
 use Rattle.dutch_order.specs.declared.prefix.Filling.TheVariants.{S1, S2, S2r}
-use Rattle.dutch_order.specs.Choices.{is_member}
-use Rattle.dutch_order.specs.Prefixes.{Beginning}
+use Rattle.dutch_order.specs.Prelude.{is_member, Beginning}
 use Rattle.dutch_bracket.specs.declared.scope.Standing.{Standing}
 use Rattle.dutch_bracket.specs.declared.scope.Standing.TheVariants.{Any, Outside, First, Resident, FirstResident, OtherResident}
 use Rattle.dutch_bracket.specs.Beginnings.{has_s1}

@@ -3,8 +3,7 @@ use Rattle.std.proofs.Common.{◌≡◌, ℕ, not, ◌&&◌, ◌∙◌, ap, arit
 use Rattle.std.specs.Prelude.{◌==◌}
 use Rattle.std.proofs.Math.Bool.{and_comm}
 use Rattle.std.proofs.lemmas.Bool.Decides.{nat_tests}
-use Rattle.dutch_player.specs.Facts.{Facts}
-use Rattle.dutch_player.specs.Meetings.{may_meet}
+use Rattle.dutch_player.specs.Prelude.{Facts, may_meet}
 use Rattle.dutch_player.proofs.LawLemmas.{meeting_sym}
 use Rattle.dutch_bracket.specs.Reached.{Reached, is_number, numbers_meet}
 use Rattle.dutch_bracket.specs.Seated.{seat_of}

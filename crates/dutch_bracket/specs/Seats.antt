@@ -1,8 +1,7 @@
 -- Who of a field may meet whom, and who may have the bye, by seat (C.04.3 C.1 to C.3).
 use Rattle.std.specs.Prelude.{ℕ, Bool, not, ◌&&◌, ◌==◌, nat_lt, length}
-use Rattle.dutch_player.specs.Facts.{Facts, seat_at}
-use Rattle.dutch_player.specs.Meetings.{may_meet}
-use Rattle.dual.specs.Matchings.{Costs}
+use Rattle.dutch_player.specs.Prelude.{Facts, seat_at, may_meet}
+use Rattle.dual.specs.Prelude.{Costs}
 
 -- a seat of the field
 abbrev pub is_seat : Facts → ℕ → Bool

@@ -1,7 +1,7 @@
 -- Whether so many downfloaters, whoever they are, can be paired out with the lower players (C.04.3 A.9, C.4). They are all alike: it
 -- does not count which of them a lower player meets, so no list of pairs names them.
 use Rattle.std.specs.Prelude.{ℕ, ◌+◌, ◌%◌, ◌==◌, Bool, List, length}
-use Rattle.dutch_player.specs.Facts.{Facts}
+use Rattle.dutch_player.specs.Prelude.{Facts}
 use Rattle.dutch_bracket.specs.CompletionSearch.{can_go}
 use Rattle.dutch_bracket.specs.Seats.{seats_meet, seats_may_be_left}
 

@@ -22,7 +22,7 @@ pub struct Begun<'a> {
 }
 
 impl<'a> Model for Begun<'a> {
-    ghost use Rattle.dutch_order.specs.Arrangements.{Arrangement};
+    ghost use Rattle.dutch_order.specs.Prelude.{Arrangement};
 
     ghost Value = { Arrangement };
 

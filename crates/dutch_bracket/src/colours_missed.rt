@@ -1,7 +1,6 @@
 // Players who get a colour that is not for them (C.04.3 C.8 to C.11).
 ghost use Rattle.std.specs.Prelude.{◌≡◌, ◌+◌, ◌<◌, ◌≤◌, length};
-ghost use Rattle.dutch_player.specs.Facts.{seat_at};
-ghost use Rattle.dutch_player.specs.Preferences.{is_same};
+ghost use Rattle.dutch_player.specs.Prelude.{seat_at, is_same};
 ghost use Rattle.dutch_bracket.specs.Seated.{AllPairs};
 ghost use Rattle.dutch_bracket.specs.Quality.{is_wide, is_third, is_missed, is_strong, is_strong_missed, misses};
 ghost use Rattle.dutch_bracket.specs.Quality.{count_in, has_topscorer, count_in_pairs, count_with_topscorers};

@@ -6,7 +6,7 @@ ghost use Rattle.dutch_bracket.specs.declared.colours_missed.Miss.TheVariants.{P
 ghost use Rattle.dutch_bracket.specs.declared.reached.BracketKind.TheVariants.{Ordinary};
 ghost use Rattle.dutch_bracket.specs.Quality.{one_if, misses, count_in};
 ghost use Rattle.arrayvec.specs.ArrayVec.{array_vec_len};
-ghost use Rattle.dutch_order.specs.Choices.{numbers_from};
+ghost use Rattle.dutch_order.specs.Prelude.{numbers_from};
 ghost use Rattle.dutch_bracket.specs.Reached.{IsAbove, IsOf, frame_of, numbers_meet, number_may_be_left};
 ghost use Rattle.dutch_bracket.specs.Seated.{seat_of, score_at, lowest, AllNumbers};
 ghost use Rattle.dutch_bracket.specs.ColourFloors.{collide, is_firm, wants, wants_firmly, suits, residents_down};

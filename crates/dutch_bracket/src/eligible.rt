@@ -1,13 +1,12 @@
 // Which candidates of a bracket can be chosen (C.04.3 C.4), and the first of a shape.
 ghost use Rattle.std.specs.Prelude.{◌≡◌, ◌+◌, ◌≤◌, ◌++◌, false, length, map, min};
 ghost use Rattle.dutch_order.specs.declared.numbers.TheConstants.{LIMIT};
-ghost use Rattle.dutch_order.specs.Arrangements.{down};
+ghost use Rattle.dutch_order.specs.Prelude.{down, MatchDrawn, MatchFound, Spends};
 ghost use Rattle.dutch_bracket.specs.Seated.{seat_of, AllNumbers};
 ghost use Rattle.dutch_bracket.specs.Shapes.{IsFirst, has_member};
 ghost use Rattle.dutch_bracket.specs.Brackets.{is_penultimate, completable};
 ghost use Rattle.dutch_bracket.specs.InContext.{FitsHere, ListsHere, can_be_chosen_here, eligible_here, frame_here};
 ghost use Rattle.dutch_bracket.specs.Stops.{Decides};
-ghost use Rattle.dutch_order.specs.Steps.{MatchDrawn, MatchFound, Spends};
 
 use crate::completion::completes;
 use crate::context::Context;

@@ -3,9 +3,8 @@
 // any rule, where each legal arrangement counts, and a bracket of the round, where those count that can be chosen.
 ghost use Rattle.std.specs.Prelude.{◌≡◌, ◌≤◌, ◌*◌, ◌&&◌, List, Some, None, true, false, length, filter};
 ghost use Rattle.dutch_order.specs.declared.bracket.Shape.{Shape};
-ghost use Rattle.dutch_order.specs.Arrangements.{Arrangement, Fits, Frame, candidates};
-ghost use Rattle.dutch_order.specs.Listings.{Listing};
-ghost use Rattle.dutch_order.specs.Steps.{MatchDrawn, MatchFound, MatchStep, Spends};
+ghost use Rattle.dutch_order.specs.Prelude.{Arrangement, Fits, Frame, candidates, Listing, MatchDrawn, MatchFound};
+ghost use Rattle.dutch_order.specs.Prelude.{MatchStep, Spends};
 ghost use Rattle.dutch_bracket.specs.Shapes.{IsFirst, fits, shapes_with, has_member, first_with, greatest_shape};
 
 use dutch_order::{Bracket, Budget, Candidate, Candidates, Rule, Shape, Stopped};
@@ -79,7 +78,7 @@ pub(crate) struct Legal<'a, R: Rule> {
 
 impl<'a, R: Rule> Shapes<R> for Legal<'a, R> {
     ghost use Rattle.std.specs.Prelude.{◌≡◌};
-    ghost use Rattle.dutch_order.specs.Arrangements.{candidates};
+    ghost use Rattle.dutch_order.specs.Prelude.{candidates};
 
     ghost counting = { λ l. candidates (R.meets l.rule.now) (R.may_be_left l.rule.now) l.bracket.now };
 

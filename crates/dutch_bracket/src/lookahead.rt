@@ -17,7 +17,7 @@ ghost use Rattle.dutch_bracket.specs.Shapes.{IsFound};
 ghost use Rattle.dutch_bracket.specs.QualityIn.{quality_in};
 ghost use Rattle.dutch_bracket.specs.NextBracket.{IsOfBracket, IsFlat, AreLeft, IsNext, legal_by, next_bracket};
 ghost use Rattle.dutch_bracket.specs.NextBracket.{value_in, value_of, quality};
-ghost use Rattle.dutch_order.specs.Steps.{Spends};
+ghost use Rattle.dutch_order.specs.Prelude.{Spends};
 
 use crate::differences::fill_psd;
 use crate::greatest::{Legal, Lister, Shapes, greatest_shape};

@@ -5,7 +5,7 @@
 // confirms it.
 ghost use Rattle.std.specs.Prelude.{◌≡◌, ◌<◌, ◌≤◌, length, IfOk, IfSome};
 ghost use Rattle.dutch_order.specs.declared.numbers.TheConstants.{LIMIT};
-ghost use Rattle.dutch_order.specs.Steps.{MatchFound, Spends};
+ghost use Rattle.dutch_order.specs.Prelude.{MatchFound, Spends};
 ghost use Rattle.dutch_bracket.specs.Brackets.{completable};
 
 use crate::meetings::Meetings;

@@ -1,8 +1,8 @@
 // Laws of the lists and the least numbers that the items of a quality stand on: differences in order, and the lowest
 // score of a bracket (C.04.3 A.8, C.6).
 ghost use Rattle.std.specs.Prelude.{◌≡◌, ◌<◌, ◌≤◌, ℕ, List, IsPermutation, length, slice_index};
-ghost use Rattle.dutch_order.specs.Limbo.{IsNonAscending};
-ghost use Rattle.dutch_player.specs.Facts.{Facts};
+ghost use Rattle.dutch_order.specs.Prelude.{IsNonAscending};
+ghost use Rattle.dutch_player.specs.Prelude.{Facts};
 ghost use Rattle.dutch_bracket.specs.Quality.{highest_first};
 ghost use Rattle.dutch_bracket.specs.Seated.{score_at, lowest};
 

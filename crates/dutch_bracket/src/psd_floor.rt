@@ -2,8 +2,7 @@
 ghost use Rattle.std.specs.Prelude.{◌≡◌, ◌+◌, ◌-◌, ◌<◌, ◌≤◌, length, map};
 ghost use Rattle.arrayvec.specs.ArrayVec.{array_vec_len};
 ghost use Rattle.dutch_order.specs.declared.numbers.TheConstants.{LIMIT};
-ghost use Rattle.dutch_order.specs.Arrangements.{Fits, left_of, remainder_pairs};
-ghost use Rattle.dutch_order.specs.Choices.{numbers_from};
+ghost use Rattle.dutch_order.specs.Prelude.{Fits, left_of, remainder_pairs, numbers_from};
 ghost use Rattle.dutch_bracket.specs.Seated.{seat_of, score_at, AllNumbers};
 ghost use Rattle.dutch_bracket.specs.Quality.{placed_all};
 ghost use Rattle.dutch_bracket.specs.ColourFloors.{residents_down};

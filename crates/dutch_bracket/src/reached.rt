@@ -1,7 +1,7 @@
 // A bracket that a round reaches, by the seats of its players (C.04.3 A.3, A.9).
 ghost use Rattle.std.specs.Prelude.{◌≡◌, ◌+◌, ◌*◌, ◌<◌, ◌≤◌, ◌++◌, ℕ, true, length, map, slice_index};
 ghost use Rattle.arrayvec.specs.ArrayVec.{array_vec_len};
-ghost use Rattle.dutch_order.specs.Arrangements.{IsBracket};
+ghost use Rattle.dutch_order.specs.Prelude.{IsBracket};
 ghost use Rattle.dutch_order.specs.declared.numbers.TheConstants.{LIMIT};
 ghost use Rattle.dutch_bracket.specs.Seated.{seat_of, score_at, AreSeats};
 ghost use Rattle.dutch_bracket.specs.Brackets.{bracket};

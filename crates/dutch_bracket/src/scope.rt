@@ -6,7 +6,7 @@
 ghost use Rattle.std.specs.Prelude.{◌≡◌, ◌<◌, ◌≤◌, IfSome, true};
 ghost use Rattle.dutch_order.specs.declared.prefix.Filling.TheVariants.{S2r};
 ghost use Rattle.dutch_bracket.specs.Beginnings.{has_s1};
-ghost use Rattle.dutch_order.specs.Choices.{is_member};
+ghost use Rattle.dutch_order.specs.Prelude.{is_member};
 ghost use Rattle.dutch_bracket.specs.Scopes.{Covers, is_joined, may_stay, moved_down_standing, resident_standing, standing_of};
 
 use crate::begun::has_s1;

@@ -15,7 +15,7 @@ pub struct BySeat<'a> {
 }
 
 impl<'a> Model for BySeat<'a> {
-    ghost use Rattle.dutch_player.specs.Facts.{Facts};
+    ghost use Rattle.dutch_player.specs.Prelude.{Facts};
 
     ghost Value = { Facts };
 

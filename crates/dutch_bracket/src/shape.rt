@@ -2,7 +2,7 @@
 // players in them.
 ghost use Rattle.std.specs.Prelude.{◌≡◌, ◌*◌, ◌≤◌, Some, None, IfSome, filter, length};
 ghost use Rattle.std.specs.Result.{MatchResult};
-ghost use Rattle.dutch_order.specs.Steps.{MatchDrawn, MatchFound, Spends};
+ghost use Rattle.dutch_order.specs.Prelude.{MatchDrawn, MatchFound, Spends};
 ghost use Rattle.dutch_bracket.specs.InContext.{FitsHere, ListsHere, eligible_here, frame_here, shape_here};
 ghost use Rattle.dutch_bracket.specs.Joins.{IsAlwaysShape, IsMost};
 ghost use Rattle.dutch_bracket.specs.Shapes.{IsFound, first_with, fits, shapes_with};

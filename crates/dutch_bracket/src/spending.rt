@@ -1,7 +1,7 @@
 // Steps that are made at once, for so many questions, and one by one.
 ghost use Rattle.std.specs.Prelude.{◌≡◌, ◌+◌, ◌<◌};
 ghost use Rattle.std.specs.Result.{MatchResult};
-ghost use Rattle.dutch_order.specs.Steps.{Spends};
+ghost use Rattle.dutch_order.specs.Prelude.{Spends};
 
 use dutch_order::{Budget, Stopped};
 

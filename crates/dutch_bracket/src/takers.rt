@@ -7,7 +7,7 @@ ghost use Rattle.std.specs.Prelude.{◌≡◌, ◌+◌, ◌%◌, ◌≤◌, ◌=
 ghost use Rattle.dutch_bracket.specs.Completion.{most_taking};
 ghost use Rattle.dutch_bracket.specs.Stops.{Decides};
 ghost use Rattle.dutch_bracket.specs.Takers.{can_go_out};
-ghost use Rattle.dutch_order.specs.Steps.{Spends};
+ghost use Rattle.dutch_order.specs.Prelude.{Spends};
 
 use crate::completion::{Search, Spare, can_pair};
 use crate::context::Context;

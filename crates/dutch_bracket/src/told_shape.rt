@@ -4,7 +4,7 @@
 // Whoever finds the matchings is not trusted: a barrier counts only if the check of it confirms it, and a matching is
 // one by its contract.
 ghost use Rattle.std.specs.Prelude.{◌≡◌, ◌≤◌, ◌↔◌, true, All, IfSome, IsTrue, length, filter};
-ghost use Rattle.dutch_order.specs.Steps.{MatchFound, Spends};
+ghost use Rattle.dutch_order.specs.Prelude.{MatchFound, Spends};
 ghost use Rattle.dutch_bracket.specs.Joins.{AreMatched, IsAlwaysShape, IsMost, goes_first, has_mate, is_matched};
 ghost use Rattle.dutch_bracket.specs.Joins.{joined, joins_of_all, mate_of, matched_shape, vertices};
 ghost use Rattle.dutch_bracket.specs.Reached.{ends_round};

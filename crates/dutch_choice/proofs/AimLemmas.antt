@@ -4,22 +4,14 @@ use Rattle.std.proofs.Common.{◌≡◌, Bool, true, false, not, ◌&&◌, ◌||
 use Rattle.std.specs.List.{list_any, AllByRecursion}
 use Rattle.std.specs.Option.{MatchOption}
 use Rattle.std.proofs.lemmas.Bool.{true≢false, not-true, not-false, or_right}
-use Rattle.dutch_order.specs.Steps.{MatchFound, Passes}
+use Rattle.dutch_order.specs.Prelude.{MatchFound, Passes, Arrangement}
 use Rattle.dutch_order.specs.declared.steps.Stopped.{Stopped}
 use Rattle.dutch_order.proofs.Lists.{filter-all}
 use Rattle.dutch_order.specs.declared.bracket.Shape.{Shape}
-use Rattle.dutch_order.specs.Arrangements.{Arrangement}
 use Rattle.dutch_choice.specs.declared.pass.Best.{Best}
 use Rattle.dutch_choice.specs.declared.wish.Wish.{Wish}
-use Rattle.dutch_bracket.specs.Context.{Context}
-use Rattle.dutch_bracket.specs.InContext.{can_be_chosen_here, candidates_here, eligible_here, quality_here}
-use Rattle.dutch_bracket.specs.Quality.{Quality, is_better}
-use Rattle.dutch_bracket.specs.QualityIn.{quality_in}
-use Rattle.dutch_bracket.specs.Brackets.{best_of_shape, candidates_of, eligible, shape_of, choice}
-use Rattle.dutch_bracket.specs.Choice.{first_unbeaten, best, best_with}
-use Rattle.dutch_choice.specs.Kept.{kept_lists, wins, IsBest, IsKept}
-use Rattle.dutch_choice.specs.Wishes.{is_better_here, is_wished}
-use Rattle.dutch_choice.specs.Aims.{beats, is_idle, is_near, is_dull, is_open, is_sought, best_yet, best_near, best_wished}
+use Rattle.dutch_bracket.specs.Prelude.{Context, can_be_chosen_here, candidates_here, eligible_here, quality_here, Quality, is_better, quality_in, best_of_shape, candidates_of, eligible, shape_of, choice, first_unbeaten, best, best_with}
+use Rattle.dutch_choice.specs.Prelude.{kept_lists, wins, IsBest, IsKept, is_better_here, is_wished, beats, is_idle, is_near, is_dull, is_open, is_sought, best_yet, best_near, best_wished}
 use Rattle.dutch_choice.proofs.ChoiceLemmas.{IsOrder, behind_aim, behind_either, behind_kept, kept_at_end, kept_by, order_of, passed_by, wins_over}
 use Rattle.dutch_bracket.proofs.QualityOrder.{irreflexive, transitive, total}
 use Rattle.dutch_choice.proofs.BestLemmas.{order_in, choice_is, shape_has_best}

@@ -8,27 +8,16 @@ use Rattle.std.proofs.lemmas.Bool.{false_from_ne_true, true≢false}
 use Rattle.std.proofs.lemmas.Cmp.{nat_list_cmp_total}
 use Rattle.std.proofs.Math.Logic.{∥∥₁_elim}
 use Rattle.dutch_order.specs.declared.bracket.Shape.{Shape}
-use Rattle.dutch_order.specs.Arrangements.{Arrangement}
-use Rattle.dutch_order.specs.Keys.{IsIn}
-use Rattle.dutch_order.specs.Prefixes.{Beginning}
+use Rattle.dutch_order.specs.Prelude.{Arrangement, IsIn, Beginning}
 use mathlib.Core.Bool.{Bool-set}
 use Rattle.dutch_floors.specs.FloorOf.{Basis, IsBasis, s1_by, s1_of}
-use Rattle.dutch_bracket.specs.PsdFloors.{is_uniform}
-use Rattle.dutch_bracket.specs.Beginnings.{fixed_lists, has_s1}
-use Rattle.dutch_bracket.specs.NextBracket.{is_lower, HasNoBetter, IsNoBetter}
-use Rattle.dutch_bracket.specs.Context.{Context}
+use Rattle.dutch_bracket.specs.Prelude.{is_uniform, fixed_lists, has_s1, is_lower, HasNoBetter, IsNoBetter, Context, NextValue, Quality, is_better, next_in, quality_in, OfEachBegun, candidates_here, quality_here, IsOf}
 use Rattle.dutch_floors.specs.Outlooks.{awaited}
-use Rattle.dutch_bracket.specs.Quality.{NextValue, Quality, is_better}
-use Rattle.dutch_bracket.specs.QualityIn.{next_in, quality_in}
-use Rattle.dutch_choice.specs.Aims.{aim_in, beats}
-use Rattle.dutch_choice.specs.Kept.{wins, kept_in}
+use Rattle.dutch_choice.specs.Prelude.{aim_in, beats, wins, kept_in, HasNoBetterNext, IsBehindAim, IsBehindKept, Weighs, context_of, pass_of}
 use Rattle.dutch_choice.specs.declared.pass.Best.{Best}
 use Rattle.dutch_bracket.specs.declared.quality.Quality.{Quality as Fields}
 use Rattle.dutch_weights.specs.declared.weight_floor.Bar.{Bar}
-use Rattle.dutch_bracket.specs.InContext.{OfEachBegun, candidates_here, quality_here}
-use Rattle.dutch_bracket.specs.Reached.{IsOf}
-use Rattle.dutch_weights.specs.WeightFloors.{HasBar, IsBar, Weighed}
-use Rattle.dutch_choice.specs.Skips.{HasNoBetterNext, IsBehindAim, IsBehindKept, Weighs, context_of, pass_of}
+use Rattle.dutch_weights.specs.Prelude.{HasBar, IsBar, Weighed}
 use Rattle.dutch_choice.specs.declared.bars.Skipper.{Skipper}
 use Rattle.dutch_floors.proofs.C07Outlook.{awaited_holds}
 use Rattle.dutch_bracket.proofs.LegalPairs.{legal_of}

@@ -6,23 +6,15 @@ use Rattle.std.proofs.lemmas.Bool.{not-true, not-false, not_from_false, false_fr
 use Rattle.std.proofs.lemmas.Bool.Decides.{nat_tests}
 use Rattle.std.proofs.lemmas.List.Elements.{filter-append}
 use Rattle.dutch_order.specs.declared.bracket.Shape.{Shape}
-use Rattle.dutch_order.specs.Arrangements.{Arrangement, Frame, down, paired, players_of}
-use Rattle.dutch_order.specs.Choices.{is_member}
-use Rattle.dutch_order.specs.Forms.{pairs_by_number}
-use Rattle.dutch_order.specs.Keys.{HasEachOnce, IsIn}
+use Rattle.dutch_order.specs.Prelude.{Arrangement, Frame, down, paired, players_of, is_member, pairs_by_number, HasEachOnce, IsIn}
 use Rattle.dutch_order.proofs.CursorSets.{in-member, member-in}
 use Rattle.dutch_order.proofs.NoneTwice.{in-left, left-in}
 use Rattle.dutch_order.proofs.Once.{candidates-once, filter-once}
 use Rattle.dutch_order.proofs.Orders.{IsIn-back, IsIn-filter, filter-IsIn}
 use Rattle.dutch_choice.specs.declared.wish.Wish.{Wish}
 use Rattle.dutch_choice.specs.declared.wish.Wish.TheVariants.{LeftOver, Pair}
-use Rattle.dutch_bracket.specs.Choice.{first_unbeaten, is_unbeaten}
-use Rattle.dutch_bracket.specs.Context.{Context}
-use Rattle.dutch_bracket.specs.InContext.{can_be_chosen_here, candidates_here, eligible_here, frame_here, quality_here}
-use Rattle.dutch_bracket.specs.Quality.{Quality, is_better}
-use Rattle.dutch_bracket.specs.Reached.{number_may_be_left, numbers_meet}
-use Rattle.dutch_bracket.specs.Brackets.{best_of_shape, candidates_of, eligible}
-use Rattle.dutch_choice.specs.Wishes.{ComesBefore, IsAsGoodBefore, are_these, best_granting, grants, granting, is_better_here}
+use Rattle.dutch_bracket.specs.Prelude.{first_unbeaten, is_unbeaten, Context, can_be_chosen_here, candidates_here, eligible_here, frame_here, quality_here, Quality, is_better, number_may_be_left, numbers_meet, best_of_shape, candidates_of, eligible}
+use Rattle.dutch_choice.specs.Prelude.{ComesBefore, IsAsGoodBefore, are_these, best_granting, grants, granting, is_better_here}
 use Rattle.dutch_bracket.proofs.AnyLemmas.{any_in}
 pub use Rattle.dutch_bracket.proofs.AnyLemmas.{found_in}
 use Rattle.dutch_choice.proofs.BestLemmas.{in_unbeaten, order_in}

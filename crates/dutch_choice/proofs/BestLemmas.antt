@@ -1,18 +1,11 @@
 -- What is chosen in the end: it is one of the candidates, and of the bracket's shape.
 use Rattle.std.proofs.Common.{◌≡◌, ℕ, Bool, true, false, List, [], ◌∷◌, Option, Some, None, is_some, refl, sym, ap, ◌∙◌, subst, arith}
 use Rattle.dutch_order.specs.declared.bracket.Shape.{Shape}
-use Rattle.dutch_order.specs.Arrangements.{Arrangement}
+use Rattle.dutch_order.specs.Prelude.{Arrangement, IsIn}
 use Rattle.dutch_order.specs.Cursors.{◌>>=◌}
-use Rattle.dutch_order.specs.Keys.{IsIn}
-use Rattle.dutch_player.specs.Facts.{Facts}
-use Rattle.dutch_bracket.specs.Context.{Context}
-use Rattle.dutch_bracket.specs.InContext.{quality_here}
-use Rattle.dutch_bracket.specs.Reached.{Reached, frame_of}
-use Rattle.dutch_bracket.specs.Quality.{is_better}
-use Rattle.dutch_bracket.specs.Shapes.{fits, shapes, has_member}
-use Rattle.dutch_bracket.specs.Brackets.{Choice, eligible, is_better_in, best_of_shape, shape_of, choice}
-use Rattle.dutch_bracket.specs.Choice.{first_unbeaten, best}
-use Rattle.dutch_choice.specs.Wishes.{is_better_here}
+use Rattle.dutch_player.specs.Prelude.{Facts}
+use Rattle.dutch_bracket.specs.Prelude.{Context, quality_here, Reached, frame_of, is_better, fits, shapes, has_member, Choice, eligible, is_better_in, best_of_shape, shape_of, choice, first_unbeaten, best}
+use Rattle.dutch_choice.specs.Prelude.{is_better_here}
 use Rattle.dutch_choice.proofs.ChoiceLemmas.{IsOrder, order_of, best_wins, best_loses, best_alone}
 use Rattle.dutch_bracket.proofs.QualityOrder.{irreflexive, transitive, total}
 use Rattle.dutch_bracket.proofs.ShapeSearch.{first_has}

@@ -1,7 +1,7 @@
 -- The best of candidates, step by step: of two the later one is kept only if it is better.
 use Rattle.std.proofs.Common.{◌≡◌, ◌⊎◌, Bool, true, false, not, ◌&&◌, ◌||◌, List, [], ◌∷◌, filter, Option, Some, None, refl, ◌∙◌, arith}
 use Rattle.std.specs.List.{list_any}
-use Rattle.dutch_bracket.specs.Choice.{is_unbeaten, first_unbeaten, best, best_with}
+use Rattle.dutch_bracket.specs.Prelude.{is_unbeaten, first_unbeaten, best, best_with}
 
 -- what an order of better ones keeps
 pub record IsOrder {X : Type 0} (better : X → X → Bool) : Type 0 where

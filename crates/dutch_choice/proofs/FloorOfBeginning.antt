@@ -6,25 +6,12 @@ use Rattle.std.proofs.lemmas.List.{length-map}
 use Rattle.dutch_order.specs.declared.bracket.Shape.{Shape}
 use Rattle.dutch_order.specs.declared.prefix.Filling.{Filling}
 use Rattle.dutch_order.specs.declared.prefix.Filling.TheVariants.{S1, S2, S2r}
-use Rattle.dutch_order.specs.Arrangements.{Arrangement, arrangements, left_of, remainder_pairs}
-use Rattle.dutch_order.specs.Choices.{numbers_from}
-use Rattle.dutch_order.specs.Keys.{IsIn}
-use Rattle.dutch_order.specs.Prefixes.{Begins, BeginsAt, Beginning}
-use Rattle.dutch_player.specs.Facts.{Facts}
+use Rattle.dutch_order.specs.Prelude.{Arrangement, arrangements, left_of, remainder_pairs, numbers_from, IsIn, Begins, BeginsAt, Beginning}
+use Rattle.dutch_player.specs.Prelude.{Facts}
 use Rattle.dutch_bracket.specs.declared.colours_missed.Miss.TheVariants.{Preference}
-use Rattle.dutch_bracket.specs.Beginnings.{HasPairsOf, fixed, fixed_lists, has_s1, is_of_shape, lists_by}
-use Rattle.dutch_bracket.specs.ColourFloors.{residents_down}
+use Rattle.dutch_bracket.specs.Prelude.{HasPairsOf, fixed, fixed_lists, has_s1, is_of_shape, lists_by, residents_down, is_uniform, psd_with, repeated, IsFlat, is_lower, quality, Quality, count_in_pairs, highest_first, is_better, misses, psd, quality_with, Context, OfEachBegun, quality_here, IsOf, Reached, frame_of, candidates_of, downfloaters, quality_of, all_pairs, difference, score_at, seat_of, floor_over}
 use Rattle.dutch_floors.specs.FloorOf.{Basis, IsBasis, floor_of, is_flat, is_known, more_by, more_in, psd_over, residents_score, s1_by, s1_of}
-use Rattle.dutch_bracket.specs.PsdFloors.{is_uniform, psd_with, repeated}
 use Rattle.dutch_floors.specs.Outlooks.{IsOutlook, awaited}
-use Rattle.dutch_bracket.specs.NextBracket.{IsFlat, is_lower, quality}
-use Rattle.dutch_bracket.specs.Quality.{Quality, count_in_pairs, highest_first, is_better, misses, psd, quality_with}
-use Rattle.dutch_bracket.specs.Context.{Context}
-use Rattle.dutch_bracket.specs.InContext.{OfEachBegun, quality_here}
-use Rattle.dutch_bracket.specs.Reached.{IsOf, Reached, frame_of}
-use Rattle.dutch_bracket.specs.Brackets.{candidates_of, downfloaters, quality_of}
-use Rattle.dutch_bracket.specs.Seated.{all_pairs, difference, score_at, seat_of}
-use Rattle.dutch_bracket.specs.Floors.{floor_over}
 use Rattle.dutch_bracket.proofs.C06Psd.{psd_by_first, psd_of_all, psd_of_beginning, uniform_of}
 use Rattle.dutch_floors.proofs.C07Outlook.{awaited_holds, flat_residents}
 use Rattle.dutch_bracket.proofs.C08ToC19Fixed.{more_copies}

@@ -6,29 +6,16 @@ use Rattle.std.proofs.lemmas.Bool.{true≢false}
 use Rattle.std.proofs.lemmas.Bool.Decides.{nat_tests}
 use Rattle.dutch_order.specs.declared.prefix.Filling.{Filling}
 use Rattle.dutch_order.specs.declared.bracket.Shape.{Shape}
-use Rattle.dutch_order.specs.Arrangements.{Arrangement, arrangements}
-use Rattle.dutch_order.specs.Keys.{IsIn}
-use Rattle.dutch_order.specs.Prefixes.{BeginsAt, Beginning}
+use Rattle.dutch_order.specs.Prelude.{Arrangement, arrangements, IsIn, BeginsAt, Beginning}
 use Rattle.dutch_order.proofs.Orders.{IsIn-append, IsIn-back, IsIn-front}
-use Rattle.dutch_player.specs.Facts.{Facts}
+use Rattle.dutch_player.specs.Prelude.{Facts}
 use Rattle.dutch_floors.specs.declared.known.Known.{Known}
 use Rattle.dutch_floors.specs.declared.known.Known.TheVariants.{Down, Meet}
-use Rattle.dutch_bracket.specs.Beginnings.{seated_so}
+use Rattle.dutch_bracket.specs.Prelude.{seated_so, is_uniform, has_s1, lists_by, is_lower, quality, psd_with, Quality, is_better, psd, quality_with, Context, OfEachBegun, quality_here, IsOf, Reached, frame_of, candidates_of, downfloaters, quality_of, all_pairs, floor_over}
 use Rattle.dutch_floors.specs.FloorOf.{Basis, IsBasis, floor_by_seats, floor_knowing, is_flat, is_known, more_in, psd_over, residents_score, s1_by}
-use Rattle.dutch_bracket.specs.PsdFloors.{is_uniform}
-use Rattle.dutch_bracket.specs.Beginnings.{has_s1, lists_by}
 use Rattle.dutch_floors.specs.KnownBeside.{Holds, known_by, with_pair}
-use Rattle.dutch_bracket.specs.NextBracket.{is_lower, quality}
 use Rattle.dutch_floors.specs.Outlooks.{IsOutlook, awaited}
-use Rattle.dutch_bracket.specs.PsdFloors.{psd_with}
-use Rattle.dutch_bracket.specs.Quality.{Quality, is_better, psd, quality_with}
-use Rattle.dutch_bracket.specs.Context.{Context}
-use Rattle.dutch_bracket.specs.InContext.{OfEachBegun, quality_here}
-use Rattle.dutch_bracket.specs.Reached.{IsOf, Reached, frame_of}
-use Rattle.dutch_choice.specs.Passes.{HoldsHere}
-use Rattle.dutch_bracket.specs.Brackets.{candidates_of, downfloaters, quality_of}
-use Rattle.dutch_bracket.specs.Seated.{all_pairs}
-use Rattle.dutch_bracket.specs.Floors.{floor_over}
+use Rattle.dutch_choice.specs.Prelude.{HoldsHere}
 use Rattle.dutch_bracket.proofs.C06Psd.{psd_of_known}
 use Rattle.dutch_floors.proofs.C07Outlook.{awaited_holds}
 use Rattle.dutch_floors.proofs.C10Preferences.{more_miss}

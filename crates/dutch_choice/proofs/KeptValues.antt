@@ -8,15 +8,13 @@ use Rattle.std.proofs.lemmas.List.{take-map}
 use Rattle.arrayvec.specs.ArrayVec.{ArrayVec}
 use Rattle.lru.specs.LruCache.{LruCache, lru_cache, promoted, put_entries}
 use Rattle.lru.proofs.CallerLemmas.{Contains-lookup_entry, Contains-lookup, Contains-promoted, Contains-put_entries}
-use Rattle.dutch_order.specs.Choices.{is_same}
+use Rattle.dutch_order.specs.Prelude.{is_same}
 use Rattle.dutch_order.specs.declared.numbers.TheConstants.{LIMIT}
 use Rattle.dutch_order.proofs.FromOn.{is_same-true}
-use Rattle.dutch_player.specs.Facts.{Facts}
-use Rattle.dutch_bracket.specs.NextBracket.{AreLeft}
-use Rattle.dutch_bracket.specs.Reached.{Reached}
-use Rattle.dutch_bracket.specs.Quality.{NextValue}
+use Rattle.dutch_player.specs.Prelude.{Facts}
+use Rattle.dutch_bracket.specs.Prelude.{AreLeft, Reached, NextValue}
 use Rattle.dutch_bracket.proofs.NextBrackets.{down_short}
-use Rattle.dutch_choice.specs.Remembered.{Remembered, AreValues, IsUsed, Recalls, value_below, is_kept, others, with_used, lists_kept, is_key}
+use Rattle.dutch_choice.specs.Prelude.{Remembered, AreValues, IsUsed, Recalls, value_below, is_kept, others, with_used, lists_kept, is_key}
 
 -- an entry of the cache
 abbrev Kept : Type 0

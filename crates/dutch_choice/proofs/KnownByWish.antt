@@ -3,17 +3,14 @@ use Rattle.std.proofs.Common.{◌≡◌, ℕ, ◌-◌, ◌<◌, ◌≤◌, ◌�
 use Rattle.std.proofs.lemmas.Bool.{and_parts, leb-true}
 use Rattle.std.proofs.lemmas.List.{length-map}
 use Rattle.std.specs.Prelude.{nat_le}
-use Rattle.dutch_order.specs.Arrangements.{Arrangement, down}
-use Rattle.dutch_order.specs.Forms.{by_place, pairs_by_number}
-use Rattle.dutch_order.specs.Keys.{IsIn}
+use Rattle.dutch_order.specs.Prelude.{Arrangement, down, by_place, pairs_by_number, IsIn}
 use Rattle.dutch_order.proofs.Orders.{IsIn-append, IsIn-back, IsIn-front, map-IsIn}
-use Rattle.dutch_player.specs.Facts.{Facts}
+use Rattle.dutch_player.specs.Prelude.{Facts}
 use Rattle.dutch_floors.specs.declared.known.Known.TheVariants.{Down, Meet}
 use Rattle.dutch_choice.specs.declared.wish.Wish.TheVariants.{LeftOver, Pair}
 use Rattle.dutch_floors.specs.KnownBeside.{Holds}
-use Rattle.dutch_bracket.specs.Reached.{IsOf, Reached, frame_of, is_number}
-use Rattle.dutch_bracket.specs.Seated.{all_pairs, pairs_of, score_at, seat_of}
-use Rattle.dutch_choice.specs.Wishes.{grants}
+use Rattle.dutch_bracket.specs.Prelude.{IsOf, Reached, frame_of, is_number, all_pairs, pairs_of, score_at, seat_of}
+use Rattle.dutch_choice.specs.Prelude.{grants}
 use Rattle.dutch_choice.proofs.BestGranting.{over_by_test, pair_by_test}
 use Rattle.dutch_order.proofs.FoundPaths.{in-numbers}
 

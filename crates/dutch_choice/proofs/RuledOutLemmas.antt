@@ -7,20 +7,15 @@ use Rattle.std.proofs.lemmas.Bool.Decides.{nat_tests}
 use Rattle.dutch_order.specs.declared.bracket.Shape.{Shape}
 use Rattle.dutch_order.specs.declared.prefix.Filling.{Filling}
 use Rattle.dutch_order.specs.declared.prefix.Filling.TheVariants.{S1, S2, S2r}
-use Rattle.dutch_order.specs.Arrangements.{Frame, Arrangement, arrangements, left_of, paired, residents_of}
-use Rattle.dutch_order.specs.Choices.{is_member}
-use Rattle.dutch_order.specs.Forms.{by_place, pairs_by_number, players_in, NoneTwice}
-use Rattle.dutch_order.specs.Keys.{IsIn}
-use Rattle.dutch_order.specs.Prefixes.{Begins, BeginsAt, Beginning, GoesOn}
+use Rattle.dutch_order.specs.Prelude.{Frame, Arrangement, arrangements, left_of, paired, residents_of, is_member, by_place, pairs_by_number, players_in, NoneTwice, IsIn, Begins, BeginsAt, Beginning, GoesOn}
 use Rattle.dutch_order.proofs.CursorSets.{AreLists, member-in, in-member}
 use Rattle.dutch_order.proofs.FormArrangements.{form-of, in-moved_down, in-residents, lists-in}
 use Rattle.dutch_order.proofs.NoneTwice.{in-left}
 use Rattle.dutch_order.proofs.Orders.{IsIn-append, IsIn-front, IsIn-back}
 use Rattle.dutch_choice.specs.declared.wish.Wish.{Wish}
 use Rattle.dutch_choice.specs.declared.wish.Wish.TheVariants.{Pair, LeftOver}
-use Rattle.dutch_bracket.specs.Beginnings.{fixed_lists, lists_by}
-use Rattle.dutch_choice.specs.RuledOut.{has_player, parts, has_one_of, s1_bars, s1r_bars, halves_bar, rules_out}
-use Rattle.dutch_choice.specs.Wishes.{are_these, grants}
+use Rattle.dutch_bracket.specs.Prelude.{fixed_lists, lists_by}
+use Rattle.dutch_choice.specs.Prelude.{has_player, parts, has_one_of, s1_bars, s1r_bars, halves_bar, rules_out, are_these, grants}
 use Rattle.dutch_choice.proofs.BestGranting.{Are, are_so, found_in}
 use Rattle.dutch_order.proofs.Blocks.{goes-whole}
 

@@ -2,15 +2,11 @@
 -- is better than (C.04.3 B.8).
 use Rattle.std.specs.Prelude.{Bool, false, not, ◌&&◌, ◌||◌, List, filter, Option, Some, None, option_map}
 use Rattle.dutch_order.specs.declared.bracket.Shape.{Shape}
-use Rattle.dutch_order.specs.Arrangements.{Arrangement}
+use Rattle.dutch_order.specs.Prelude.{Arrangement}
 use Rattle.dutch_choice.specs.declared.pass.Best.{Best}
 use Rattle.dutch_bracket.specs.declared.quality.Quality.{Quality as Fields}
 use Rattle.dutch_choice.specs.declared.wish.Wish.{Wish}
-use Rattle.dutch_bracket.specs.Context.{Context}
-use Rattle.dutch_bracket.specs.InContext.{can_be_chosen_here, candidates_here, eligible_here, quality_here}
-use Rattle.dutch_bracket.specs.Quality.{Quality, is_better}
-use Rattle.dutch_bracket.specs.QualityIn.{quality_in}
-use Rattle.dutch_bracket.specs.Choice.{best, best_with}
+use Rattle.dutch_bracket.specs.Prelude.{Context, can_be_chosen_here, candidates_here, eligible_here, quality_here, Quality, is_better, quality_in, best, best_with}
 use Rattle.dutch_choice.specs.Kept.{kept_lists, wins}
 use Rattle.dutch_choice.specs.Wishes.{is_better_here, is_wished}
 

@@ -1,12 +1,9 @@
 -- What a choice in a bracket answers (C.04.3 B.8).
 use Rattle.std.specs.Prelude.{◌≡◌, Some}
-use Rattle.dutch_order.specs.Arrangements.{down}
+use Rattle.dutch_order.specs.Prelude.{down}
 use Rattle.dutch_choice.specs.declared.choice.Choice.{Choice}
 use Rattle.dutch_choice.specs.declared.choice.Choice.TheVariants.{Chosen as IsChosen, Undecided as ChoiceUndecided}
-use Rattle.dutch_bracket.specs.Context.{Context}
-use Rattle.dutch_bracket.specs.InContext.{FitsHere, frame_here, quality_here}
-use Rattle.dutch_bracket.specs.QualityIn.{quality_in}
-use Rattle.dutch_bracket.specs.Brackets.{choice}
+use Rattle.dutch_bracket.specs.Prelude.{Context, FitsHere, frame_here, quality_here, quality_in, choice}
 
 -- the choice in a bracket above lower seats, with its quality; what a call that was stopped owes is given with it
 abbrev pub IsChoice : Context → Type 0 → Choice → Type 0

@@ -1,10 +1,7 @@
 -- What the laws of weights name (C.04.3 C.6 to C.19).
-use Rattle.dual.specs.Matchings.{Costs}
-use Rattle.dutch_bracket.specs.Context.{Context}
-use Rattle.dutch_bracket.specs.Scopes.{Scope}
-use Rattle.dutch_bracket.specs.Weights.{Scale}
-use Rattle.dutch_weights.specs.Orders.{Order}
-use Rattle.dutch_weights.specs.ScopedCosts.{costs_in}
+use Rattle.dual.specs.Prelude.{Costs}
+use Rattle.dutch_bracket.specs.Prelude.{Context, Scope, Scale}
+use Rattle.dutch_weights.specs.Prelude.{Order, costs_in}
 use Rattle.dutch_weights.specs.declared.scoped.Reach.{Reach}
 
 -- what matchings cost in a bracket above lower seats, on a scale: those of a scope, over so many players, with an order of S1R

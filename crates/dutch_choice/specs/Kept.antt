@@ -1,11 +1,8 @@
 -- The best candidate so far, while a bracket's candidates are looked at one by one.
 use Rattle.std.specs.Prelude.{◌≡◌, Bool, true, Option, Some, None, option_map}
-use Rattle.dutch_order.specs.Arrangements.{Arrangement, down}
+use Rattle.dutch_order.specs.Prelude.{Arrangement, down}
 use Rattle.dutch_choice.specs.declared.pass.Best.{Best}
-use Rattle.dutch_bracket.specs.Context.{Context}
-use Rattle.dutch_bracket.specs.InContext.{frame_here, quality_here}
-use Rattle.dutch_bracket.specs.Quality.{Quality, is_better}
-use Rattle.dutch_bracket.specs.QualityIn.{quality_in}
+use Rattle.dutch_bracket.specs.Prelude.{Context, frame_here, quality_here, Quality, is_better, quality_in}
 
 -- the lists of the candidate that is kept, if there is one
 abbrev pub kept_lists : Option Best → Option Arrangement

@@ -8,3 +8,4 @@ pub mod Passes
 pub mod Skips
 pub mod Chosen
 pub mod Costs
+pub mod Prelude

@@ -1,16 +1,10 @@
 -- What a pass draws, what is of no interest to it, and what it ends with (C.04.3 B.8). Only private functions' clauses cite these.
 use Rattle.std.specs.Prelude.{◌≡◌, ℕ, ◌+◌, ◌/◌, if◌then◌else◌, List, ◌∷◌, Option, None, Bool, true}
 use Rattle.std.specs.Option.{ForSome, MatchOption}
-use Rattle.dutch_order.specs.Arrangements.{Arrangement, down}
-use Rattle.dutch_order.specs.Candidates.{Candidate}
-use Rattle.dutch_order.specs.Listings.{Listing}
-use Rattle.dutch_order.specs.Steps.{Passes}
+use Rattle.dutch_order.specs.Prelude.{Arrangement, down, Candidate, Listing, Passes}
 use Rattle.dutch_bracket.specs.declared.greatest.Lister.{Lister}
 use Rattle.dutch_bracket.specs.declared.reached.ByNumber.{ByNumber}
-use Rattle.dutch_bracket.specs.Context.{Context}
-use Rattle.dutch_bracket.specs.Eligible.{Lists}
-use Rattle.dutch_bracket.specs.InContext.{can_be_chosen_here, quality_here}
-use Rattle.dutch_bracket.specs.NextBracket.{IsOfBracket}
+use Rattle.dutch_bracket.specs.Prelude.{Context, Lists, can_be_chosen_here, quality_here, IsOfBracket}
 use Rattle.dutch_choice.specs.declared.pass.Best.{Best}
 use Rattle.dutch_choice.specs.declared.choice.TheConstants.{PAIRS_FOR_A_STEP}
 use Rattle.dutch_choice.specs.declared.pass.Pass.{Pass}
@@ -19,7 +13,7 @@ use Rattle.dutch_choice.specs.Aims.{aim_in, best_near, best_wished, best_yet, is
 use Rattle.dutch_choice.specs.Kept.{IsBest}
 use Rattle.dutch_floors.specs.declared.known.Known.{Known}
 use Rattle.dutch_floors.specs.KnownBeside.{Holds}
-use Rattle.dutch_weights.specs.WeightFloors.{AreOf, Weighed}
+use Rattle.dutch_weights.specs.Prelude.{AreOf, Weighed}
 
 -- for how many steps each one of a pass counts: for one alone in the few steps that come first, and behind them once more for each so many
 -- pairs of the shape

@@ -3,17 +3,12 @@ use Rattle.std.specs.Prelude.{◌≡◌, ℕ, Bool, true, false, ◌||◌, if◌
 use Rattle.std.specs.Cmp.Lexicographic.{pointwise}
 use Rattle.arrayvec.specs.ArrayVec.{ArrayVec}
 use Rattle.lru.specs.LruCache.{LruCache}
-use Rattle.dutch_order.specs.Choices.{is_same}
-use Rattle.dutch_player.specs.Facts.{Facts}
+use Rattle.dutch_order.specs.Prelude.{is_same}
+use Rattle.dutch_player.specs.Prelude.{Facts}
 use Rattle.dutch_bracket.specs.declared.reached.BracketKind.TheVariants.{Ordinary}
 use Rattle.dutch_choice.specs.declared.remembered.Look.{Look}
 use Rattle.dutch_choice.specs.declared.remembered.Look.TheVariants.{Value, Undecided}
-use Rattle.dutch_bracket.specs.Context.{Context}
-use Rattle.dutch_bracket.specs.Seated.{seat_of}
-use Rattle.dutch_bracket.specs.Reached.{Reached, IsOf}
-use Rattle.dutch_bracket.specs.Quality.{NextValue}
-use Rattle.dutch_bracket.specs.Brackets.{first_group, scoregroups}
-use Rattle.dutch_bracket.specs.NextBracket.{IsNext, value_in}
+use Rattle.dutch_bracket.specs.Prelude.{Context, seat_of, Reached, IsOf, NextValue, first_group, scoregroups, IsNext, value_in}
 
 -- a look-ahead: the bracket that it looks down from, the next lower scoregroup, the lists of downfloaters for which it keeps values, the
 -- last used first, and whether memory was refused for one of them

@@ -4,13 +4,10 @@ use Rattle.std.specs.Prelude.{ℕ, Bool, true, false, not, ◌&&◌, ◌||◌, �
 use Rattle.std.specs.List.{list_any}
 use Rattle.dutch_order.specs.declared.prefix.Filling.{Filling}
 use Rattle.dutch_order.specs.declared.prefix.Filling.TheVariants.{S1, S2, S2r}
-use Rattle.dutch_order.specs.Arrangements.{Arrangement, paired}
-use Rattle.dutch_order.specs.Choices.{is_member}
-use Rattle.dutch_order.specs.Forms.{pairs_by_number}
-use Rattle.dutch_order.specs.Prefixes.{Beginning}
+use Rattle.dutch_order.specs.Prelude.{Arrangement, paired, is_member, pairs_by_number, Beginning}
 use Rattle.dutch_choice.specs.declared.wish.Wish.{Wish}
 use Rattle.dutch_choice.specs.declared.wish.Wish.TheVariants.{Pair, LeftOver}
-use Rattle.dutch_bracket.specs.Beginnings.{fixed_lists}
+use Rattle.dutch_bracket.specs.Prelude.{fixed_lists}
 use Rattle.dutch_choice.specs.Wishes.{are_these}
 
 -- a player is one of a pair

@@ -1,17 +1,12 @@
 -- What a skipper tells of the candidates that it leaves out (C.04.3 B.8). Only private functions' clauses cite these.
 use Rattle.std.specs.Prelude.{◌≡◌, ℕ, not, true}
-use Rattle.dutch_order.specs.Arrangements.{Arrangement}
-use Rattle.dutch_order.specs.Exchanged.{KnownExchange}
-use Rattle.dutch_order.specs.Keys.{IsIn}
-use Rattle.dutch_order.specs.Prefixes.{Beginning}
-use Rattle.dutch_bracket.specs.Context.{Context}
-use Rattle.dutch_bracket.specs.InContext.{OfEachBegun, candidates_here, quality_here}
-use Rattle.dutch_bracket.specs.Quality.{NextValue}
+use Rattle.dutch_order.specs.Prelude.{Arrangement, KnownExchange, IsIn, Beginning}
+use Rattle.dutch_bracket.specs.Prelude.{Context, OfEachBegun, candidates_here, quality_here, NextValue}
 use Rattle.dutch_choice.specs.declared.pass.Pass.{Pass}
 use Rattle.dutch_choice.specs.declared.bars.Skipper.{Skipper}
 use Rattle.dutch_choice.specs.Aims.{aim_in, beats}
 use Rattle.dutch_choice.specs.Kept.{wins}
-use Rattle.dutch_weights.specs.WeightFloors.{BeginsWith, KnowsNext, WeighsNoLess}
+use Rattle.dutch_weights.specs.Prelude.{BeginsWith, KnowsNext, WeighsNoLess}
 
 module _ (skipper : Skipper) where
   abbrev pub pass_of : Pass

@@ -3,19 +3,11 @@
 use Rattle.std.specs.Prelude.{◌≡◌, ◌<◌, ◌≤◌, ◌⊎◌, ◌+◌, ℕ, Bool, true, false, not, ◌&&◌, ◌||◌, ◌==◌, List, ◌∷◌, ◌++◌, filter, Option, Some, None}
 use Rattle.std.specs.List.{list_any}
 use Rattle.dutch_order.specs.declared.bracket.Shape.{Shape}
-use Rattle.dutch_order.specs.Arrangements.{Arrangement, paired}
-use Rattle.dutch_order.specs.Choices.{is_member}
-use Rattle.dutch_order.specs.Forms.{pairs_by_number}
-use Rattle.dutch_order.specs.Keys.{IsIn}
-use Rattle.dutch_player.specs.Facts.{Facts}
+use Rattle.dutch_order.specs.Prelude.{Arrangement, paired, is_member, pairs_by_number, IsIn}
+use Rattle.dutch_player.specs.Prelude.{Facts}
 use Rattle.dutch_choice.specs.declared.wish.Wish.{Wish}
 use Rattle.dutch_choice.specs.declared.wish.Wish.TheVariants.{Pair, LeftOver}
-use Rattle.dutch_bracket.specs.Context.{Context}
-use Rattle.dutch_bracket.specs.InContext.{eligible_here, quality_here}
-use Rattle.dutch_bracket.specs.Reached.{Reached, frame_of}
-use Rattle.dutch_bracket.specs.Brackets.{candidates_of, is_better_in}
-use Rattle.dutch_bracket.specs.Choice.{best}
-use Rattle.dutch_bracket.specs.Shapes.{fits}
+use Rattle.dutch_bracket.specs.Prelude.{Context, eligible_here, quality_here, Reached, frame_of, candidates_of, is_better_in, best, fits}
 
 -- a pair is that of two players, in whatever order
 abbrev pub are_these : ℕ → ℕ → ℕ × ℕ → Bool

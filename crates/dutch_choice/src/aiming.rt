@@ -2,7 +2,7 @@
 //
 // Whoever finds a matching is not trusted, and nothing is promised of an aim: a pass that finds no candidate near it is
 // made again without one.
-ghost use Rattle.dutch_bracket.specs.Seated.{HasSeats};
+ghost use Rattle.dutch_bracket.specs.Prelude.{HasSeats};
 
 use crate::pass::Pass;
 use crate::skipper::known_with;

@@ -1,8 +1,8 @@
 // The bars of a pass: what its aim weighs, and the candidate that it keeps. A skipper tells by them and by floors which
 // beginnings a pass may skip.
 ghost use Rattle.std.specs.Prelude.{◌≡◌, Some};
-ghost use Rattle.dutch_bracket.specs.QualityIn.{quality_in};
-ghost use Rattle.dutch_weights.specs.WeightFloors.{HasBar};
+ghost use Rattle.dutch_bracket.specs.Prelude.{quality_in};
+ghost use Rattle.dutch_weights.specs.Prelude.{HasBar};
 ghost use Rattle.dutch_choice.specs.Aims.{aim_in};
 ghost use Rattle.dutch_choice.specs.Kept.{kept_in};
 ghost use Rattle.dutch_choice.specs.Passes.{HasWeights};

@@ -1,10 +1,8 @@
 // The choice in a bracket (C.04.3 B.8): its shape, and the first candidate of it that none is better than.
 ghost use Rattle.std.specs.Prelude.{◌≡◌, ◌+◌, ◌-◌, ◌*◌, ◌≤◌, [], None, Some, IfOk, IfSome, min};
 ghost use Rattle.std.specs.Result.{MatchResult};
-ghost use Rattle.dutch_order.specs.Steps.{MatchDrawn, MatchFound, MatchStep, Spends};
-ghost use Rattle.dutch_bracket.specs.Reached.{IsAbove};
-ghost use Rattle.dutch_bracket.specs.Eligible.{HasCandidate};
-ghost use Rattle.dutch_bracket.specs.InContext.{FitsHere};
+ghost use Rattle.dutch_order.specs.Prelude.{MatchDrawn, MatchFound, MatchStep, Spends};
+ghost use Rattle.dutch_bracket.specs.Prelude.{IsAbove, HasCandidate, FitsHere};
 ghost use Rattle.dutch_floors.specs.Outlooks.{IsOutlook};
 ghost use Rattle.dutch_choice.specs.Aims.{best_wished};
 ghost use Rattle.dutch_choice.specs.Chosen.{IsChoice};

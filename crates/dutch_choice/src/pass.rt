@@ -1,8 +1,6 @@
 // One pass over the candidates of a shape (C.04.3 B.8): what it seeks, and the best candidate that it has found so far.
 ghost use Rattle.std.specs.Prelude.{◌≡◌};
-ghost use Rattle.dutch_bracket.specs.InContext.{FitsHere};
-ghost use Rattle.dutch_bracket.specs.QualityIn.{quality_in};
-ghost use Rattle.dutch_bracket.specs.Reached.{IsOf};
+ghost use Rattle.dutch_bracket.specs.Prelude.{FitsHere, quality_in, IsOf};
 ghost use Rattle.dutch_floors.specs.FloorOf.{IsBasis};
 ghost use Rattle.dutch_choice.specs.Aims.{aim_in, is_idle};
 

@@ -9,14 +9,12 @@ ghost use Rattle.std.specs.Map.{lookup};
 ghost use Rattle.std.specs.Result.{MatchResult};
 ghost use Rattle.lru.specs.LruCache.{lru_cache, promoted, put_entries};
 ghost use Rattle.dutch_bracket.specs.declared.reached.BracketKind.TheVariants.{Ordinary};
-ghost use Rattle.dutch_bracket.specs.Reached.{IsOf};
-ghost use Rattle.dutch_bracket.specs.NextBracket.{IsNext, IsOfBracket, AreLeft, quality};
-ghost use Rattle.dutch_bracket.specs.QualityIn.{quality_in, next_in};
-ghost use Rattle.dutch_bracket.specs.InContext.{quality_here};
+ghost use Rattle.dutch_bracket.specs.Prelude.{IsOf, IsNext, IsOfBracket, AreLeft, quality, quality_in, next_in};
+ghost use Rattle.dutch_bracket.specs.Prelude.{quality_here};
 ghost use Rattle.dutch_choice.specs.Remembered.{IsKeptAfter, IsLook, IsUsed, LooksBelow, Recalls, is_kept, is_key};
 ghost use Rattle.dutch_choice.specs.Remembered.{value_below};
 ghost use Rattle.dutch_choice.specs.Passes.{IsHere};
-ghost use Rattle.dutch_order.specs.Steps.{Spends};
+ghost use Rattle.dutch_order.specs.Prelude.{Spends};
 
 use dutch_bracket::context::Context;
 use dutch_bracket::fault::PairFault;

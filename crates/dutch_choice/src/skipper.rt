@@ -7,13 +7,9 @@
 // of these candidates is better than. With a wish, a floor is enough that holds only for those that grant it: it counts
 // the pair that is wished, or the one who is to go down, from the first question on.
 ghost use Rattle.std.specs.Prelude.{◌≡◌, ◌⊎◌, IfSome, Some, length, true, false};
-ghost use Rattle.dutch_order.specs.Arrangements.{Arrangement};
-ghost use Rattle.dutch_order.specs.Keys.{IsIn};
-ghost use Rattle.dutch_order.specs.Prefixes.{Begins};
-ghost use Rattle.dutch_bracket.specs.InContext.{FitsHere, OfEachBegun, candidates_here, quality_here};
-ghost use Rattle.dutch_bracket.specs.NextBracket.{HasNoBetter};
-ghost use Rattle.dutch_bracket.specs.Quality.{is_better};
-ghost use Rattle.dutch_bracket.specs.QualityIn.{next_in, quality_in};
+ghost use Rattle.dutch_order.specs.Prelude.{Arrangement, IsIn, Begins};
+ghost use Rattle.dutch_bracket.specs.Prelude.{FitsHere, OfEachBegun, candidates_here, quality_here, HasNoBetter};
+ghost use Rattle.dutch_bracket.specs.Prelude.{is_better, next_in, quality_in};
 ghost use Rattle.dutch_floors.specs.KnownBeside.{AreKnown, turned};
 ghost use Rattle.dutch_choice.specs.Passes.{HoldsHere, IsIdle, IsIdleIfFit, is_dull_to};
 ghost use Rattle.dutch_choice.specs.Skips.{HasNoBetterNext, IsBehindAim, IsBehindKept, OfEach, OfEachWith, Weighs};
@@ -292,8 +288,7 @@ impl<'a, 'k> Skipper<'a, 'k> {
 impl<'a, 'k> Bound for Skipper<'a, 'k> {
     type Room = Room;
 
-    ghost use Rattle.dutch_bracket.specs.InContext.{frame_here};
-    ghost use Rattle.dutch_bracket.specs.Reached.{numbers_meet, number_may_be_left};
+    ghost use Rattle.dutch_bracket.specs.Prelude.{frame_here, numbers_meet, number_may_be_left};
     ghost use Rattle.dutch_choice.specs.Passes.{is_dull_to};
 
     ghost frame = { λ s. frame_here s.search.pass.now.context.now };

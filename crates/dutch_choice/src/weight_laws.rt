@@ -3,31 +3,18 @@
 // with a beginning.
 ghost use Rattle.std.specs.Prelude.{◌≡◌, ◌+◌, ◌-◌, ◌*◌, ◌<◌, ◌≤◌, ◌++◌, ◌%◌, ℕ, true, is_some, length, sum_by, nat_lt};
 ghost use Rattle.dutch_order.specs.declared.bracket.Shape.{Shape};
-ghost use Rattle.dutch_order.specs.Arrangements.{Arrangement, down};
-ghost use Rattle.dutch_order.specs.Choices.{numbers_from};
-ghost use Rattle.dutch_order.specs.Forms.{NoneTwice};
-ghost use Rattle.dutch_order.specs.Keys.{IsIn};
-ghost use Rattle.dutch_order.specs.Prefixes.{Begins, Beginning};
-ghost use Rattle.dutch_bracket.specs.Beginnings.{fixed_lists};
-ghost use Rattle.dutch_bracket.specs.Brackets.{completable, downfloaters};
-ghost use Rattle.dutch_bracket.specs.Context.{Context};
-ghost use Rattle.dutch_bracket.specs.InContext.{FitsHere, candidates_here, frame_here, quality_here};
-ghost use Rattle.dutch_bracket.specs.NextMatchings.{IsSmall, JoinsBelow, MayPairBelow, count_below, players_below};
-ghost use Rattle.dutch_bracket.specs.NextMatchings.{seat_below};
-ghost use Rattle.dutch_bracket.specs.Quality.{Quality, is_better};
-ghost use Rattle.dutch_bracket.specs.QualityIn.{next_in};
-ghost use Rattle.dutch_bracket.specs.Reached.{IsAbove, IsOf};
-ghost use Rattle.dutch_bracket.specs.Scopes.{Covers, Scope};
-ghost use Rattle.dutch_bracket.specs.Seats.{seats_meet};
-ghost use Rattle.dutch_bracket.specs.Weights.{HasDigits, IsOn, IsScale, IsScaleFor, Scale, alone_by, number_pairs};
-ghost use Rattle.dutch_bracket.specs.Weights.{numbers, weighing, weight_below, weight_of};
+ghost use Rattle.dutch_order.specs.Prelude.{Arrangement, down, numbers_from, NoneTwice, IsIn, Begins, Beginning};
+ghost use Rattle.dutch_bracket.specs.Prelude.{fixed_lists, completable, downfloaters, Context, FitsHere};
+ghost use Rattle.dutch_bracket.specs.Prelude.{candidates_here, frame_here, quality_here, IsSmall, JoinsBelow};
+ghost use Rattle.dutch_bracket.specs.Prelude.{MayPairBelow, count_below, players_below, seat_below, Quality, is_better};
+ghost use Rattle.dutch_bracket.specs.Prelude.{next_in, IsAbove, IsOf, Covers, Scope, seats_meet, HasDigits, IsOn};
+ghost use Rattle.dutch_bracket.specs.Prelude.{IsScale, IsScaleFor, Scale, alone_by, number_pairs, numbers, weighing};
+ghost use Rattle.dutch_bracket.specs.Prelude.{weight_below, weight_of};
 ghost use Rattle.dutch_bracket.specs.declared.reached.BracketKind.TheVariants.{Ordinary};
-ghost use Rattle.dutch_weights.specs.Orders.{Order};
-ghost use Rattle.dutch_weights.specs.WeightFloors.{HasNoBetterOn, HasSameNextOn, added_in, bound_behind};
+ghost use Rattle.dutch_weights.specs.Prelude.{Order, HasNoBetterOn, HasSameNextOn, added_in, bound_behind};
 ghost use Rattle.dutch_weights.specs.declared.scoped.Reach.TheVariants.{Bracket, Lower, Next};
 ghost use Rattle.dutch_choice.specs.Costs.{costs_here};
-ghost use Rattle.dual.specs.Floors.{FloorTable, IsFloor, extra_in};
-ghost use Rattle.dual.specs.Matchings.{cost};
+ghost use Rattle.dual.specs.Prelude.{FloorTable, IsFloor, extra_in, cost};
 
 /// C.6 to C.19: the weight of a candidate is the sum of what each of its pairs and each of its downfloaters weighs
 /// alone, and, where C.7 is measured, of what its value of the next bracket weighs.

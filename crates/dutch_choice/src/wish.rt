@@ -5,9 +5,7 @@
 // is looked at.
 ghost use Rattle.std.specs.Prelude.{◌≡◌, nat_le};
 ghost use Rattle.std.specs.List.{list_any, zip};
-ghost use Rattle.dutch_order.specs.Arrangements.{paired};
-ghost use Rattle.dutch_order.specs.Choices.{is_member};
-ghost use Rattle.dutch_order.specs.Forms.{pairs_by_number};
+ghost use Rattle.dutch_order.specs.Prelude.{paired, is_member, pairs_by_number};
 ghost use Rattle.dutch_choice.specs.Wishes.{are_these, grants, is_wished};
 ghost use Rattle.dutch_choice.specs.RuledOut.{parts, has_one_of, s1_bars, s1r_bars, halves_bar, rules_out};
 

@@ -2,15 +2,11 @@
 // that grant it and beside the choice.
 ghost use Rattle.std.specs.Prelude.{◌≡◌, ◌⊎◌, ◌↔◌, ℕ, List, Some, false, true};
 ghost use Rattle.std.specs.List.{list_any};
-ghost use Rattle.dutch_order.specs.Arrangements.{Arrangement, Frame, down, players_of};
-ghost use Rattle.dutch_order.specs.Forms.{pairs_by_number};
-ghost use Rattle.dutch_order.specs.Keys.{IsIn};
+ghost use Rattle.dutch_order.specs.Prelude.{Arrangement, Frame, down, players_of, pairs_by_number, IsIn};
 ghost use Rattle.dutch_order.specs.declared.bracket.Shape.{Shape};
 ghost use Rattle.dutch_choice.specs.declared.wish.Wish.{Wish};
 ghost use Rattle.dutch_choice.specs.declared.wish.Wish.TheVariants.{LeftOver, Pair};
-ghost use Rattle.dutch_bracket.specs.Context.{Context};
-ghost use Rattle.dutch_bracket.specs.InContext.{eligible_here};
-ghost use Rattle.dutch_bracket.specs.Brackets.{best_of_shape};
+ghost use Rattle.dutch_bracket.specs.Prelude.{Context, eligible_here, best_of_shape};
 ghost use Rattle.dutch_choice.specs.Wishes.{ComesBefore, IsAsGoodBefore, best_granting, grants, is_better_here};
 
 /// That two meet is granted exactly if they are one of an arrangement's pairs. That a player of the bracket is left

@@ -6,20 +6,12 @@ use Rattle.std.specs.Prelude.{slice_index}
 use Rattle.std.specs.List.{AllByRecursion}
 use Rattle.std.proofs.lemmas.List.{length-map, nil_from_length}
 use Rattle.dutch_order.specs.declared.bracket.Shape.{Shape}
-use Rattle.dutch_order.specs.Choices.{numbers_from, is_member}
-use Rattle.dutch_order.specs.Keys.{IsIn}
-use Rattle.dutch_order.specs.Arrangements.{Frame, Arrangement, left_of, arrangements}
+use Rattle.dutch_order.specs.Prelude.{numbers_from, is_member, IsIn, Frame, Arrangement, left_of, arrangements}
 use Rattle.dutch_order.proofs.Lists.{filter-all}
 use Rattle.dutch_order.proofs.Members.{climbs-filter, filter-length, length-numbers}
-use Rattle.dutch_player.specs.Facts.{Facts}
+use Rattle.dutch_player.specs.Prelude.{Facts}
 use Rattle.dutch_bracket.specs.declared.reached.BracketKind.TheVariants.{Ordinary}
-use Rattle.dutch_bracket.specs.Seated.{seat_of, score_at}
-use Rattle.dutch_bracket.specs.Reached.{Reached, IsOf, frame_of}
-use Rattle.dutch_bracket.specs.Quality.{NextValue}
-use Rattle.dutch_bracket.specs.NextBracket.{value_in, IsFlat, IsNext}
-use Rattle.dutch_bracket.specs.PsdFloors.{repeated, IsUniform}
-use Rattle.dutch_bracket.specs.Brackets.{downfloaters}
-use Rattle.dutch_bracket.specs.Ghosts.{IsNotBetter, ghosts_meet, ghost_may_be_left, ghost_frame, ghost_floor}
+use Rattle.dutch_bracket.specs.Prelude.{seat_of, score_at, Reached, IsOf, frame_of, NextValue, value_in, IsFlat, IsNext, repeated, IsUniform, downfloaters, IsNotBetter, ghosts_meet, ghost_may_be_left, ghost_frame, ghost_floor}
 use Rattle.dutch_floors.specs.GhostValues.{first_limbo, first_ghosts, shape_by_ghosts, floor_length, floor_held, value_with_floor, ghost_value}
 use Rattle.dutch_bracket.proofs.AllLemmas.{all_filter}
 use Rattle.dutch_bracket.proofs.ArrangementParts.{parts_of, numbers_within}

@@ -6,25 +6,16 @@ use Rattle.std.proofs.lemmas.List.{length-map, length-append}
 use Rattle.dutch_order.specs.declared.bracket.Shape.{Shape}
 use Rattle.dutch_order.specs.declared.prefix.Filling.{Filling}
 use Rattle.dutch_order.specs.declared.prefix.Filling.TheVariants.{S1, S2, S2r}
-use Rattle.dutch_order.specs.Arrangements.{Arrangement, Fits, arrangements, down}
-use Rattle.dutch_order.specs.Keys.{IsIn}
-use Rattle.dutch_order.specs.Prefixes.{BeginsAt}
+use Rattle.dutch_order.specs.Prelude.{Arrangement, Fits, arrangements, down, IsIn, BeginsAt}
 use Rattle.dutch_order.proofs.FromOn.{is_same-true}
-use Rattle.dutch_player.specs.Facts.{Facts}
+use Rattle.dutch_player.specs.Prelude.{Facts}
 use Rattle.dutch_floors.specs.declared.outlook.Outlook.{Outlook}
 use Rattle.dutch_bracket.specs.declared.reached.BracketKind.{BracketKind}
 use Rattle.dutch_bracket.specs.declared.reached.BracketKind.TheVariants.{Ordinary, Last, Penultimate, Collapsed}
 use Rattle.dutch_floors.specs.FloorOf.{is_flat, residents_score, s1_by}
-use Rattle.dutch_bracket.specs.PsdFloors.{is_uniform}
-use Rattle.dutch_bracket.specs.Beginnings.{has_s1, lists_by}
-use Rattle.dutch_bracket.specs.Ghosts.{IsNotBetter, pairs_by_counts}
+use Rattle.dutch_bracket.specs.Prelude.{is_uniform, has_s1, lists_by, IsNotBetter, pairs_by_counts, IsFlat, is_lower, next_bracket, no_value, value_in, quality, HasNoBetter, NextValue, quality_with, IsAbove, IsOf, Reached, frame_of, downfloaters, first_group, quality_of, scoregroups, score_at, seat_of}
 use Rattle.dutch_floors.specs.GhostValues.{first_limbo, ghost_value}
-use Rattle.dutch_bracket.specs.NextBracket.{IsFlat, is_lower, next_bracket, no_value, value_in, quality, HasNoBetter}
 use Rattle.dutch_floors.specs.Outlooks.{IsOutlook, awaited, known_by, limbo_scores, leaves_first}
-use Rattle.dutch_bracket.specs.Quality.{NextValue, quality_with}
-use Rattle.dutch_bracket.specs.Reached.{IsAbove, IsOf, Reached, frame_of}
-use Rattle.dutch_bracket.specs.Brackets.{downfloaters, first_group, quality_of, scoregroups}
-use Rattle.dutch_bracket.specs.Seated.{score_at, seat_of}
 use Rattle.dutch_bracket.proofs.C06Psd.{flat_by_ends, uniform_of}
 use Rattle.dutch_bracket.proofs.GhostPairs.{down_count}
 use Rattle.dutch_floors.proofs.C07Ghosts.{no_value_has_more_than_half_the_players_in_pairs}

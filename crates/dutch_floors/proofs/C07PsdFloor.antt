@@ -10,16 +10,10 @@ use Rattle.std.specs.List.{AllByRecursion}
 use Rattle.std.proofs.lemmas.Bool.{ne_eqb, eq-eqb}
 use Rattle.std.proofs.lemmas.List.{length-map}
 use Rattle.dutch_order.specs.declared.bracket.Shape.{Shape}
-use Rattle.dutch_order.specs.Choices.{numbers_from, is_member}
-use Rattle.dutch_order.specs.Keys.{IsIn}
-use Rattle.dutch_order.specs.Arrangements.{Frame, Arrangement, left_of, remainder_pairs, arrangements, down}
+use Rattle.dutch_order.specs.Prelude.{numbers_from, is_member, IsIn, Frame, Arrangement, left_of, remainder_pairs, arrangements, down}
 use Rattle.dutch_order.proofs.Members.{climbs-filter, filter-length, length-numbers}
-use Rattle.dutch_player.specs.Facts.{Facts}
-use Rattle.dutch_bracket.specs.Seated.{seat_of, score_at, all_pairs, lowest, difference, difference_down}
-use Rattle.dutch_bracket.specs.Reached.{Reached, IsOf, frame_of}
-use Rattle.dutch_bracket.specs.Quality.{one_if, highest_first, psd}
-use Rattle.dutch_bracket.specs.NextBracket.{IsFlat, is_lower, psd_in}
-use Rattle.dutch_bracket.specs.PsdFloors.{repeated, floor_psd}
+use Rattle.dutch_player.specs.Prelude.{Facts}
+use Rattle.dutch_bracket.specs.Prelude.{seat_of, score_at, all_pairs, lowest, difference, difference_down, Reached, IsOf, frame_of, one_if, highest_first, psd, IsFlat, is_lower, psd_in, repeated, floor_psd}
 use Rattle.dutch_bracket.proofs.ArrangementParts.{parts_of, numbers_within}
 use Rattle.dutch_bracket.proofs.AllLemmas.{all_filter}
 use Rattle.dutch_bracket.proofs.Copies.{copies, copies_append, Lower, not_lower, highest_first_falls, highest_first_copies}

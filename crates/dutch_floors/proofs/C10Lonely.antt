@@ -8,20 +8,12 @@ use Rattle.std.proofs.lemmas.Bool.{and_parts}
 use Rattle.std.proofs.lemmas.List.{length-map}
 use Rattle.std.proofs.lemmas.List.Sums.{sum_by-append, sum_by-cons}
 use Rattle.dutch_order.specs.declared.bracket.Shape.{Shape}
-use Rattle.dutch_order.specs.Choices.{all_meet, is_member, without, tuples}
-use Rattle.dutch_order.specs.Keys.{IsIn}
-use Rattle.dutch_order.specs.Arrangements.{Arrangement, left_of, residents_of, remainder_pairs}
+use Rattle.dutch_order.specs.Prelude.{all_meet, is_member, without, tuples, IsIn, Arrangement, left_of, residents_of, remainder_pairs}
 use Rattle.dutch_order.proofs.Counts.{left-append}
 use Rattle.dutch_order.proofs.Orders.{all_members, IsIn-flat_map, IsIn-map, Rises, Rises-filter}
-use Rattle.dutch_player.specs.Facts.{Facts}
+use Rattle.dutch_player.specs.Prelude.{Facts}
 use Rattle.dutch_bracket.specs.declared.colours_missed.Miss.TheVariants.{Preference}
-use Rattle.dutch_bracket.specs.Seated.{seat_of, score_at, pairs_of, all_pairs}
-use Rattle.dutch_bracket.specs.Reached.{Reached, frame_of, numbers_meet}
-use Rattle.dutch_bracket.specs.Brackets.{candidates_of, quality_of}
-use Rattle.dutch_bracket.specs.Quality.{one_if, misses, count_in, count_in_pairs, quality_with}
-use Rattle.dutch_bracket.specs.Beginnings.{LacksEndOfS2r}
-use Rattle.dutch_bracket.specs.ColourFloors.{beyond, suits, lonely, lonely_first, lonely_second, residents_down, more_missed}
-use Rattle.dutch_bracket.specs.NextBracket.{quality}
+use Rattle.dutch_bracket.specs.Prelude.{seat_of, score_at, pairs_of, all_pairs, Reached, frame_of, numbers_meet, candidates_of, quality_of, one_if, misses, count_in, count_in_pairs, quality_with, LacksEndOfS2r, beyond, suits, lonely, lonely_first, lonely_second, residents_down, more_missed, quality}
 use Rattle.dutch_bracket.proofs.ArrangementParts.{left_none, numbers_rise, lists_of, parts_of, left_cons, tuple_members, tuple_whole}
 use Rattle.dutch_floors.proofs.C10Preferences.{beginning_misses}
 use Rattle.dutch_bracket.proofs.FixedPairs.{has_pairs, pairs_on}

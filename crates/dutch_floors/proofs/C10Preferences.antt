@@ -7,21 +7,12 @@ use Rattle.std.specs.Option.{option_map_or}
 use Rattle.trf16.specs.declared.cell.Colour.{Colour}
 use Rattle.trf16.specs.declared.cell.Colour.TheVariants.{White, Black}
 use Rattle.dutch_order.specs.declared.bracket.Shape.{Shape}
-use Rattle.dutch_order.specs.Keys.{IsIn}
-use Rattle.dutch_order.specs.Arrangements.{Arrangement, arrangements}
+use Rattle.dutch_order.specs.Prelude.{IsIn, Arrangement, arrangements}
 use Rattle.dutch_player.specs.declared.preference.Pref.{Pref}
-use Rattle.dutch_player.specs.Preferences.{is_same, preference}
-use Rattle.dutch_player.specs.Colours.{with_colour, colour_of_higher}
-use Rattle.dutch_player.specs.Facts.{Facts, seat_at}
+use Rattle.dutch_player.specs.Prelude.{is_same, preference, with_colour, colour_of_higher, Facts, seat_at}
 use Rattle.dutch_bracket.specs.declared.colours_missed.Miss.TheVariants.{Preference}
-use Rattle.dutch_bracket.specs.Seated.{all_pairs}
-use Rattle.dutch_bracket.specs.Reached.{Reached, frame_of}
-use Rattle.dutch_bracket.specs.Brackets.{downfloaters, quality_of}
-use Rattle.dutch_bracket.specs.Quality.{one_if, misses, count_of_both, count_in, count_in_pairs, quality_with}
-use Rattle.dutch_bracket.specs.Beginnings.{HasPairsOf, in_both, seated_so}
+use Rattle.dutch_bracket.specs.Prelude.{all_pairs, Reached, frame_of, downfloaters, quality_of, one_if, misses, count_of_both, count_in, count_in_pairs, quality_with, HasPairsOf, in_both, seated_so, wants, more_missed, quality}
 use Rattle.dutch_floors.specs.FloorOf.{more_in, surplus_in}
-use Rattle.dutch_bracket.specs.ColourFloors.{wants, more_missed}
-use Rattle.dutch_bracket.specs.NextBracket.{quality}
 use Rattle.dutch_bracket.proofs.FixedPairs.{Beside, beside, none_known, sum_beside}
 use Rattle.dutch_floors.proofs.FreePlayers.{free_served}
 use Rattle.dutch_floors.proofs.GrantedColours.{at_most_one}

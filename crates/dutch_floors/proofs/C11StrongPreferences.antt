@@ -9,22 +9,12 @@ use Rattle.std.proofs.lemmas.List.Sums.{sum_by-cons}
 use Rattle.trf16.specs.declared.cell.Colour.{Colour}
 use Rattle.trf16.specs.declared.cell.Colour.TheVariants.{White, Black}
 use Rattle.dutch_order.specs.declared.bracket.Shape.{Shape}
-use Rattle.dutch_order.specs.Keys.{IsIn}
-use Rattle.dutch_order.specs.Arrangements.{Arrangement}
+use Rattle.dutch_order.specs.Prelude.{IsIn, Arrangement}
 use Rattle.dutch_player.specs.declared.preference.Pref.{Pref}
-use Rattle.dutch_player.specs.Preferences.{is_same, preference}
-use Rattle.dutch_player.specs.Meetings.{clash, have_met, are_apart, colours_allow, may_meet}
-use Rattle.dutch_player.specs.Colours.{with_colour, colour_of_higher}
-use Rattle.dutch_player.specs.Facts.{SeatFacts, Facts, seat_at}
+use Rattle.dutch_player.specs.Prelude.{is_same, preference, clash, have_met, are_apart, colours_allow, may_meet, with_colour, colour_of_higher, SeatFacts, Facts, seat_at}
 use Rattle.dutch_bracket.specs.declared.colours_missed.Miss.TheVariants.{Wide, Third, StrongPreference}
-use Rattle.dutch_bracket.specs.Seated.{all_pairs}
-use Rattle.dutch_bracket.specs.Reached.{Reached}
-use Rattle.dutch_bracket.specs.Brackets.{candidates_of, downfloaters, quality_of}
-use Rattle.dutch_bracket.specs.Quality.{misses, count_of_both, count_in, has_topscorer, count_in_pairs, count_with_topscorers, quality_with}
-use Rattle.dutch_bracket.specs.Beginnings.{HasPairsOf, in_both, seated_so}
+use Rattle.dutch_bracket.specs.Prelude.{all_pairs, Reached, candidates_of, downfloaters, quality_of, misses, count_of_both, count_in, has_topscorer, count_in_pairs, count_with_topscorers, quality_with, HasPairsOf, in_both, seated_so, is_firm, wants_firmly, adds_top, more_missed_strong, quality}
 use Rattle.dutch_floors.specs.FloorOf.{more_in, surplus_in}
-use Rattle.dutch_bracket.specs.ColourFloors.{is_firm, wants_firmly, adds_top, more_missed_strong}
-use Rattle.dutch_bracket.specs.NextBracket.{quality}
 use Rattle.dutch_bracket.proofs.FixedPairs.{Beside, beside, none_known, sum_beside}
 use Rattle.dutch_floors.proofs.FreePlayers.{free_served}
 use Rattle.dutch_floors.proofs.GrantedColours.{at_most_one, adds, firm_served}

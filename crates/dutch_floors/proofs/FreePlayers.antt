@@ -5,13 +5,9 @@ use Rattle.std.specs.List.{AllByRecursion}
 use Rattle.std.proofs.lemmas.List.{length-map}
 use Rattle.std.proofs.lemmas.List.Sums.{sum_by-cons}
 use Rattle.dutch_order.specs.declared.bracket.Shape.{Shape}
-use Rattle.dutch_order.specs.Keys.{IsIn}
-use Rattle.dutch_order.specs.Arrangements.{Arrangement, arrangements}
-use Rattle.dutch_player.specs.Facts.{Facts}
-use Rattle.dutch_bracket.specs.Seated.{pairs_of, score_at, all_pairs}
-use Rattle.dutch_bracket.specs.Reached.{Reached, frame_of}
-use Rattle.dutch_bracket.specs.Brackets.{downfloaters}
-use Rattle.dutch_bracket.specs.Beginnings.{in_both}
+use Rattle.dutch_order.specs.Prelude.{IsIn, Arrangement, arrangements}
+use Rattle.dutch_player.specs.Prelude.{Facts}
+use Rattle.dutch_bracket.specs.Prelude.{pairs_of, score_at, all_pairs, Reached, frame_of, downfloaters, in_both}
 use Rattle.dutch_bracket.proofs.ArrangementParts.{parts_of}
 use Rattle.dutch_bracket.proofs.Everybody.{pairs_total, bracket_whole}
 use Rattle.dutch_bracket.proofs.FixedPairs.{Beside, sum_beside, length_beside}

@@ -4,16 +4,10 @@ use Rattle.std.proofs.Common.{◌≡◌, ℕ, zero, suc, ◌+◌, ◌-◌, ◌<�
 use Rattle.std.specs.Prelude.{slice_index}
 use Rattle.std.proofs.lemmas.List.{length-map, get_or-map}
 use Rattle.dutch_order.specs.declared.bracket.Shape.{Shape}
-use Rattle.dutch_order.specs.Choices.{numbers_from}
-use Rattle.dutch_order.specs.Arrangements.{IsBracket}
+use Rattle.dutch_order.specs.Prelude.{numbers_from, IsBracket}
 use Rattle.dutch_order.proofs.Members.{length-numbers}
-use Rattle.dutch_player.specs.Facts.{Facts}
-use Rattle.dutch_bracket.specs.Seated.{seat_of, score_at}
-use Rattle.dutch_bracket.specs.Reached.{Reached, IsOf}
-use Rattle.dutch_bracket.specs.NextBracket.{IsFlat, IsNext}
-use Rattle.dutch_bracket.specs.ColourFloors.{residents_down}
-use Rattle.dutch_bracket.specs.PsdFloors.{repeated}
-use Rattle.dutch_bracket.specs.Ghosts.{ghost_frame}
+use Rattle.dutch_player.specs.Prelude.{Facts}
+use Rattle.dutch_bracket.specs.Prelude.{seat_of, score_at, Reached, IsOf, IsFlat, IsNext, residents_down, repeated, ghost_frame}
 use Rattle.dutch_floors.specs.GhostValues.{first_limbo, first_ghosts}
 use Rattle.dutch_bracket.proofs.FlatBrackets.{seats_fall}
 use Rattle.dutch_bracket.proofs.RepeatedLemmas.{length-repeated, repeated_at}

@@ -11,12 +11,8 @@ use Rattle.trf16.specs.declared.cell.Colour.TheVariants.{White, Black}
 use Rattle.dutch_player.specs.declared.preference.Strength.{Strength}
 use Rattle.dutch_player.specs.declared.preference.Strength.TheVariants.{Absolute, Strong, Mild}
 use Rattle.dutch_player.specs.declared.preference.Pref.{Pref}
-use Rattle.dutch_player.specs.Preferences.{other, is_same, is_white, is_black, whites, blacks, last_two, for, mild, strong_or_mild, after_last_two, preference}
-use Rattle.dutch_player.specs.Meetings.{clash}
-use Rattle.dutch_player.specs.Colours.{distance, granted}
-use Rattle.dutch_player.specs.Facts.{SeatFacts}
-use Rattle.dutch_bracket.specs.Quality.{one_if, is_wide, is_third, is_strong}
-use Rattle.dutch_bracket.specs.ColourFloors.{is_firm}
+use Rattle.dutch_player.specs.Prelude.{other, is_same, is_white, is_black, whites, blacks, last_two, for, mild, strong_or_mild, after_last_two, preference, clash, distance, granted, SeatFacts}
+use Rattle.dutch_bracket.specs.Prelude.{one_if, is_wide, is_third, is_strong, is_firm}
 
 pub at_most_one : (b : Bool) → one_if b ≤ 1
 at_most_one true = omega arith

@@ -3,14 +3,10 @@ use Rattle.std.proofs.Common.{◌≡◌, ℕ, zero, suc, ◌+◌, ◌-◌, ◌<�
 use Rattle.std.proofs.lemmas.List.{length-map, append-nil}
 use Rattle.std.proofs.lemmas.List.Elements.{filter-append}
 use Rattle.std.specs.List.{AllByRecursion}
-use Rattle.dutch_order.specs.Choices.{is_member, numbers_from}
-use Rattle.dutch_order.specs.Arrangements.{left_of, Arrangement}
+use Rattle.dutch_order.specs.Prelude.{is_member, numbers_from, left_of, Arrangement}
 use Rattle.dutch_order.proofs.Members.{numbers-append}
-use Rattle.dutch_player.specs.Facts.{Facts}
-use Rattle.dutch_bracket.specs.Reached.{Reached}
-use Rattle.dutch_bracket.specs.Seated.{score_at, AllNumbers}
-use Rattle.dutch_bracket.specs.BitTables.{has_bit}
-use Rattle.dutch_bracket.specs.ColourFloors.{beyond, pool}
+use Rattle.dutch_player.specs.Prelude.{Facts}
+use Rattle.dutch_bracket.specs.Prelude.{Reached, score_at, AllNumbers, has_bit, beyond, pool}
 use Rattle.dutch_bracket.proofs.AllLemmas.{all_filter}
 use Rattle.dutch_bracket.proofs.ArrangementParts.{numbers_within}
 use Rattle.dutch_order.proofs.Skipping.{filter-keeps, filter-drops}

@@ -5,23 +5,15 @@ use Rattle.trf16.specs.declared.cell.Colour.TheVariants.{White, Black}
 use Rattle.dutch_order.specs.declared.bracket.Shape.{Shape}
 use Rattle.dutch_order.specs.declared.prefix.Filling.{Filling}
 use Rattle.dutch_order.specs.declared.prefix.Filling.TheVariants.{S1, S2, S2r}
-use Rattle.dutch_order.specs.Arrangements.{Arrangement}
-use Rattle.dutch_order.specs.Choices.{numbers_from}
-use Rattle.dutch_order.specs.Prefixes.{Beginning}
+use Rattle.dutch_order.specs.Prelude.{Arrangement, numbers_from, Beginning}
 use Rattle.dutch_order.specs.declared.numbers.TheConstants.{LIMIT}
-use Rattle.dutch_player.specs.Facts.{Facts}
-use Rattle.dutch_bracket.specs.Quality.{Quality, psd}
-use Rattle.dutch_bracket.specs.Reached.{Reached}
-use Rattle.dutch_bracket.specs.Seated.{Seated, seat_of, score_at, all_pairs}
-use Rattle.dutch_bracket.specs.Beginnings.{fixed, in_both, fixed_lists, is_of_shape, has_s1}
-use Rattle.dutch_bracket.specs.ColourFloors.{wants, wants_firmly, lonely}
-use Rattle.dutch_bracket.specs.PsdFloors.{psd_with, is_uniform}
+use Rattle.dutch_player.specs.Prelude.{Facts}
+use Rattle.dutch_bracket.specs.Prelude.{Quality, psd, Reached, Seated, seat_of, score_at, all_pairs, fixed, in_both, fixed_lists, is_of_shape, has_s1, wants, wants_firmly, lonely, psd_with, is_uniform, floor_over}
 use Rattle.dutch_floors.specs.declared.outlook.Outlook.{Outlook}
 use Rattle.dutch_floors.specs.Outlooks.{IsOutlook, awaited}
 use Rattle.dutch_floors.specs.declared.colour_floor.Wants.{Wants}
 use Rattle.dutch_floors.specs.declared.known.Known.{Known}
 use Rattle.dutch_floors.specs.KnownBeside.{known_by}
-use Rattle.dutch_bracket.specs.Floors.{floor_over}
 
 -- a bracket of a field, the shape of its arrangements, and what the next bracket can be at best
 pub record Basis : Type 0 where

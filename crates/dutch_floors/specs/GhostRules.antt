@@ -1,9 +1,8 @@
 -- What is known of ghosts once whom they meet has been read (C.04.3 C.7).
 use Rattle.std.specs.Prelude.{◌≡◌, ℕ, ◌≤◌, Bool, List, map, length}
 use Rattle.std.specs.List.{list_any}
-use Rattle.dutch_player.specs.Facts.{Facts}
-use Rattle.dutch_bracket.specs.Seated.{AreSeats}
-use Rattle.dutch_bracket.specs.Ghosts.{some_meets, may_bye}
+use Rattle.dutch_player.specs.Prelude.{Facts}
+use Rattle.dutch_bracket.specs.Prelude.{AreSeats, some_meets, may_bye}
 use Rattle.dutch_order.specs.declared.numbers.TheConstants.{LIMIT}
 
 -- the players of a bracket, for whose downfloaters ghosts stand, and lower players, by seat

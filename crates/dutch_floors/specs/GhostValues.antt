@@ -1,15 +1,9 @@
 -- What the next bracket can be at best, as ghosts tell it (C.04.3 C.7).
 use Rattle.std.specs.Prelude.{ℕ, ◌+◌, ◌-◌, ◌*◌, nat_lt, if◌then◌else◌, List, [], map, length, slice_index, Option, Some, None}
 use Rattle.dutch_order.specs.declared.bracket.Shape.{Shape}
-use Rattle.dutch_order.specs.Choices.{numbers_from}
-use Rattle.dutch_order.specs.Arrangements.{candidates}
-use Rattle.dutch_player.specs.Facts.{Facts}
-use Rattle.dutch_bracket.specs.Quality.{NextValue}
-use Rattle.dutch_bracket.specs.NextBracket.{no_value}
-use Rattle.dutch_bracket.specs.Reached.{Reached}
-use Rattle.dutch_bracket.specs.Seated.{seat_of, score_at}
-use Rattle.dutch_bracket.specs.Shapes.{greatest_shape}
-use Rattle.dutch_bracket.specs.Ghosts.{ghosts_meet, ghost_may_be_left, ghost_scores, ghost_frame, ghost_floor}
+use Rattle.dutch_order.specs.Prelude.{numbers_from, candidates}
+use Rattle.dutch_player.specs.Prelude.{Facts}
+use Rattle.dutch_bracket.specs.Prelude.{NextValue, no_value, Reached, seat_of, score_at, greatest_shape, ghosts_meet, ghost_may_be_left, ghost_scores, ghost_frame, ghost_floor}
 use Rattle.dutch_order.specs.declared.numbers.TheConstants.{LIMIT}
 
 -- the scores of the moved-down players whom the first S1 of a shape leaves over

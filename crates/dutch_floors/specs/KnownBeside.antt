@@ -2,15 +2,11 @@
 -- reader of its promise may pass them by.
 use Rattle.std.specs.Prelude.{ℕ, ◌<◌, ◌&&◌, ◌==◌, if◌then◌else◌, List, [], ◌∷◌, ◌++◌, length}
 use Rattle.std.specs.List.{list_any}
-use Rattle.dutch_order.specs.Arrangements.{Arrangement}
-use Rattle.dutch_order.specs.Keys.{IsIn}
-use Rattle.dutch_player.specs.Facts.{Facts}
+use Rattle.dutch_order.specs.Prelude.{Arrangement, IsIn}
+use Rattle.dutch_player.specs.Prelude.{Facts}
 use Rattle.dutch_floors.specs.declared.known.Known.{Known}
 use Rattle.dutch_floors.specs.declared.known.Known.TheVariants.{Down, Meet}
-use Rattle.dutch_bracket.specs.Beginnings.{seated_so}
-use Rattle.dutch_bracket.specs.Reached.{Reached}
-use Rattle.dutch_bracket.specs.Brackets.{downfloaters}
-use Rattle.dutch_bracket.specs.Seated.{Seated, all_pairs}
+use Rattle.dutch_bracket.specs.Prelude.{seated_so, Reached, downfloaters, Seated, all_pairs}
 
 -- the same of a pair in the other order
 abbrev pub turned : Known → Known

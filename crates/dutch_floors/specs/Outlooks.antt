@@ -1,18 +1,11 @@
 -- The best that the next bracket can be, as it is known before any candidate is looked at (C.04.3 C.7).
 use Rattle.std.specs.Prelude.{◌≡◌, ℕ, Bool, if◌then◌else◌, List, map, Option, Some, None}
 use Rattle.dutch_order.specs.declared.bracket.Shape.{Shape}
-use Rattle.dutch_order.specs.Arrangements.{Arrangement, arrangements, left_of}
-use Rattle.dutch_order.specs.Choices.{is_same, numbers_from}
-use Rattle.dutch_order.specs.Keys.{IsIn}
-use Rattle.dutch_player.specs.Facts.{Facts}
+use Rattle.dutch_order.specs.Prelude.{Arrangement, arrangements, left_of, is_same, numbers_from, IsIn}
+use Rattle.dutch_player.specs.Prelude.{Facts}
 use Rattle.dutch_floors.specs.declared.outlook.Outlook.{Outlook}
 use Rattle.dutch_floors.specs.GhostValues.{first_limbo}
-use Rattle.dutch_bracket.specs.Context.{Context}
-use Rattle.dutch_bracket.specs.NextBracket.{IsFlat, HasNoBetter}
-use Rattle.dutch_bracket.specs.Quality.{NextValue}
-use Rattle.dutch_bracket.specs.Reached.{Reached, frame_of}
-use Rattle.dutch_bracket.specs.Brackets.{quality_of}
-use Rattle.dutch_bracket.specs.Seated.{seat_of, score_at}
+use Rattle.dutch_bracket.specs.Prelude.{Context, IsFlat, HasNoBetter, NextValue, Reached, frame_of, quality_of, seat_of, score_at}
 
 -- the scores of the moved-down players who are not in an S1
 abbrev pub limbo_scores : Facts → Reached → List ℕ → List ℕ

@@ -2,9 +2,7 @@
 ghost use Rattle.std.specs.Prelude.{◌≡◌, ◌+◌, ◌-◌, ◌*◌, ◌<◌, ◌≤◌, length, sum_by};
 ghost use Rattle.dutch_order.specs.declared.numbers.TheConstants.{LIMIT};
 ghost use Rattle.dutch_bracket.specs.declared.colours_missed.Miss.TheVariants.{Preference, StrongPreference};
-ghost use Rattle.dutch_bracket.specs.Quality.{misses, count_in, count_in_pairs};
-ghost use Rattle.dutch_bracket.specs.Seated.{AllPairs, AreSeats, HasSeats};
-ghost use Rattle.dutch_bracket.specs.Beginnings.{in_both};
+ghost use Rattle.dutch_bracket.specs.Prelude.{misses, count_in, count_in_pairs, AllPairs, AreSeats, HasSeats, in_both};
 ghost use Rattle.dutch_floors.specs.FloorOf.{AreWants, more_in, served_in, wanting};
 
 use dutch_bracket::colours_missed::{Miss, count_in};

@@ -3,19 +3,14 @@
 ghost use Rattle.std.specs.Prelude.{◌≡◌, ◌≤◌, ◌+◌, ℕ, List, true, length, max};
 ghost use Rattle.trf16.specs.declared.cell.Colour.{Colour};
 ghost use Rattle.dutch_order.specs.declared.bracket.Shape.{Shape};
-ghost use Rattle.dutch_order.specs.Keys.{IsIn};
-ghost use Rattle.dutch_order.specs.Arrangements.{Arrangement, arrangements};
-ghost use Rattle.dutch_player.specs.Facts.{Facts};
-ghost use Rattle.dutch_player.specs.Meetings.{may_meet};
+ghost use Rattle.dutch_order.specs.Prelude.{IsIn, Arrangement, arrangements};
+ghost use Rattle.dutch_player.specs.Prelude.{Facts, may_meet};
 ghost use Rattle.dutch_bracket.specs.declared.colours_missed.Miss.TheVariants.{Wide, Third, Preference};
 ghost use Rattle.dutch_bracket.specs.declared.colours_missed.Miss.TheVariants.{StrongPreference};
-ghost use Rattle.dutch_bracket.specs.Seated.{all_pairs};
-ghost use Rattle.dutch_bracket.specs.Reached.{Reached, frame_of};
-ghost use Rattle.dutch_bracket.specs.Brackets.{candidates_of, quality_of};
-ghost use Rattle.dutch_bracket.specs.Quality.{misses, count_in, count_in_pairs, count_with_topscorers};
-ghost use Rattle.dutch_bracket.specs.Beginnings.{HasPairsOf, LacksEndOfS2r, in_both};
-ghost use Rattle.dutch_bracket.specs.ColourFloors.{wants, wants_firmly, adds_top, more_missed, more_missed_strong};
-ghost use Rattle.dutch_bracket.specs.ColourFloors.{lonely};
+ghost use Rattle.dutch_bracket.specs.Prelude.{all_pairs, Reached, frame_of, candidates_of, quality_of, misses};
+ghost use Rattle.dutch_bracket.specs.Prelude.{count_in, count_in_pairs, count_with_topscorers, HasPairsOf};
+ghost use Rattle.dutch_bracket.specs.Prelude.{LacksEndOfS2r, in_both, wants, wants_firmly, adds_top, more_missed};
+ghost use Rattle.dutch_bracket.specs.Prelude.{more_missed_strong, lonely};
 
 /// C.10: if both players of a pair want the same colour, one of them misses it.
 #[tactic(auto, using(crate::proofs::C10Preferences::pair_misses))]

@@ -1,19 +1,14 @@
 // The floor of a beginning: a quality that no candidate with this beginning is better than (C.04.3 C.6 to C.19). It is
 // asked for at each beginning that a choice comes to, so it takes no memory and looks at each player only a few times.
 ghost use Rattle.std.specs.Prelude.{◌≡◌, ◌<◌, ◌≤◌, ◌||◌, ◌&&◌, IfSome, true, length};
-ghost use Rattle.dutch_order.specs.Arrangements.{Fits};
+ghost use Rattle.dutch_order.specs.Prelude.{Fits};
 ghost use Rattle.dutch_order.specs.declared.numbers.TheConstants.{LIMIT};
-ghost use Rattle.dutch_bracket.specs.QualityIn.{next_in, quality_in};
-ghost use Rattle.dutch_bracket.specs.Beginnings.{fixed, HasNumbers, fixed_lists, has_s1};
-ghost use Rattle.dutch_bracket.specs.PsdFloors.{psd_with, is_uniform};
-ghost use Rattle.dutch_bracket.specs.InContext.{FitsHere};
-ghost use Rattle.dutch_bracket.specs.Reached.{IsOf, frame_of};
-ghost use Rattle.dutch_bracket.specs.Seated.{AllNumbers, HasSeats};
+ghost use Rattle.dutch_bracket.specs.Prelude.{next_in, quality_in, fixed, HasNumbers, fixed_lists, has_s1, psd_with};
+ghost use Rattle.dutch_bracket.specs.Prelude.{is_uniform, FitsHere, IsOf, frame_of, AllNumbers, HasSeats, IsNoBetter};
+ghost use Rattle.dutch_bracket.specs.Prelude.{floor_over};
 ghost use Rattle.dutch_floors.specs.Outlooks.{awaited};
-ghost use Rattle.dutch_bracket.specs.NextBracket.{IsNoBetter};
 ghost use Rattle.dutch_floors.specs.FloorOf.{AreWants, is_flat, is_known, residents_score, psd_over, more_by, s1_of};
 ghost use Rattle.dutch_floors.specs.FloorOf.{floor_by, floor_by_seats, floor_knowing, floor_of};
-ghost use Rattle.dutch_bracket.specs.Floors.{floor_over};
 ghost use Rattle.dutch_floors.specs.KnownBeside.{AreKnown};
 
 use crate::colour_floor::{Wants, missed, missed_strong, more_missed, wants_in};
@@ -49,11 +44,9 @@ pub struct Floors<'a> {
 
 impl<'a> Model for Floors<'a> {
     ghost use Rattle.std.specs.Prelude.{◌≡◌, true, false};
-    ghost use Rattle.dutch_order.specs.Choices.{numbers_from};
-    ghost use Rattle.dutch_bracket.specs.InContext.{FitsHere};
-    ghost use Rattle.dutch_bracket.specs.Reached.{IsOf};
+    ghost use Rattle.dutch_order.specs.Prelude.{numbers_from};
+    ghost use Rattle.dutch_bracket.specs.Prelude.{FitsHere, IsOf, is_uniform};
     ghost use Rattle.dutch_floors.specs.FloorOf.{AreWants, Basis, is_flat};
-    ghost use Rattle.dutch_bracket.specs.PsdFloors.{is_uniform};
 
     ghost Value = { Basis };
 

@@ -2,21 +2,14 @@
 // better than (C.04.3 C.6 to C.19). What bounds the choice by beginnings cites them.
 ghost use Rattle.std.specs.Prelude.{◌≡◌, ◌+◌, ◌<◌, ◌≤◌, ℕ, List, false, length, map};
 ghost use Rattle.dutch_order.specs.declared.bracket.Shape.{Shape};
-ghost use Rattle.dutch_order.specs.Arrangements.{Arrangement, arrangements};
-ghost use Rattle.dutch_order.specs.Choices.{numbers_from};
-ghost use Rattle.dutch_order.specs.Keys.{IsIn};
-ghost use Rattle.dutch_player.specs.Facts.{Facts};
+ghost use Rattle.dutch_order.specs.Prelude.{Arrangement, arrangements, numbers_from, IsIn};
+ghost use Rattle.dutch_player.specs.Prelude.{Facts};
 ghost use Rattle.dutch_bracket.specs.declared.colours_missed.Miss.TheVariants.{Wide, Third, Preference};
 ghost use Rattle.dutch_bracket.specs.declared.colours_missed.Miss.TheVariants.{StrongPreference};
-ghost use Rattle.dutch_bracket.specs.Beginnings.{HasPairsOf, fixed};
-ghost use Rattle.dutch_bracket.specs.Floors.{IsFloor, NotBelow, floor_with};
-ghost use Rattle.dutch_bracket.specs.NextBracket.{IsFlat, is_lower};
-ghost use Rattle.dutch_bracket.specs.PsdFloors.{IsUniform, psd_with};
-ghost use Rattle.dutch_bracket.specs.Quality.{NextValue, Quality, count_in_pairs, count_with_topscorers, highest_first};
-ghost use Rattle.dutch_bracket.specs.Quality.{is_better, misses};
-ghost use Rattle.dutch_bracket.specs.Reached.{IsOf, Reached, frame_of};
-ghost use Rattle.dutch_bracket.specs.Brackets.{quality_of};
-ghost use Rattle.dutch_bracket.specs.Seated.{all_pairs, difference, score_at, seat_of};
+ghost use Rattle.dutch_bracket.specs.Prelude.{HasPairsOf, fixed, IsFloor, NotBelow, floor_with, IsFlat, is_lower};
+ghost use Rattle.dutch_bracket.specs.Prelude.{IsUniform, psd_with, NextValue, Quality, count_in_pairs};
+ghost use Rattle.dutch_bracket.specs.Prelude.{count_with_topscorers, highest_first, is_better, misses, IsOf, Reached};
+ghost use Rattle.dutch_bracket.specs.Prelude.{frame_of, quality_of, all_pairs, difference, score_at, seat_of};
 
 /// C.6 to C.19: a quality that is nowhere in front of another is not better.
 #[tactic(auto, using(dutch_bracket::proofs::FloorOrder::not_better))]

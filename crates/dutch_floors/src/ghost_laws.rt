@@ -3,21 +3,16 @@
 ghost use Rattle.std.specs.Prelude.{◌≡◌, ◌+◌, ◌-◌, ◌*◌, ◌/◌, ◌≤◌, ℕ, Bool, List, [], Some, None, true, false, map};
 ghost use Rattle.std.specs.Prelude.{filter, length, slice_index};
 ghost use Rattle.dutch_order.specs.declared.bracket.Shape.{Shape};
-ghost use Rattle.dutch_order.specs.Choices.{numbers_from};
-ghost use Rattle.dutch_order.specs.Keys.{IsIn};
-ghost use Rattle.dutch_order.specs.Arrangements.{Frame, Arrangement, IsBracket, arrangements, candidates, left_of};
-ghost use Rattle.dutch_player.specs.Facts.{Facts};
+ghost use Rattle.dutch_order.specs.Prelude.{numbers_from, IsIn, Frame, Arrangement, IsBracket, arrangements};
+ghost use Rattle.dutch_order.specs.Prelude.{candidates, left_of};
+ghost use Rattle.dutch_player.specs.Prelude.{Facts};
 ghost use Rattle.dutch_bracket.specs.declared.reached.BracketKind.TheVariants.{Ordinary};
-ghost use Rattle.dutch_bracket.specs.Seated.{seat_of, score_at};
-ghost use Rattle.dutch_bracket.specs.Reached.{Reached, IsOf, frame_of, numbers_meet, number_may_be_left};
-ghost use Rattle.dutch_bracket.specs.Shapes.{fits, shapes_with, first_with, greatest_shape};
-ghost use Rattle.dutch_bracket.specs.NextBracket.{IsFlat, IsNext, is_lower, psd_in, value_of, value_in};
-ghost use Rattle.dutch_bracket.specs.Brackets.{is_penultimate, downfloaters, eligible};
-ghost use Rattle.dutch_bracket.specs.PsdFloors.{IsUniform, floor_psd};
-ghost use Rattle.dutch_bracket.specs.Ghosts.{IsNotBetter, ghosts_meet, ghost_may_be_left, ghost_scores, ghost_frame};
-ghost use Rattle.dutch_bracket.specs.Ghosts.{ghost_floor};
+ghost use Rattle.dutch_bracket.specs.Prelude.{seat_of, score_at, Reached, IsOf, frame_of, numbers_meet};
+ghost use Rattle.dutch_bracket.specs.Prelude.{number_may_be_left, fits, shapes_with, first_with, greatest_shape};
+ghost use Rattle.dutch_bracket.specs.Prelude.{IsFlat, IsNext, is_lower, psd_in, value_of, value_in, is_penultimate};
+ghost use Rattle.dutch_bracket.specs.Prelude.{downfloaters, eligible, IsUniform, floor_psd, IsNotBetter, ghosts_meet};
+ghost use Rattle.dutch_bracket.specs.Prelude.{ghost_may_be_left, ghost_scores, ghost_frame, ghost_floor, can_go_out};
 ghost use Rattle.dutch_floors.specs.GhostValues.{first_limbo, first_ghosts, ghost_value};
-ghost use Rattle.dutch_bracket.specs.Takers.{can_go_out};
 
 /// A number of pairs leaves so many downfloaters. If that many cannot be paired out with the lower players, whoever
 /// they are, then no candidate of a penultimate bracket with so many pairs can be chosen.

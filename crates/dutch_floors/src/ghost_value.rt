@@ -4,16 +4,11 @@
 ghost use Rattle.std.specs.Prelude.{◌≡◌, ◌+◌, ◌-◌, ◌*◌, ◌<◌, ◌≤◌, ◌++◌, false, length, map, slice_index};
 ghost use Rattle.std.specs.Result.{MatchResult};
 ghost use Rattle.arrayvec.specs.ArrayVec.{array_vec_len};
-ghost use Rattle.dutch_order.specs.Arrangements.{IsBracket, left_of};
+ghost use Rattle.dutch_order.specs.Prelude.{IsBracket, left_of, Spends};
 ghost use Rattle.dutch_bracket.specs.declared.reached.BracketKind.TheVariants.{Ordinary};
-ghost use Rattle.dutch_bracket.specs.Ghosts.{ghost_frame};
-ghost use Rattle.dutch_bracket.specs.InContext.{FitsHere, group_here};
+ghost use Rattle.dutch_bracket.specs.Prelude.{ghost_frame, FitsHere, group_here, IsFlat, repeated, placed_all, seat_of};
+ghost use Rattle.dutch_bracket.specs.Prelude.{score_at, AllNumbers};
 ghost use Rattle.dutch_floors.specs.GhostValues.{first_limbo, first_ghosts, floor_held, ghost_value};
-ghost use Rattle.dutch_bracket.specs.NextBracket.{IsFlat};
-ghost use Rattle.dutch_bracket.specs.PsdFloors.{repeated};
-ghost use Rattle.dutch_bracket.specs.Quality.{placed_all};
-ghost use Rattle.dutch_bracket.specs.Seated.{seat_of, score_at, AllNumbers};
-ghost use Rattle.dutch_order.specs.Steps.{Spends};
 
 use crate::ghosts::Ghosts;
 use arrayvec::ArrayVec;

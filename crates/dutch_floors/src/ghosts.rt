@@ -4,12 +4,11 @@ ghost use Rattle.std.specs.Prelude.{◌≡◌, ◌+◌, ◌-◌, ◌*◌, ◌<�
 ghost use Rattle.std.specs.List.{list_any};
 ghost use Rattle.std.specs.Result.{MatchResult};
 ghost use Rattle.dutch_order.specs.declared.numbers.TheConstants.{LIMIT};
-ghost use Rattle.dutch_player.specs.Meetings.{may_meet};
-ghost use Rattle.dutch_bracket.specs.Seated.{AreSeats};
-ghost use Rattle.dutch_bracket.specs.Ghosts.{is_upto, some_meets, may_bye, ghosts_meet, ghost_may_be_left};
+ghost use Rattle.dutch_player.specs.Prelude.{may_meet};
+ghost use Rattle.dutch_bracket.specs.Prelude.{AreSeats, is_upto, some_meets, may_bye, ghosts_meet, ghost_may_be_left};
+ghost use Rattle.dutch_bracket.specs.Prelude.{group_here};
 ghost use Rattle.dutch_floors.specs.GhostRules.{IsRead};
-ghost use Rattle.dutch_bracket.specs.InContext.{group_here};
-ghost use Rattle.dutch_order.specs.Steps.{Spends};
+ghost use Rattle.dutch_order.specs.Prelude.{Spends};
 
 use arrayvec::ArrayVec;
 use dutch_bracket::context::Context;
@@ -183,8 +182,7 @@ impl<'a> GhostRule<'a> {
 }
 
 impl<'a> Rule for GhostRule<'a> {
-    ghost use Rattle.dutch_bracket.specs.Ghosts.{ghosts_meet, ghost_may_be_left};
-    ghost use Rattle.dutch_bracket.specs.GhostLaws.{ghosts_meet_sym};
+    ghost use Rattle.dutch_bracket.specs.Prelude.{ghosts_meet, ghost_may_be_left, ghosts_meet_sym};
 
     ghost meets = { λ r. ghosts_meet r.ghosts.now.facts r.ghosts.now.seats r.count r.ghosts.now.lower };
 

@@ -6,9 +6,8 @@ ghost use Rattle.std.specs.Prelude.{◌≡◌, ◌<◌, ◌&&◌, ◌==◌, true
 ghost use Rattle.std.specs.List.{list_any};
 ghost use Rattle.arrayvec.specs.ArrayVec.{array_vec_len};
 ghost use Rattle.dutch_order.specs.declared.numbers.TheConstants.{LIMIT};
-ghost use Rattle.dutch_bracket.specs.Beginnings.{HasNumbers};
+ghost use Rattle.dutch_bracket.specs.Prelude.{HasNumbers, HasSeats, all_pairs};
 ghost use Rattle.dutch_floors.specs.KnownBeside.{AreKnown, known_by, turned, with_pair};
-ghost use Rattle.dutch_bracket.specs.Seated.{HasSeats, all_pairs};
 
 use arrayvec::ArrayVec;
 use dutch_bracket::begun::{Begun, fill_fixed};

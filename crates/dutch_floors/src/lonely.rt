@@ -3,11 +3,8 @@ ghost use Rattle.std.specs.Prelude.{◌≡◌, ◌+◌, ◌-◌, ◌<◌, ◌≤
 ghost use Rattle.std.specs.List.{list_any, AllByRecursion};
 ghost use Rattle.arrayvec.specs.ArrayVec.{array_vec_len};
 ghost use Rattle.dutch_order.specs.declared.numbers.TheConstants.{LIMIT};
-ghost use Rattle.dutch_order.specs.Choices.{is_member, numbers_from};
-ghost use Rattle.dutch_bracket.specs.Seated.{AllNumbers};
-ghost use Rattle.dutch_bracket.specs.BitTables.{has_bit};
-ghost use Rattle.dutch_bracket.specs.ColourFloors.{suits, waiting, pool, lonely};
-ghost use Rattle.dutch_bracket.specs.Beginnings.{HasNumbers};
+ghost use Rattle.dutch_order.specs.Prelude.{is_member, numbers_from};
+ghost use Rattle.dutch_bracket.specs.Prelude.{AllNumbers, has_bit, suits, waiting, pool, lonely, HasNumbers};
 
 use dutch_bracket::begun::Begun;
 use dutch_bracket::bit_table::{WORD, has_bit, set_bit};

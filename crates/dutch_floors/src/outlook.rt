@@ -4,11 +4,9 @@ ghost use Rattle.std.specs.Prelude.{◌≡◌, []};
 ghost use Rattle.std.specs.Result.{MatchResult};
 ghost use Rattle.dutch_bracket.specs.declared.reached.BracketKind.TheVariants.{Ordinary};
 ghost use Rattle.dutch_floors.specs.FloorOf.{is_flat};
-ghost use Rattle.dutch_bracket.specs.Ghosts.{pairs_by_counts};
+ghost use Rattle.dutch_bracket.specs.Prelude.{pairs_by_counts, FitsHere, group_here, IsAbove, IsOf};
 ghost use Rattle.dutch_floors.specs.Outlooks.{IsOutlookHere, leaves_first};
-ghost use Rattle.dutch_bracket.specs.InContext.{FitsHere, group_here};
-ghost use Rattle.dutch_bracket.specs.Reached.{IsAbove, IsOf};
-ghost use Rattle.dutch_order.specs.Steps.{Spends};
+ghost use Rattle.dutch_order.specs.Prelude.{Spends};
 
 use crate::ghost_value::ghost_value;
 use dutch_bracket::context::Context;

@@ -7,16 +7,9 @@ use Rattle.std.proofs.lemmas.List.{take_all, drop_all, length-map, length-take-l
 use Rattle.std.proofs.lemmas.List.Elements.{filter-append}
 use Rattle.std.proofs.lemmas.List.Folds.{list_any-append}
 use Rattle.std.proofs.lemmas.Bool.{true≢false, cases_Bool, and_parts, or_from, or_left, ltb-true, ltb-false}
-use Rattle.dutch_order.specs.Choices.{is_member, numbers_from, subsets}
-use Rattle.dutch_order.specs.Exchange.{moved_in, sum_of}
-use Rattle.dutch_order.specs.Exchanged.{IsExchange, KnownExchange}
-use Rattle.dutch_order.specs.Prefixes.{GoesOn}
-use Rattle.dutch_order.specs.Sides.{count_of}
+use Rattle.dutch_order.specs.Prelude.{is_member, numbers_from, subsets, moved_in, sum_of, IsExchange, KnownExchange, GoesOn, count_of, half_start, IsIn, IsOfStage, fixed_numbers, is_fixed, kept_of, known_exchange, out_limit, in_limit, set_of, total, value_of}
 use Rattle.dutch_order.specs.declared.exchange.Side.{Side}
 use Rattle.dutch_order.specs.declared.exchange.Side.TheVariants.{Out, In}
-use Rattle.dutch_order.specs.Halves.{half_start}
-use Rattle.dutch_order.specs.Keys.{IsIn}
-use Rattle.dutch_order.specs.Stages.{IsOfStage, fixed_numbers, is_fixed, kept_of, known_exchange, out_limit, in_limit, set_of, total, value_of}
 use Rattle.dutch_order.proofs.CursorSets.{in-member, member-in}
 use Rattle.dutch_order.proofs.ExchangeSets.{v, front-is, kept-is, moved_in-is, outs-again, places-of_exchange, set-in_pool, set-is, sum_of-append, sum_of-map, sum_of-reverse}
 use Rattle.dutch_order.proofs.Gains.{total-pairs}

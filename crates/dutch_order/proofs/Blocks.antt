@@ -1,12 +1,7 @@
 -- One turn of a level that goes through its blocks: the choice that comes is the cursor's own, or any other.
 use Rattle.std.proofs.Common.{◌≡◌, ℕ, Bool, true, false, if◌then◌else◌, List, [], ◌∷◌, refl, map, sym, subst, inl, inr, append-nil, is_some, option_copied, Bor, Option, Some, None, ap, ◌∙◌}
 use Rattle.std.specs.List.{AllByRecursion}
-use Rattle.dutch_order.specs.Arrangements.{Arrangement, left_of}
-use Rattle.dutch_order.specs.Choices.{is_same}
-use Rattle.dutch_order.specs.Levels.{Of, arranged, blocks_from, if_own, in_s1r, in_s2, s1r_blocks}
-use Rattle.dutch_order.specs.Exchange.{exchanges}
-use Rattle.dutch_order.specs.Prefixes.{GoesOn}
-use Rattle.dutch_order.specs.Steps.{Passes}
+use Rattle.dutch_order.specs.Prelude.{Arrangement, left_of, is_same, Of, arranged, blocks_from, if_own, in_s1r, in_s2, s1r_blocks, exchanges, GoesOn, Passes}
 use Rattle.std.proofs.lemmas.Bool.{cases_Bool, true≢false}
 use Rattle.dutch_order.proofs.FromOn.{is_same-true}
 use Rattle.dutch_order.proofs.LeftOut.{passes-nothing}

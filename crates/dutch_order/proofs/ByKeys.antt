@@ -2,8 +2,7 @@
 -- another if its key has the lower number at the first difference. `Comparing` shows that these are the orders of the definitions.
 use Rattle.std.specs.Prelude.{◌≡◌, ℕ, ◌-◌, Bool, true, false, ◌&&◌, ◌||◌, eqb, ltb, List, [], ◌∷◌, ◌++◌, map, length, reverse}
 use Rattle.std.specs.List.{AllByRecursion}
-use Rattle.dutch_order.specs.Exchange.{moved_in, moved_out, sum_of}
-use Rattle.dutch_order.specs.Limbo.{score_of}
+use Rattle.dutch_order.specs.Prelude.{moved_in, moved_out, sum_of, score_of}
 
 -- whether a key is before another: at the first difference its number is lower, or it has ended
 abbrev pub is_before : List ℕ → List ℕ → Bool

@@ -11,10 +11,7 @@ use Rattle.std.proofs.lemmas.Cmp.{then_total, on_total, back_total, lists_total,
 use Rattle.std.proofs.lemmas.List.{length-map, length-reverse, get_or_past}
 use Rattle.std.proofs.lemmas.Simd.{map-map}
 use Rattle.std.proofs.lemmas.Grind.{reverse_onto}
-use Rattle.dutch_order.specs.Choices.{is_member}
-use Rattle.dutch_order.specs.Exchange.{exchange_cmp, highest_out, moved_count, moved_in, moved_out, sum_difference, sum_of}
-use Rattle.dutch_order.specs.Keys.{IsIn, lower_first, Ascends as AscendsIn}
-use Rattle.dutch_order.specs.Limbo.{limbo_cmp, score_of, scores_of}
+use Rattle.dutch_order.specs.Prelude.{is_member, exchange_cmp, highest_out, moved_count, moved_in, moved_out, sum_difference, sum_of, IsIn, lower_first, Ascends as AscendsIn, limbo_cmp, score_of, scores_of}
 use Rattle.dutch_order.proofs.ByKeys.{is_before, Ascends, turned_in, exchange_key, limbo_key_in}
 use Rattle.dutch_order.proofs.Orders.{IsIn-append, IsIn-filter, all_members, is_before-total, member_has}
 

@@ -3,11 +3,7 @@ use Rattle.std.proofs.Common.{◌≡◌, ℕ, zero, suc, ◌+◌, ◌<◌, ◌�
 use Rattle.std.specs.List.{filter, AllByRecursion}
 use Rattle.std.specs.List.Sorted.{IsStrictlyIncreasing}
 use Rattle.std.proofs.lemmas.Bool.{eqb-true, ne_eqb, cases_Bool}
-use Rattle.dutch_order.specs.Choices.{subsets, tuples, is_member, is_same, without, all_meet, from_on, numbers_from}
-use Rattle.dutch_order.specs.Keys.{IsIn, sorted, lower_first}
-use Rattle.dutch_order.specs.Transposition.{transpositions}
-use Rattle.dutch_order.specs.Limbo.{limbo_exchanges, limbo_cmp}
-use Rattle.dutch_order.specs.Arrangements.{left_of}
+use Rattle.dutch_order.specs.Prelude.{subsets, tuples, is_member, is_same, without, all_meet, from_on, numbers_from, IsIn, sorted, lower_first, transpositions, limbo_exchanges, limbo_cmp, left_of}
 use Rattle.dutch_order.proofs.Orders.{all_members, IsIn-append, IsIn-map, IsIn-flat_map, Rises, Rises-from}
 use Rattle.dutch_order.proofs.Sets.{sorted-in}
 use Rattle.dutch_order.proofs.Members.{filter-length, length-numbers}

@@ -1,6 +1,6 @@
 -- Steps of reading a cursor: the parts of a text, and the lists of numbers.
 use Rattle.std.proofs.Common.{◌≡◌, ℕ, Bool, true, false, ◌==◌, cond, List, [], ◌∷◌, refl, None}
-use Rattle.dutch_order.specs.Cursors.{onto_first, parts, arrangement_of}
+use Rattle.dutch_order.specs.Prelude.{onto_first, parts, arrangement_of}
 
 -- a text with parts behind four of them is no arrangement
 pub too_many : (s1 s2 s1r s2r text : List ℕ) → arrangement_of (s1 ∷ s2 ∷ s1r ∷ s2r ∷ parts 47 text) ≡ None

@@ -3,9 +3,7 @@ use Rattle.std.proofs.Common.{◌≡◌, ℕ, ◌+◌, ◌-◌, Bool, true, fals
 use Rattle.std.specs.Prelude.{Ok, Err}
 use Rattle.std.specs.Option.{is_some}
 use Rattle.std.proofs.lemmas.Bool.{cases_Bool, true≢false}
-use Rattle.dutch_order.specs.Keys.{IsIn}
-use Rattle.dutch_order.specs.Arrangements.{Frame, Arrangement, IsBracket, residents_of, left_of, arrangements}
-use Rattle.dutch_order.specs.Cursors.{parts, cursor_text, parsed, is_of, of_bracket, cursor_of}
+use Rattle.dutch_order.specs.Prelude.{IsIn, Frame, Arrangement, IsBracket, residents_of, left_of, arrangements, parts, cursor_text, parsed, is_of, of_bracket, cursor_of}
 use Rattle.dutch_order.specs.declared.bracket.Shape.{Shape}
 use Rattle.dutch_order.specs.declared.cursor.CursorFault.{CursorFault}
 use Rattle.dutch_order.specs.declared.cursor.CursorFault.TheVariants.{Syntax, NotOfBracket}

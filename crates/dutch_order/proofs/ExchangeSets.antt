@@ -9,10 +9,7 @@ use Rattle.std.proofs.lemmas.List.Kept.{AllPairs-from_increasing}
 use Rattle.std.proofs.lemmas.Simd.{map-map}
 use Rattle.std.proofs.lemmas.Bool.{cases_order, eq-eqb, ne_eqb, or_from, or_left, or_right}
 use Rattle.dutch_order.specs.declared.exchange.Side.TheVariants.{Out, In}
-use Rattle.dutch_order.specs.Choices.{is_member, subsets, numbers_from}
-use Rattle.dutch_order.specs.Keys.{IsIn}
-use Rattle.dutch_order.specs.Exchange.{moved_out, moved_in, sum_of}
-use Rattle.dutch_order.specs.Stages.{total, value_of, kept_of, out_places, in_places}
+use Rattle.dutch_order.specs.Prelude.{is_member, subsets, numbers_from, IsIn, moved_out, moved_in, sum_of, total, value_of, kept_of, out_places, in_places}
 use Rattle.dutch_order.proofs.Lists.{map-numbers_from}
 use Rattle.dutch_order.proofs.HalfWalks.{Climbs}
 use Rattle.dutch_order.proofs.Orders.{IsIn-map, map-IsIn}

@@ -3,10 +3,7 @@ use Rattle.std.proofs.Common.{◌≡◌, ℕ, ◌+◌, ◌-◌, ◌≤◌, List,
 use Rattle.std.specs.List.{AllByRecursion}
 use Rattle.std.proofs.lemmas.List.{length-map}
 use Rattle.dutch_order.specs.declared.bracket.Shape.{Shape}
-use Rattle.dutch_order.specs.Keys.{IsIn}
-use Rattle.dutch_order.specs.Arrangements.{Frame, Arrangement, arrangements, residents_of, left_of, remainder_pairs, paired}
-use Rattle.dutch_order.specs.Cursors.{moved_down_of}
-use Rattle.dutch_order.specs.Forms.{by_place, pairs_by_number, players_in, NoneTwice, IsMovedDown, IsResident, IsInForm, HasArrangement}
+use Rattle.dutch_order.specs.Prelude.{IsIn, Frame, Arrangement, arrangements, residents_of, left_of, remainder_pairs, paired, moved_down_of, by_place, pairs_by_number, players_in, NoneTwice, IsMovedDown, IsResident, IsInForm, HasArrangement}
 use Rattle.dutch_order.proofs.Orders.{all_members, IsIn-append, IsIn-front, IsIn-back}
 use Rattle.dutch_order.proofs.CursorSets.{AreLists, lists-are, numbers-within}
 use Rattle.dutch_order.proofs.CursorArrangements.{of-in, in-of, are-lists}

@@ -2,8 +2,8 @@
 use Rattle.std.proofs.Common.{◌≡◌, ℕ, zero, suc, ◌+◌, ◌-◌, ◌*◌, Bool, true, false, cond, List, [], ◌∷◌, ◌++◌, length, refl, sym, ◌∙◌, ap, arith, length-append, Option}
 use Rattle.std.specs.List.{flat_map}
 use Rattle.std.proofs.lemmas.List.{append-nil}
-use Rattle.dutch_order.specs.Choices.{numbers_from}
-use Rattle.dutch_order.specs.Trials.{Plan, Event, Tried, Hit, hits, trials, entry, below, after, ahead}
+use Rattle.dutch_order.specs.Prelude.{numbers_from, Plan, Event, hits, trials, entry, below, after, ahead}
+use Rattle.dutch_order.specs.Trials.{Tried, Hit}
 use Rattle.dutch_order.proofs.Lists.{flat_map-same}
 use Rattle.dutch_order.proofs.Moves.{after-nil}
 

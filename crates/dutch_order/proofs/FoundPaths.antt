@@ -3,9 +3,7 @@ use Rattle.std.proofs.Common.{◌≡◌, ℕ, zero, suc, ◌+◌, ◌-◌, ◌<�
 use Rattle.std.specs.List.{flat_map}
 use Rattle.std.proofs.lemmas.List.{append-nil}
 use Rattle.std.proofs.lemmas.Bool.{cases_eq}
-use Rattle.dutch_order.specs.Choices.{numbers_from}
-use Rattle.dutch_order.specs.Trials.{Plan}
-use Rattle.dutch_order.specs.Keys.{IsIn}
+use Rattle.dutch_order.specs.Prelude.{numbers_from, Plan, IsIn}
 use Rattle.dutch_order.proofs.HalfWalks.{Admitted}
 use Rattle.dutch_order.proofs.Found.{found, found-zero, found-suc}
 use Rattle.dutch_order.proofs.Orders.{IsIn-flat_map, flat_map-IsIn, Ascends-append, is_before-lower, is_before-equal}

@@ -2,9 +2,7 @@
 use Rattle.std.proofs.Common.{◌≡◌, ℕ, zero, suc, Bool, true, false, not, eqb, cond, List, [], ◌∷◌, ◌++◌, map, length, refl, sym, ◌∙◌, ap, subst, inl, inr, if◌then◌else◌}
 use Rattle.std.specs.List.{filter}
 use Rattle.std.proofs.lemmas.Bool.{cases_Bool, eq-eqb, eqb-true, and_parts, and_from, true≢false, not_from_true, not_from_false}
-use Rattle.dutch_order.specs.Choices.{is_same, from_on}
-use Rattle.dutch_order.specs.Keys.{IsIn}
-use Rattle.dutch_order.specs.Trials.{Plan}
+use Rattle.dutch_order.specs.Prelude.{is_same, from_on, IsIn, Plan}
 use Rattle.dutch_order.proofs.HalfWalks.{Admitted}
 use Rattle.dutch_order.proofs.Hinted.{Reaches}
 use Rattle.dutch_order.proofs.Orders.{is_before-irreflexive, is_before-asymmetric, is_before-total, member_has}

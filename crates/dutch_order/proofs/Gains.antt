@@ -3,10 +3,7 @@ use Rattle.std.proofs.Common.{◌≡◌, ℕ, zero, suc, ◌+◌, ◌-◌, ◌<�
 use Rattle.std.specs.List.Sorted.{IsStrictlyIncreasing}
 use Rattle.std.proofs.lemmas.List.Kept.{AllPairs-from_increasing}
 use Rattle.dutch_order.specs.declared.exchange.Side.TheVariants.{Out, In}
-use Rattle.dutch_order.specs.Choices.{subsets}
-use Rattle.dutch_order.specs.Keys.{IsIn}
-use Rattle.dutch_order.specs.Exchange.{moved_out, moved_in, sum_of}
-use Rattle.dutch_order.specs.Stages.{total, value_of}
+use Rattle.dutch_order.specs.Prelude.{subsets, IsIn, moved_out, moved_in, sum_of, total, value_of}
 use Rattle.dutch_order.proofs.HalfWalks.{Climbs}
 use Rattle.dutch_order.proofs.ExchangeSets.{exchange-of, set-is, moved_out-is, moved_in-is, sum_of-reverse, sum_of-map}
 use Rattle.dutch_order.proofs.Orders.{IsIn-append, IsIn-map}

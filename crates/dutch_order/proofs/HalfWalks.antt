@@ -1,11 +1,9 @@
 -- The paths of a search of two halves.
 use Rattle.std.proofs.Common.{◌≡◌, ℕ, zero, suc, ◌+◌, ◌-◌, ◌<◌, ◌≤◌, Bool, true, false, ◌||◌, ◌==◌, nat_lt, List, [], ◌∷◌, ◌++◌, length, get_or, refl, sym, ◌∙◌, ap, append_assoc, arith, length-append, subst, if◌then◌else◌, take, drop, Option}
 use Rattle.std.specs.List.{AllByRecursion}
-use Rattle.dutch_order.specs.Descents.{Walked}
+use Rattle.dutch_order.specs.Prelude.{Walked, Plan, half_start, half_stop, two_halves}
 use Rattle.std.proofs.lemmas.List.{append-nil}
 use Rattle.std.proofs.lemmas.Bool.{ne_eqb, eq-eqb, or_right, lt-ltb, le-ltb}
-use Rattle.dutch_order.specs.Trials.{Plan}
-use Rattle.dutch_order.specs.Halves.{half_start, half_stop, two_halves}
 
 cond-below : (b : Bool) (x y bound : ℕ) → x ≤ bound → y ≤ bound → (if b then x else y) ≤ bound
 cond-below true x y bound p q = p

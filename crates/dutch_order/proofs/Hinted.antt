@@ -3,10 +3,7 @@ use Rattle.std.proofs.Common.{◌≡◌, ℕ, zero, suc, ◌≤◌, Bool, true, 
 use Rattle.std.specs.List.{filter}
 use Rattle.std.proofs.lemmas.List.{append-nil}
 use Rattle.std.proofs.lemmas.Bool.{cases_order, eq-eqb, ne_eqb, true≢false, not_from_false, not-true}
-use Rattle.dutch_order.specs.Trials.{Plan, entry, below, ahead, hits}
-use Rattle.dutch_order.specs.Hints.{hint_after, number_or, hinted, first_hint}
-use Rattle.dutch_order.specs.Descents.{Walked}
-use Rattle.dutch_order.specs.Keys.{IsIn}
+use Rattle.dutch_order.specs.Prelude.{Plan, entry, below, ahead, hits, hint_after, number_or, hinted, first_hint, Walked, IsIn}
 use Rattle.dutch_order.proofs.HalfWalks.{Admitted}
 use Rattle.dutch_order.proofs.Found.{found, ahead-new}
 use Rattle.dutch_order.proofs.FoundPaths.{found-admitted, admitted-found, found-ascends}

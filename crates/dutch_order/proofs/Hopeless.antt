@@ -2,12 +2,7 @@
 use Rattle.std.proofs.Common.{◌≡◌, ℕ, ◌+◌, ◌-◌, ◌*◌, ◌<◌, Bool, true, false, not, ◌&&◌, ◌||◌, cond, List, [], ◌∷◌, ◌++◌, length, length-append, refl, ◌∙◌, ap, arith, inl, inr}
 use Rattle.std.specs.List.{filter}
 use Rattle.dutch_order.specs.declared.bracket.Shape.{Shape}
-use Rattle.dutch_order.specs.Choices.{tuples, all_meet}
-use Rattle.dutch_order.specs.Keys.{IsIn, sorted, lower_first}
-use Rattle.dutch_order.specs.Exchange.{exchanges}
-use Rattle.dutch_order.specs.Limbo.{limbo_exchanges}
-use Rattle.dutch_order.specs.Arrangements.{Frame, Arrangement, Fits, players_of, residents_of, moved_down_scores, left_of, remainder_pairs, with_s2r, with_s1r, with_s2, arrangements, paired, down, leaves_one, is_legal, candidates}
-use Rattle.dutch_order.specs.Levels.{arranged}
+use Rattle.dutch_order.specs.Prelude.{tuples, all_meet, IsIn, sorted, lower_first, exchanges, limbo_exchanges, Frame, Arrangement, Fits, players_of, residents_of, moved_down_scores, left_of, remainder_pairs, with_s2r, with_s1r, with_s2, arrangements, paired, down, leaves_one, is_legal, candidates, arranged}
 use Rattle.dutch_order.proofs.Orders.{IsIn-flat_map, IsIn-map}
 use Rattle.dutch_order.proofs.Sets.{sorted-in}
 use Rattle.dutch_order.proofs.Members.{length-numbers}

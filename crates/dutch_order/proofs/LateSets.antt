@@ -3,13 +3,8 @@ use Rattle.std.proofs.Common.{◌≡◌, ℕ, suc, ◌+◌, ◌-◌, ◌<◌, �
 use Rattle.std.specs.List.Sorted.{IsStrictlyIncreasing}
 use Rattle.std.proofs.lemmas.Bool.{true≢false, cases_order, not_from_true, not_from_false}
 use Rattle.dutch_order.specs.declared.exchange.Side.TheVariants.{Out, In}
-use Rattle.dutch_order.specs.Trials.{Plan, entry, ahead, hits, lower, lowest}
+use Rattle.dutch_order.specs.Prelude.{Plan, entry, ahead, hits, lower, lowest, subsets, from_on, hinted, first_hint, IsIn, exchanges, exchange_cmp, sum_of, total, value_of, exchange_plan, kept_of, set_of, stage_left, sets_of_stages, sets_of_sizes, stages_of, least_difference, greatest_difference, most_exchanged, sets_ahead, out_places, in_places, exchange_path, exchange_difference}
 use Rattle.std.specs.List.{filter}
-use Rattle.dutch_order.specs.Choices.{subsets, from_on}
-use Rattle.dutch_order.specs.Hints.{hinted, first_hint}
-use Rattle.dutch_order.specs.Keys.{IsIn}
-use Rattle.dutch_order.specs.Exchange.{exchanges, exchange_cmp, sum_of}
-use Rattle.dutch_order.specs.Stages.{total, value_of, exchange_plan, kept_of, set_of, stage_left, sets_of_stages, sets_of_sizes, stages_of, least_difference, greatest_difference, most_exchanged, sets_ahead, out_places, in_places, exchange_path, exchange_difference}
 use Rattle.dutch_order.proofs.HalfWalks.{Climbs, Admitted}
 use Rattle.dutch_order.proofs.Orders.{is_before-lower, is_before-equal, IsIn-map, map-IsIn, IsIn-append, IsIn-front, IsIn-back, IsIn-filter, filter-IsIn, Ascends-append, Ascends-filter, Ascends-unique, is_before-asymmetric}
 use Rattle.dutch_order.proofs.Found.{found}

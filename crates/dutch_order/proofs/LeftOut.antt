@@ -2,11 +2,8 @@
 use Rattle.std.proofs.Common.{◌≡◌, ℕ, zero, suc, ◌-◌, Bool, true, false, cond, List, [], ◌∷◌, ◌++◌, length, map, Option, Result, Ok, Err, refl, sym, ◌∙◌, ap, append_assoc, subst}
 use Rattle.std.specs.List.{flat_map, AllByRecursion}
 use Rattle.std.proofs.lemmas.List.{append-nil, map-append}
-use Rattle.dutch_order.specs.Choices.{numbers_from}
-use Rattle.dutch_order.specs.Prefixes.{GoesOn}
-use Rattle.dutch_order.specs.Steps.{MatchDrawn, Passes}
-use Rattle.dutch_order.specs.Trials.{Plan, Event, Tried, hits, entry, below, after, ahead}
-use Rattle.dutch_order.specs.Descents.{IsSpent, NoneIdle}
+use Rattle.dutch_order.specs.Prelude.{numbers_from, GoesOn, MatchDrawn, Passes, Plan, Event, hits, entry, below, after, ahead, IsSpent, NoneIdle}
+use Rattle.dutch_order.specs.Trials.{Tried}
 use Rattle.dutch_order.proofs.Found.{hits-append}
 use Rattle.dutch_order.proofs.Skipping.{all-append}
 pub use Rattle.dutch_order.proofs.Skipping.{passes-none, passes-more, drawn, drawn-stopped}

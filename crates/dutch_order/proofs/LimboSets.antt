@@ -5,13 +5,7 @@ use Rattle.std.proofs.lemmas.List.{append-nil, length-map, get_or_past}
 use Rattle.std.proofs.lemmas.Simd.{map-map}
 use Rattle.std.proofs.lemmas.Bool.{true≢false, cases_Bool, eqb-true, eq-eqb, ne_eqb, and_parts, and_from, or_cases, or_left, or_right, lt-ltb, le-ltb, eqb-false, cases_lt, not_from_false, not-true}
 use Rattle.std.specs.List.{filter}
-use Rattle.dutch_order.specs.Trials.{Plan, entry, ahead, hits, trials}
-use Rattle.dutch_order.specs.Hints.{hinted, first_hint}
-use Rattle.dutch_order.specs.Choices.{subsets, from_on, numbers_from}
-use Rattle.dutch_order.specs.Keys.{IsIn}
-use Rattle.dutch_order.specs.Halves.{half_start}
-use Rattle.dutch_order.specs.Limbo.{limbo_exchanges, score_of, IsNonAscending, limbo_cmp}
-use Rattle.dutch_order.specs.LimboSearch.{limbo_plan, leads, mirrors, front_with, numbers_of, second_numbers, leader, leaders, places_of, limbo_path}
+use Rattle.dutch_order.specs.Prelude.{Plan, entry, ahead, hits, trials, hinted, first_hint, subsets, from_on, numbers_from, IsIn, half_start, limbo_exchanges, score_of, IsNonAscending, limbo_cmp, limbo_plan, leads, mirrors, front_with, numbers_of, second_numbers, leader, leaders, places_of, limbo_path}
 use Rattle.dutch_order.proofs.Lists.{map-same}
 use Rattle.dutch_order.proofs.HalfWalks.{Climbs, AllFit, Admitted, Halved, halves-split, halves-join, start-on}
 use Rattle.dutch_order.proofs.Orders.{is_before-lower, is_before-equal, is_before-cases, IsIn-map, map-IsIn}

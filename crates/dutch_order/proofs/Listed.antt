@@ -3,12 +3,7 @@ use Rattle.std.proofs.Common.{◌≡◌, ℕ, Bool, true, false, ◌&&◌, cond,
 use Rattle.std.specs.List.{filter, flat_map}
 use Rattle.std.proofs.lemmas.Bool.{cases_Bool}
 use Rattle.dutch_order.specs.declared.bracket.Shape.{Shape}
-use Rattle.dutch_order.specs.Choices.{subsets, tuples, all_meet, numbers_from}
-use Rattle.dutch_order.specs.Keys.{IsIn, sorted, lower_first}
-use Rattle.dutch_order.specs.Exchange.{exchanges, exchange_cmp}
-use Rattle.dutch_order.specs.Limbo.{limbo_exchanges, limbo_cmp}
-use Rattle.dutch_order.specs.Arrangements.{Frame, Arrangement, residents_of, moved_down_scores, left_of, remainder_pairs, with_s2r, with_s1r, with_s2, arrangements, is_legal, candidates}
-use Rattle.dutch_order.specs.Levels.{joined, arranged, in_s1r, in_s2, in_s1, in_bracket, pairs_meet, may_leave}
+use Rattle.dutch_order.specs.Prelude.{subsets, tuples, all_meet, numbers_from, IsIn, sorted, lower_first, exchanges, exchange_cmp, limbo_exchanges, limbo_cmp, Frame, Arrangement, residents_of, moved_down_scores, left_of, remainder_pairs, with_s2r, with_s1r, with_s2, arrangements, is_legal, candidates, joined, arranged, in_s1r, in_s2, in_s1, in_bracket, pairs_meet, may_leave}
 use Rattle.dutch_order.proofs.Lists.{filter-flat_map, flat_map-filter, flat_map-same, filter-same, filter-filter}
 use Rattle.dutch_order.proofs.Sets.{sorted-in}
 use Rattle.dutch_order.proofs.Counts.{subsets-length}

@@ -4,7 +4,7 @@ use Rattle.std.specs.List.{filter, AllByRecursion}
 use Rattle.std.proofs.lemmas.List.{append-nil, map-append, reverse-append}
 use Rattle.std.proofs.lemmas.List.Elements.{filter-append}
 use Rattle.std.proofs.lemmas.Bool.{cases_order, eq-eqb, ne_eqb, or_from}
-use Rattle.dutch_order.specs.Choices.{is_member, numbers_from}
+use Rattle.dutch_order.specs.Prelude.{is_member, numbers_from}
 use Rattle.dutch_order.proofs.HalfWalks.{Climbs}
 use Rattle.dutch_order.proofs.Sets.{Climbs-lower}
 

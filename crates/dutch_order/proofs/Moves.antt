@@ -2,9 +2,8 @@
 use Rattle.std.proofs.Common.{◌≡◌, ℕ, zero, suc, ◌+◌, ◌-◌, ◌<◌, ◌≤◌, true, false, cond, List, [], ◌∷◌, ◌++◌, length, refl, sym, ◌∙◌, ap, append_assoc, arith, length-append, subst, take, drop, Option, Some, None, ◌⊎◌, inl, inr}
 use Rattle.std.specs.List.{flat_map, AllByRecursion}
 use Rattle.std.proofs.lemmas.List.{append-nil}
-use Rattle.dutch_order.specs.Choices.{numbers_from}
-use Rattle.dutch_order.specs.Trials.{Plan, Event, Tried, Hit, entry, below, after, ahead, trials, lower, lowest}
-use Rattle.dutch_order.specs.Descents.{Walked}
+use Rattle.dutch_order.specs.Prelude.{numbers_from, Plan, Event, entry, below, after, ahead, trials, lower, lowest, Walked}
+use Rattle.dutch_order.specs.Trials.{Tried, Hit}
 
 -- nothing follows the empty path
 pub after-nil : (plan : Plan) (open_places : ℕ) (begun : List ℕ) → after plan open_places begun [] ≡ []

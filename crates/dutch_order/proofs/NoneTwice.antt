@@ -2,11 +2,7 @@
 use Rattle.std.proofs.Common.{◌≡◌, ℕ, suc, ◌<◌, true, not, List, [], ◌∷◌, ◌++◌, map, length, refl, sym, ap, ◌∙◌, arith, subst, inl, inr, ◌⊎◌}
 use Rattle.std.specs.List.{AllByRecursion}
 use Rattle.std.proofs.lemmas.Bool.{and_parts, and_from, not-true, not_from_false, false_from_ne_true, true≢false}
-use Rattle.dutch_order.specs.Choices.{is_member}
-use Rattle.dutch_order.specs.Keys.{IsIn}
-use Rattle.dutch_order.specs.Arrangements.{left_of}
-use Rattle.dutch_order.specs.Cursors.{are_different}
-use Rattle.dutch_order.specs.Forms.{by_place, players_in, NoneTwice, FirstsAscend}
+use Rattle.dutch_order.specs.Prelude.{is_member, IsIn, left_of, are_different, by_place, players_in, NoneTwice, FirstsAscend}
 use Rattle.dutch_order.proofs.Orders.{Rises, all_members, member_has, IsIn-append, IsIn-front, IsIn-back, IsIn-map, IsIn-filter, filter-IsIn}
 use Rattle.dutch_order.proofs.CursorSets.{member-in, in-member}
 

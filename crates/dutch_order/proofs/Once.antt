@@ -4,15 +4,9 @@ use Rattle.std.proofs.Common.{◌≡◌, ℕ, zero, suc, ◌+◌, ◌-◌, ◌<�
 use Rattle.std.specs.List.{filter, flat_map}
 use Rattle.std.proofs.lemmas.Bool.{cases_Bool, true≢false, and_parts}
 use Rattle.dutch_order.specs.declared.bracket.Shape.{Shape}
-use Rattle.dutch_order.specs.Choices.{subsets, tuples, is_same, numbers_from, is_member}
+use Rattle.dutch_order.specs.Prelude.{subsets, tuples, is_same, numbers_from, is_member, put, sorted, IsIn, HasEachOnce, lower_first, all_tuples, exchanges, exchange_cmp, limbo_exchanges, limbo_cmp, Frame, Arrangement, residents_of, moved_down_scores, left_of, remainder_pairs, with_s2r, with_s1r, with_s2, arrangements, is_same_arrangement, behind, rest, is_legal, candidates, arranged}
 use Rattle.std.specs.declared.cmp.Ordering.{Ordering}
 use Rattle.std.specs.Ordering.{is_lt}
-use Rattle.dutch_order.specs.Keys.{put, sorted, IsIn, HasEachOnce, lower_first}
-use Rattle.dutch_order.specs.Transposition.{all_tuples}
-use Rattle.dutch_order.specs.Exchange.{exchanges, exchange_cmp}
-use Rattle.dutch_order.specs.Limbo.{limbo_exchanges, limbo_cmp}
-use Rattle.dutch_order.specs.Arrangements.{Frame, Arrangement, residents_of, moved_down_scores, left_of, remainder_pairs, with_s2r, with_s1r, with_s2, arrangements, is_same_arrangement, behind, rest, is_legal, candidates}
-use Rattle.dutch_order.specs.Levels.{arranged}
 use Rattle.dutch_order.proofs.FromOn.{is_same-true}
 use Rattle.dutch_order.proofs.Sets.{put-in, sorted-in}
 use Rattle.dutch_order.proofs.Orders.{Rises, Rises-filter, IsIn-append, IsIn-map, IsIn-flat_map, member_has, is_before-irreflexive, IsIn-filter}

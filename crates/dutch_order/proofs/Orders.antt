@@ -7,7 +7,7 @@ use Rattle.std.proofs.lemmas.List.Elements.{recursion_from_All}
 use Rattle.std.proofs.lemmas.Bool.{ltb-true, lt-ltb, le-ltb, eq-eqb, eqb-true, or_cases, and_parts, or_left, cases_order, true≢false, cases_Bool}
 use Rattle.std.specs.declared.cmp.Ordering.{Ordering}
 use Rattle.std.specs.Ordering.{is_lt}
-use Rattle.dutch_order.specs.Keys.{put, sorted, IsIn}
+use Rattle.dutch_order.specs.Prelude.{put, sorted, IsIn}
 use Rattle.dutch_order.proofs.ByKeys.{is_before, Ascends}
 use Rattle.dutch_order.proofs.Skipping.{all-filter}
 pub use Rattle.dutch_order.proofs.Skipping.{all-members as all_members}

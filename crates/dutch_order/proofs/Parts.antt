@@ -2,7 +2,7 @@
 use Rattle.std.proofs.Common.{◌≡◌, ◌≢◌, ℕ, zero, suc, ◌<◌, true, false, ◌==◌, cond, get_or, List, [], ◌∷◌, ◌++◌, length, take, drop, refl, sym, ap, ◌∙◌, arith, inl, inr}
 use Rattle.std.specs.List.{flat_map, AllByRecursion}
 use Rattle.std.proofs.lemmas.Bool.Decides.{eqb_tells}
-use Rattle.dutch_order.specs.Cursors.{onto_first, parts}
+use Rattle.dutch_order.specs.Prelude.{onto_first, parts}
 
 pub not_separator : (b separator : ℕ) → b ≢ separator → (b == separator) ≡ false
 not_separator b separator ne = elim (eqb_tells b separator) [ inl same ↦ absurd (ne same.1) | inr other ↦ other.0 ]

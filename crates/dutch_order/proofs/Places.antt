@@ -1,13 +1,7 @@
 -- Where a search of exchanges stands: what is known of what lies beyond its stage, and which paths are to come.
 use Rattle.std.proofs.Common.{◌≡◌, ℕ, suc, ◌-◌, ◌≤◌, List, [], ◌∷◌, ◌++◌, map, length, refl, sym, ◌∙◌, ap, arith, subst, ◌⊎◌, inl, inr, Option, Some, None}
 use Rattle.std.specs.List.Sorted.{IsStrictlyIncreasing}
-use Rattle.dutch_order.specs.Choices.{subsets}
-use Rattle.dutch_order.specs.Hints.{hinted, first_hint}
-use Rattle.dutch_order.specs.Keys.{IsIn}
-use Rattle.dutch_order.specs.Stages.{IdleAt, IsKnown, IsOfStage, IsOwn, IsPlace, exchange_difference, exchange_path, exchange_plan, greatest_difference, most_exchanged, out_places, set_of, sets_ahead, sets_from, sets_of_sizes, sets_of_stages, stage_left}
-use Rattle.dutch_order.specs.Steps.{Passes}
-use Rattle.dutch_order.specs.Trials.{Plan, after, ahead, below, hits, lower, lowest}
-use Rattle.dutch_order.specs.Descents.{KeepsBeyond, beyond_all}
+use Rattle.dutch_order.specs.Prelude.{subsets, hinted, first_hint, IsIn, IdleAt, IsKnown, IsOfStage, IsOwn, IsPlace, exchange_difference, exchange_path, exchange_plan, greatest_difference, most_exchanged, out_places, set_of, sets_ahead, sets_from, sets_of_sizes, sets_of_stages, stage_left, Passes, Plan, after, ahead, below, hits, lower, lowest, KeepsBeyond, beyond_all}
 use Rattle.dutch_order.specs.declared.exchange.Place.{Place}
 use Rattle.dutch_order.specs.declared.search.Descent.{Descent}
 use Rattle.dutch_order.proofs.LateSets.{late-known, late-own}

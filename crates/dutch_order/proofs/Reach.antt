@@ -4,8 +4,7 @@ use Rattle.std.specs.List.Sorted.{IsStrictlyIncreasing}
 use Rattle.std.proofs.lemmas.List.Kept.{AllPairs-from_increasing}
 use Rattle.std.proofs.lemmas.Bool.{lt-ltb, le-ltb, le-leb, leb-true, and_from, and_parts, cases_lt}
 use Rattle.dutch_order.specs.declared.exchange.Side.TheVariants.{Out, In}
-use Rattle.dutch_order.specs.Choices.{numbers_from}
-use Rattle.dutch_order.specs.Stages.{total, value_of, run, least_at, greatest_at, within_reach}
+use Rattle.dutch_order.specs.Prelude.{numbers_from, total, value_of, run, least_at, greatest_at, within_reach}
 use Rattle.dutch_order.proofs.HalfWalks.{Climbs, AllFit, Climbs-room}
 use Rattle.dutch_order.proofs.LimboSets.{drop_front}
 use Rattle.dutch_order.proofs.Sets.{Climbs-lower}

@@ -3,10 +3,9 @@ use Rattle.std.proofs.Common.{◌≡◌, ℕ, zero, suc, ◌+◌, ◌<◌, ◌�
 use Rattle.std.proofs.lemmas.List.{map-append}
 use Rattle.std.proofs.lemmas.Simd.{map-map}
 use Rattle.std.proofs.lemmas.Bool.{cases_eq, true≢false, cases_Bool}
-use Rattle.dutch_order.specs.Choices.{subsets, numbers_from}
+use Rattle.dutch_order.specs.Prelude.{subsets, numbers_from, put, sorted, IsIn}
 use Rattle.std.specs.declared.cmp.Ordering.{Ordering}
 use Rattle.std.specs.Ordering.{is_lt}
-use Rattle.dutch_order.specs.Keys.{put, sorted, IsIn}
 use Rattle.dutch_order.proofs.ByKeys.{is_before, Ascends}
 use Rattle.dutch_order.proofs.HalfWalks.{Climbs}
 use Rattle.dutch_order.proofs.Orders.{IsByKey, all_members, member_has, IsIn-append, IsIn-front, IsIn-back, IsIn-map, map-IsIn, Ascends-append, Ascends-head, Ascends-unique, is_before-total, is_before-transitive, is_before-irreflexive, is_before-lower}

@@ -3,9 +3,7 @@ use Rattle.std.proofs.Common.{◌≡◌, ◌≤◌, Bool, true, false, cond, Lis
 use Rattle.std.specs.List.{AllByRecursion, filter}
 use Rattle.std.specs.Result.{IsErr}
 use Rattle.std.proofs.lemmas.List.Elements.{filter-append}
-use Rattle.dutch_order.specs.Keys.{IsIn}
-use Rattle.dutch_order.specs.Levels.{joined}
-use Rattle.dutch_order.specs.Steps.{MatchDrawn, Passes}
+use Rattle.dutch_order.specs.Prelude.{IsIn, joined, MatchDrawn, Passes}
 use Rattle.dutch_order.specs.declared.steps.Stopped.{Stopped}
 
 -- what holds of each in two lists holds of each in both

@@ -1,6 +1,6 @@
 -- What calls one after another spend of a budget.
 use Rattle.std.proofs.Common.{◌≤◌, ◌+◌, ◌∙◌, refl, arith}
-use Rattle.dutch_order.specs.Steps.{Spends}
+use Rattle.dutch_order.specs.Prelude.{Spends}
 use Rattle.dutch_order.specs.declared.steps.Budget.{Budget}
 
 -- no call has been made

@@ -1,9 +1,7 @@
 -- What is to come of exchanges, from one stage to the next.
 use Rattle.std.proofs.Common.{◌≡◌, ℕ, zero, suc, ◌+◌, ◌-◌, ◌<◌, ◌≤◌, Bool, true, false, nat_lt, nat_le, ◌⊎◌, List, [], ◌∷◌, ◌++◌, map, refl, sym, ◌∙◌, ap, append_assoc, arith, Option, Some, None, inl, inr, if◌then◌else◌}
 use Rattle.std.proofs.lemmas.Bool.{cases_Bool, ltb-true, ltb-false, leb-true, leb-false, lt-leb, le-leb}
-use Rattle.dutch_order.specs.Trials.{ahead, hits, trials, lower, lowest}
-use Rattle.dutch_order.specs.Hints.{hinted}
-use Rattle.dutch_order.specs.Stages.{exchange_plan, set_of, stage_sets, stage_left, sets_of_stages, sets_of_sizes, trials_of_stages, trials_of_sizes, stages_of_sizes, least_difference, greatest_difference, most_exchanged, sets_ahead, trials_ahead, stages_ahead, is_next, following, sets_from, trials_from}
+use Rattle.dutch_order.specs.Prelude.{ahead, hits, trials, lower, lowest, hinted, exchange_plan, set_of, stage_sets, stage_left, sets_of_stages, sets_of_sizes, trials_of_stages, trials_of_sizes, stages_of_sizes, least_difference, greatest_difference, most_exchanged, sets_ahead, trials_ahead, stages_ahead, is_next, following, sets_from, trials_from}
 use Rattle.dutch_order.specs.declared.exchange.Place.{Place}
 
 pub lower-none : (o : Option ℕ) → lower o None ≡ o

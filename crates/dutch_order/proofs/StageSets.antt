@@ -5,13 +5,9 @@ use Rattle.std.proofs.lemmas.List.{append-nil, length-map}
 use Rattle.std.proofs.lemmas.Simd.{map-map}
 use Rattle.std.proofs.lemmas.Bool.{true≢false, cases_eq, cases_Bool, and_parts, and_cases, leb-true, leb-false, lt-ltb, ltb-true}
 use Rattle.dutch_order.specs.declared.exchange.Side.TheVariants.{Out, In}
-use Rattle.dutch_order.specs.Trials.{Plan, Event, Tried, Hit, entry, below, ahead, hits, lower, lowest}
+use Rattle.dutch_order.specs.Prelude.{Plan, Event, entry, below, ahead, hits, lower, lowest, subsets, numbers_from, IsIn, exchanges, exchange_cmp, sum_of, half_start, total, value_of, within_reach, beyond_reach, exchange_plan, kept_of, set_of, stage_sets, stage_left, sets_of_stages, sets_of_sizes, stages_of, least_difference, greatest_difference, most_exchanged, sets_ahead, is_next, least_at, greatest_at}
+use Rattle.dutch_order.specs.Trials.{Tried, Hit}
 use Rattle.std.specs.List.{flat_map}
-use Rattle.dutch_order.specs.Choices.{subsets, numbers_from}
-use Rattle.dutch_order.specs.Keys.{IsIn}
-use Rattle.dutch_order.specs.Exchange.{exchanges, exchange_cmp, sum_of}
-use Rattle.dutch_order.specs.Halves.{half_start}
-use Rattle.dutch_order.specs.Stages.{total, value_of, within_reach, beyond_reach, exchange_plan, kept_of, set_of, stage_sets, stage_left, sets_of_stages, sets_of_sizes, stages_of, least_difference, greatest_difference, most_exchanged, sets_ahead, is_next, least_at, greatest_at}
 use Rattle.dutch_order.proofs.HalfWalks.{Climbs, AllFit, Admitted, halves-split, halves-join, Climbs-room}
 use Rattle.dutch_order.proofs.Orders.{is_before-lower, is_before-equal, is_before-cases, is_before-irreflexive, IsIn-map, map-IsIn, IsIn-append, IsIn-front, IsIn-back, Ascends-append, Ascends-unique, member_has}
 use Rattle.dutch_order.proofs.Found.{found, ahead-new}

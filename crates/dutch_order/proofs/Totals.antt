@@ -1,7 +1,6 @@
 -- Sums over places, step by step.
 use Rattle.std.proofs.Common.{◌≡◌, ℕ, suc, ◌+◌, ◌-◌, ◌<◌, ◌∙◌, ap, arith}
-use Rattle.dutch_order.specs.Choices.{numbers_from}
-use Rattle.dutch_order.specs.Stages.{total}
+use Rattle.dutch_order.specs.Prelude.{numbers_from, total}
 
 pub total-step : (f : ℕ → ℕ) (place stop : ℕ) → place < stop → f place + total f (numbers_from (place + 1) (stop - (place + 1))) ≡ total f (numbers_from place (stop - place))
 total-step f place stop h =

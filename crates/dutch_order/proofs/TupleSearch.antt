@@ -9,17 +9,10 @@ use Rattle.std.proofs.lemmas.List.{append-nil, map-append}
 use Rattle.std.proofs.lemmas.List.Folds.{flat_map-map, list_any-append}
 use Rattle.std.proofs.lemmas.List.Kept.{AllPairs-from_increasing}
 use Rattle.std.proofs.lemmas.Bool.{ne_eqb, eq-eqb, eqb-true, lt-ltb, le-ltb, cases_order, cases_Bool, true≢false}
-use Rattle.dutch_order.specs.Trials.{Plan, entry, ahead, hits, trials}
-use Rattle.dutch_order.specs.Choices.{tuples, without, all_meet, from_on, numbers_from}
-use Rattle.dutch_order.specs.Transposition.{transpositions, short_beginnings, beginnings_below}
-use Rattle.dutch_order.specs.TranspositionSearch.{transposition_plan, numbers_at, place_in, places_in}
-use Rattle.dutch_order.specs.Hints.{hinted, first_hint}
-use Rattle.dutch_order.specs.Steps.{Passes}
-use Rattle.dutch_order.specs.Descents.{Stands}
+use Rattle.dutch_order.specs.Prelude.{Plan, entry, ahead, hits, trials, tuples, without, all_meet, from_on, numbers_from, transpositions, short_beginnings, beginnings_below, transposition_plan, numbers_at, place_in, places_in, hinted, first_hint, Passes, Stands, sorted, IsIn, lower_first}
 use Rattle.dutch_order.proofs.LeftOut.{passes-none, passes-more, passes-same, passes-map}
 use Rattle.dutch_order.proofs.Moves.{Walked-below}
 use Rattle.dutch_order.proofs.Lists.{map-flat_map, filter-flat_map, flat_map-filter, flat_map-below, map-numbers_from, map-same, filter-same, filter-filter, filter-all}
-use Rattle.dutch_order.specs.Keys.{sorted, IsIn, lower_first}
 use Rattle.dutch_order.proofs.HalfWalks.{Admitted}
 use Rattle.dutch_order.proofs.FoundPaths.{found-admitted}
 use Rattle.dutch_order.proofs.FromOn.{is_late, from_on-filter, map-late}

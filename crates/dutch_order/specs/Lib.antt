@@ -22,3 +22,4 @@ pub mod Cursors
 pub mod CursorLists
 pub mod Prefixes
 pub mod Forms
+pub mod Prelude

@@ -41,7 +41,7 @@ use crate::generator::Generator;
 use crate::halves::first_of_half;
 use crate::numbers::{LIMIT, Numbers, fill};
 use crate::search::{
-    CutsPaths, Hinted, Path, Descent, climb_on, climb_past, end_number, first_hint, put_behind,
+    CutsPaths, Descent, Hinted, Path, climb_on, climb_past, end_number, first_hint, put_behind,
 };
 use crate::stage::{ExchangeStage, greatest_of, least_of};
 use crate::steps::{Budget, Drawn, Stopped};

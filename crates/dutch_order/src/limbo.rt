@@ -11,7 +11,7 @@ ghost use Rattle.dutch_order.specs.Keys.{IsIn};
 use crate::generator::Generator;
 use crate::halves::{end_of_half, first_of_half};
 use crate::numbers::{LIMIT, Numbers, fill};
-use crate::search::{Hinted, PLACES, Path, Tree, Descent, climb_on, first_hint, put_behind};
+use crate::search::{Descent, Hinted, PLACES, Path, Tree, climb_on, first_hint, put_behind};
 use crate::steps::{Budget, Drawn};
 use arrayvec::ArrayVec;
 use std::marker::Model;

@@ -13,7 +13,7 @@ use crate::cuts::CutsTuples;
 use crate::generator::Generator;
 use crate::numbers::{LIMIT, Numbers, fill};
 use crate::rules::Rule;
-use crate::search::{CutsPaths, Hinted, Path, Tree, Descent, climb_on, climb_past, first_hint};
+use crate::search::{CutsPaths, Descent, Hinted, Path, Tree, climb_on, climb_past, first_hint};
 use crate::steps::{Budget, Drawn};
 use arrayvec::ArrayVec;
 use std::marker::Model;

@@ -1,12 +1,10 @@
 -- Where a barrier blocks a round, its players cannot be paired out, and it has no pairing.
 use Rattle.std.proofs.Common.{◌≡◌, false, None, sym}
 use Rattle.dual.proofs.Barriers.{not_completable}
-use Rattle.dutch_player.specs.Facts.{Facts}
-use Rattle.dutch_pair.specs.Barriers.{Barrier, Blocks, label}
+use Rattle.dutch_player.specs.Prelude.{Facts}
+use Rattle.dutch_pair.specs.Prelude.{Barrier, Blocks, label, everybody, round}
 use Rattle.dutch_bracket.specs.Completion.{Completable}
-use Rattle.dutch_bracket.specs.Brackets.{completable}
-use Rattle.dutch_pair.specs.Round.{everybody, round}
-use Rattle.dutch_bracket.specs.Seats.{seats_meet, seats_may_be_left}
+use Rattle.dutch_bracket.specs.Prelude.{completable, seats_meet, seats_may_be_left}
 use Rattle.dutch_bracket.proofs.Completions.{told_no}
 use Rattle.dutch_pair.proofs.NoDeadEnd.{not_complete, unpaired_exactly}
 

@@ -1,17 +1,11 @@
 -- Whoever pairs out those whom the penultimate bracket leaves over with all lower players pairs no two of them (C.04.3 A.9).
 use Rattle.std.proofs.Common.{◌≡◌, ℕ, List, ◌++◌, Some, sym, ap, ◌∙◌, subst}
-use Rattle.dutch_order.specs.Keys.{IsIn}
+use Rattle.dutch_order.specs.Prelude.{IsIn}
 use Rattle.dutch_order.proofs.Orders.{member_has}
-use Rattle.dutch_player.specs.Facts.{Facts}
+use Rattle.dutch_player.specs.Prelude.{Facts}
 use Rattle.dutch_bracket.specs.declared.reached.BracketKind.TheVariants.{Penultimate}
-use Rattle.dutch_pair.specs.DeadEnds.{HasNoPairOf, PairOut}
-use Rattle.dutch_pair.specs.Lower.{lower_of}
-use Rattle.dutch_bracket.specs.Reached.{Reached}
-use Rattle.dutch_bracket.specs.Brackets.{Choice, bracket, choice, downfloaters}
-use Rattle.dutch_pair.specs.Round.{Visit, round}
-use Rattle.dutch_bracket.specs.SeatLaws.{seats_meet_sym}
-use Rattle.dutch_bracket.specs.Seats.{seats_meet, seats_may_be_left}
-use Rattle.dutch_pair.specs.WaysOut.{GoesOut, HasWayOut}
+use Rattle.dutch_pair.specs.Prelude.{HasNoPairOf, PairOut, lower_of, Visit, round, GoesOut, HasWayOut}
+use Rattle.dutch_bracket.specs.Prelude.{Reached, Choice, bracket, choice, downfloaters, seats_meet_sym, seats_meet, seats_may_be_left}
 use Rattle.dutch_bracket.proofs.Mates.{pairs_mates}
 use Rattle.dutch_pair.proofs.NoDeadEnd.{left_twice, no_mates}
 use Rattle.dutch_pair.proofs.StandsAbove.{IsPassed, all_passed}

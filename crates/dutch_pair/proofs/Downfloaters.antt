@@ -2,26 +2,17 @@
 -- one pair more, so there are no such two if the choice has the most pairs (C.04.3 C.5).
 use Rattle.std.proofs.Common.{◌≡◌, ℕ, ◌<◌, Bool, true, false, not, ◌&&◌, ◌==◌, List, ◌++◌, length, refl, sym, ap, ◌∙◌, arith, subst, inl, inr, Some}
 use Rattle.std.proofs.lemmas.Bool.{cases_lt, cases_order, eq-eqb, ne_eqb, and_parts, and_from, not_from_false, not-true, true≢false}
-use Rattle.dutch_order.specs.Arrangements.{Arrangement, Frame, arrangements, down, is_legal, paired, players_of}
-use Rattle.dutch_order.specs.Choices.{is_member}
-use Rattle.dutch_order.specs.Forms.{NoneTwice}
-use Rattle.dutch_order.specs.Keys.{IsIn}
+use Rattle.dutch_order.specs.Prelude.{Arrangement, Frame, arrangements, down, is_legal, paired, players_of, is_member, NoneTwice, IsIn}
 use Rattle.dutch_order.proofs.CursorSets.{numbers-within}
 use Rattle.dutch_order.proofs.NoneTwice.{in-left, rises-twice}
 use Rattle.dutch_order.proofs.Orders.{IsIn-map, Rises-filter, IsIn-filter, filter-IsIn}
-use Rattle.dutch_player.specs.Facts.{Facts}
-use Rattle.dutch_player.specs.Meetings.{may_meet}
+use Rattle.dutch_player.specs.Prelude.{Facts, may_meet}
 use Rattle.dutch_bracket.specs.declared.reached.BracketKind.{BracketKind}
-use Rattle.dutch_bracket.specs.Reached.{Reached, ends_round, frame_of, is_number, numbers_meet, number_may_be_left}
-use Rattle.dutch_bracket.specs.Brackets.{Choice, bracket, candidates_of, choice, completable, downfloaters, eligible, is_penultimate}
-use Rattle.dutch_bracket.specs.Seated.{seat_of}
-use Rattle.dutch_bracket.specs.Seats.{is_seat, seats_meet}
-use Rattle.dutch_bracket.specs.Shapes.{has_member}
+use Rattle.dutch_bracket.specs.Prelude.{Reached, ends_round, frame_of, is_number, numbers_meet, number_may_be_left, Choice, bracket, candidates_of, choice, completable, downfloaters, eligible, is_penultimate, seat_of, is_seat, seats_meet, has_member, seats_meet_sym}
 use Rattle.dutch_bracket.proofs.ArrangementParts.{numbers_rise}
 use Rattle.dutch_pair.proofs.FinalBrackets.{is_number_true, low_seat, same_number, seat_in, within}
 use Rattle.dutch_bracket.proofs.MateLists.{IsNumber, has_kept, twice_map}
 use Rattle.dutch_pair.proofs.OnePairMore.{Larger, one_larger}
-use Rattle.dutch_bracket.specs.SeatLaws.{seats_meet_sym}
 use Rattle.dutch_bracket.proofs.ShapeLaws.{has_room, none_is_greater}
 use Rattle.dutch_choice.proofs.BestLemmas.{chosen_is}
 use Rattle.dutch_bracket.proofs.EligibleLemmas.{eligible_all, eligible_some}

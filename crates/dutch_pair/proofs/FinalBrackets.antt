@@ -3,17 +3,10 @@ use Rattle.std.proofs.Common.{◌≡◌, ℕ, zero, suc, ◌-◌, ◌<◌, ◌�
 use Rattle.std.proofs.lemmas.List.{length-map}
 use Rattle.std.proofs.lemmas.Bool.{ne_eqb, and_parts, and_from, not_from_false, le-leb}
 use Rattle.dutch_order.specs.declared.bracket.Shape.{Shape}
-use Rattle.dutch_order.specs.Arrangements.{Fits, Frame}
-use Rattle.dutch_order.specs.Forms.{NoneTwice, IsMovedDown}
-use Rattle.dutch_order.specs.Keys.{IsIn}
-use Rattle.dutch_player.specs.Facts.{Facts, seat_at}
-use Rattle.dutch_player.specs.Meetings.{may_meet}
+use Rattle.dutch_order.specs.Prelude.{Fits, Frame, NoneTwice, IsMovedDown, IsIn}
+use Rattle.dutch_player.specs.Prelude.{Facts, seat_at, may_meet}
 use Rattle.dutch_bracket.specs.declared.reached.BracketKind.{BracketKind}
-use Rattle.dutch_bracket.specs.Reached.{Reached, frame_of, is_number, numbers_meet, number_may_be_left}
-use Rattle.dutch_bracket.specs.Brackets.{Choice, bracket, candidates_of, choice, eligible, shape_of}
-use Rattle.dutch_bracket.specs.Seated.{seat_of, score_at}
-use Rattle.dutch_bracket.specs.Seats.{is_seat, seats_meet, seats_may_be_left}
-use Rattle.dutch_bracket.specs.Shapes.{has_member}
+use Rattle.dutch_bracket.specs.Prelude.{Reached, frame_of, is_number, numbers_meet, number_may_be_left, Choice, bracket, candidates_of, choice, eligible, shape_of, seat_of, score_at, is_seat, seats_meet, seats_may_be_left, has_member}
 use Rattle.dutch_choice.proofs.BestLemmas.{choice_of_shape}
 use Rattle.dutch_bracket.proofs.MateLists.{IsNumber, NumberMates, mates_candidate, mates_fit, mates_shape}
 use Rattle.dutch_bracket.proofs.Mates.{AreMates}

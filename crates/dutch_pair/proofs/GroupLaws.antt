@@ -3,10 +3,8 @@ use Rattle.std.proofs.Common.{◌≡◌, ℕ, Bool, true, false, ◌==◌, ◌�
 use Rattle.std.specs.List.{AllByRecursion}
 use Rattle.std.proofs.lemmas.Bool.Decides.{nat_tests}
 use Rattle.std.proofs.lemmas.Bool.{eqb-true, cond_both}
-use Rattle.dutch_player.specs.Facts.{Facts}
-use Rattle.dutch_bracket.specs.Seated.{score_at}
-use Rattle.dutch_bracket.specs.Groups.{IsScoregroup, NeighboursDiffer}
-use Rattle.dutch_bracket.specs.Brackets.{onto_group, scoregroups}
+use Rattle.dutch_player.specs.Prelude.{Facts}
+use Rattle.dutch_bracket.specs.Prelude.{score_at, IsScoregroup, NeighboursDiffer, onto_group, scoregroups}
 
 differ_of : (a b : ℕ) → (a == b) ≡ false → a ≢ b
 differ_of a b h = grind (arith, nat_tests)

@@ -4,18 +4,13 @@ use Rattle.std.specs.List.{AllByRecursion, concat}
 use Rattle.std.proofs.lemmas.Bool.Decides.{nat_tests}
 use Rattle.std.proofs.lemmas.List.{append_cancel_left, take-append-drop}
 use Rattle.std.proofs.lemmas.Bool.{eqb-true, cond_both}
-use Rattle.dutch_order.specs.Choices.{numbers_from}
+use Rattle.dutch_order.specs.Prelude.{numbers_from}
 use Rattle.dutch_order.proofs.Members.{length-numbers}
-use Rattle.dutch_player.specs.Facts.{Facts}
+use Rattle.dutch_player.specs.Prelude.{Facts}
 use Rattle.dutch_bracket.specs.declared.reached.BracketKind.{BracketKind}
 use Rattle.dutch_bracket.specs.declared.reached.BracketKind.TheVariants.{Ordinary, Last}
-use Rattle.dutch_bracket.specs.Seated.{score_at, AreSeats}
-use Rattle.dutch_bracket.specs.Reached.{IsAbove}
-use Rattle.dutch_bracket.specs.Groups.{front_with}
-use Rattle.dutch_pair.specs.Walk.{AreRanked, AreAbove, Goes}
-use Rattle.dutch_bracket.specs.Brackets.{bracket, first_group, scoregroups}
-use Rattle.dutch_pair.specs.Round.{everybody, ordinary_bracket, brackets}
-use Rattle.dutch_pair.specs.Stages.{group_kind, round_by}
+use Rattle.dutch_bracket.specs.Prelude.{score_at, AreSeats, IsAbove, front_with, bracket, first_group, scoregroups}
+use Rattle.dutch_pair.specs.Prelude.{AreRanked, AreAbove, Goes, everybody, ordinary_bracket, brackets, group_kind, round_by}
 use Rattle.dutch_bracket.proofs.GroupLemmas.{first_group_is, first_group_taken, concat_scoregroups}
 use Rattle.dutch_pair.proofs.WalkLemmas.{Descends, is_above, ranked_seats, ranked_front, ranked_back}
 use Rattle.dutch_bracket.proofs.ArrangementParts.{numbers_above}

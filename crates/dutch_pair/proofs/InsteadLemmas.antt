@@ -3,23 +3,13 @@ use Rattle.std.proofs.Common.{◌≡◌, ◌≤◌, ◌<◌, ◌+◌, ◌⊎◌,
 use Rattle.std.specs.List.{list_any, AllByRecursion}
 use Rattle.std.proofs.lemmas.Bool.{and_parts, and_right, cases_lt, not-true, true≢false}
 use Rattle.dutch_order.specs.declared.bracket.Shape.{Shape}
-use Rattle.dutch_order.specs.Arrangements.{Arrangement, Fits, Frame}
-use Rattle.dutch_order.specs.Steps.{Passes}
-use Rattle.dutch_player.specs.Facts.{Facts}
+use Rattle.dutch_order.specs.Prelude.{Arrangement, Fits, Frame, Passes}
+use Rattle.dutch_player.specs.Prelude.{Facts}
 use Rattle.dutch_pair.specs.declared.stage.Stage.{Stage}
 use Rattle.dutch_choice.specs.declared.wish.Wish.{Wish}
-use Rattle.dutch_choice.specs.Aims.{best_wished}
-use Rattle.dutch_pair.specs.Lower.{above_lower, lower_of}
-use Rattle.dutch_bracket.specs.Context.{Context}
-use Rattle.dutch_bracket.specs.InContext.{FitsHere}
-use Rattle.dutch_pair.specs.Outcomes.{IsStage}
-use Rattle.dutch_bracket.specs.Context.{Context}
-use Rattle.dutch_bracket.specs.InContext.{eligible_here}
-use Rattle.dutch_bracket.specs.Reached.{Reached, frame_of}
-use Rattle.dutch_bracket.specs.Brackets.{candidates_of, eligible, is_penultimate, shape_of}
-use Rattle.dutch_bracket.specs.Shapes.{fits, has_member}
-use Rattle.dutch_pair.specs.Stages.{choice_of}
-use Rattle.dutch_choice.specs.Wishes.{NoneGrants, granting, grants, is_better_here, some_grants, with_mdps}
+use Rattle.dutch_choice.specs.Prelude.{best_wished, NoneGrants, granting, grants, is_better_here, some_grants, with_mdps}
+use Rattle.dutch_pair.specs.Prelude.{above_lower, lower_of, IsStage, choice_of}
+use Rattle.dutch_bracket.specs.Prelude.{Context, FitsHere, eligible_here, Reached, frame_of, candidates_of, eligible, is_penultimate, shape_of, fits, has_member}
 use Rattle.dutch_choice.proofs.BestLemmas.{best_of_some, chosen_is, order_in}
 use Rattle.dutch_bracket.proofs.EligibleLemmas.{eligible_all}
 use Rattle.dutch_bracket.proofs.ShapeLaws.{has_room, none_is_greater}

@@ -6,24 +6,17 @@ use Rattle.std.proofs.lemmas.List.Elements.{filter-append}
 use Rattle.std.proofs.lemmas.List.Sums.{sum_by-cons}
 use Rattle.trf16.specs.declared.cell.Colour.{Colour}
 use Rattle.trf16.specs.declared.cell.Colour.TheVariants.{White, Black}
-use Rattle.dutch_order.specs.Arrangements.{Arrangement, Frame}
-use Rattle.dutch_order.specs.Choices.{is_member, numbers_from}
-use Rattle.dutch_order.specs.Candidates.{Candidate}
+use Rattle.dutch_order.specs.Prelude.{Arrangement, Frame, is_member, numbers_from, Candidate}
 use Rattle.dutch_order.specs.declared.bracket.Shape.{Shape}
 use Rattle.dutch_order.specs.declared.numbers.TheConstants.{LIMIT}
 use Rattle.dutch_order.proofs.Members.{climbs-filter, filter-length, length-numbers}
 use Rattle.dutch_player.specs.declared.float.Float.{Float}
-use Rattle.dutch_player.specs.Facts.{SeatFacts, Facts, seat_at}
-use Rattle.dutch_player.specs.Colours.{colours}
+use Rattle.dutch_player.specs.Prelude.{SeatFacts, Facts, seat_at, colours}
 use Rattle.dutch_bracket.specs.declared.item.Item.{Item}
 use Rattle.dutch_bracket.specs.declared.item.Item.TheVariants.{Psd, NextBracket, WideDifferences, ThirdColours, MissedPreferences, MissedStrong, DownAgain, UpAgain, DownAgainBefore, UpAgainBefore, DownAgainBy, UpAgainBy, DownAgainBeforeBy, UpAgainBeforeBy}
 use Rattle.dutch_bracket.specs.declared.colours_missed.Miss.TheVariants.{Wide, Third, Preference, StrongPreference}
 use Rattle.dutch_bracket.specs.declared.seated.Floater.{Floater}
-use Rattle.dutch_bracket.specs.Items.{by_rank, counted, only_if, players_counted, seats_of, those_in, those_in_pairs, those_of_both, those_with_topscorers, who_counts}
-use Rattle.dutch_bracket.specs.NextBracket.{IsOfBracket, quality}
-use Rattle.dutch_bracket.specs.Quality.{again, count_in, count_in_pairs, count_of_both, float_of, has_topscorer, highest_first, is_float, misses, one_if, placed_all, quality_with}
-use Rattle.dutch_bracket.specs.Reached.{Reached, IsOf, frame_of}
-use Rattle.dutch_bracket.specs.Seated.{Seated, all_pairs, by_seats, pairs_of}
+use Rattle.dutch_bracket.specs.Prelude.{by_rank, counted, only_if, players_counted, seats_of, those_in, those_in_pairs, those_of_both, those_with_topscorers, who_counts, IsOfBracket, quality, again, count_in, count_in_pairs, count_of_both, float_of, has_topscorer, highest_first, is_float, misses, one_if, placed_all, quality_with, Reached, IsOf, frame_of, Seated, all_pairs, by_seats, pairs_of}
 use Rattle.dutch_bracket.proofs.ArrangementParts.{parts_of}
 use Rattle.dutch_bracket.proofs.CandidateSeats.{length_pairs}
 use Rattle.dutch_bracket.proofs.Places.{length_placed_all, placed_all_append}

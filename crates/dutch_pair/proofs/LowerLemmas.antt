@@ -5,13 +5,10 @@ use Rattle.std.proofs.lemmas.Bool.Decides.{nat_tests}
 use Rattle.std.proofs.lemmas.List.{drop_more, drop_all, append-nil}
 use Rattle.std.proofs.lemmas.List.Elements.{filter-append}
 use Rattle.std.proofs.lemmas.Bool.{and_right}
-use Rattle.dutch_order.specs.Keys.{IsIn}
-use Rattle.dutch_player.specs.Facts.{Facts}
-use Rattle.dutch_bracket.specs.Seated.{score_at, AreSeats}
-use Rattle.dutch_bracket.specs.Reached.{Reached}
-use Rattle.dutch_pair.specs.Walk.{AreAbove, Goes}
-use Rattle.dutch_pair.specs.Round.{everybody}
-use Rattle.dutch_pair.specs.Lower.{is_below, lower_of}
+use Rattle.dutch_order.specs.Prelude.{IsIn}
+use Rattle.dutch_player.specs.Prelude.{Facts}
+use Rattle.dutch_bracket.specs.Prelude.{score_at, AreSeats, Reached}
+use Rattle.dutch_pair.specs.Prelude.{AreAbove, Goes, everybody, is_below, lower_of}
 use Rattle.dutch_pair.proofs.GroupWalk.{everybody_goes, rest_inside}
 use Rattle.dutch_pair.proofs.WalkLemmas.{Descends, above_back}
 use Rattle.dutch_order.proofs.Hopeless.{filter-none-in}

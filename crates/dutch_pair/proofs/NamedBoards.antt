@@ -4,18 +4,14 @@ use Rattle.std.specs.Prelude.{All, ◌==◌}
 use Rattle.std.specs.List.{AllByRecursion}
 use Rattle.std.proofs.lemmas.Bool.{lt-ltb, ne_eqb, cases_lt, le-ltb, cond_both}
 use Rattle.std.proofs.lemmas.List.{length-map, get_or-map}
-use Rattle.dutch_order.specs.Choices.{numbers_from}
+use Rattle.dutch_order.specs.Prelude.{numbers_from}
 use Rattle.dutch_order.proofs.Lists.{map-numbers_from}
 use Rattle.trf16.specs.declared.cell.Colour.{Colour}
 use Rattle.trf16.specs.declared.cell.Colour.TheVariants.{White, Black}
-use Rattle.trf16.specs.Round.{named_by}
-use Rattle.dutch_player.specs.Facts.{SeatFacts, Facts, seat_at, no_seat}
-use Rattle.dutch_player.specs.Colours.{colours, with_colour, colour_of_higher}
-use Rattle.dutch_pair.specs.Boards.{goes_before, placed, ordered, board_of, bye_of, boards}
-use Rattle.dutch_bracket.specs.Seated.{IsPair}
-use Rattle.dutch_player.specs.Laws.{start_ranks, CountFromOne}
-use Rattle.dutch_pair.specs.Everybody.{NameEverybodyOnce}
-use Rattle.dutch_pair.specs.Round.{Pairing, everybody, round}
+use Rattle.trf16.specs.Prelude.{named_by}
+use Rattle.dutch_player.specs.Prelude.{SeatFacts, Facts, seat_at, no_seat, colours, with_colour, colour_of_higher, start_ranks, CountFromOne}
+use Rattle.dutch_pair.specs.Prelude.{goes_before, placed, ordered, board_of, bye_of, boards, NameEverybodyOnce, Pairing, everybody, round}
+use Rattle.dutch_bracket.specs.Prelude.{IsPair}
 use Rattle.dutch_pair.proofs.BoardLemmas.{colours_pair, pairs_ordered}
 use Rattle.dutch_bracket.proofs.Totals.{total, total_map, same_members}
 use Rattle.dutch_bracket.proofs.Everybody.{pairs_total}

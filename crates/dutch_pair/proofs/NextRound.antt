@@ -6,17 +6,11 @@ use Rattle.std.proofs.lemmas.List.Sorted.{All-permutation}
 use Rattle.std.proofs.lemmas.Map.Keys.{IsDistinct-IsPermutation}
 use Rattle.trf16.specs.declared.cell.Colour.{Colour}
 use Rattle.trf16.specs.declared.limits.TheConstants.{MOST_ROUNDS}
-use Rattle.trf16.specs.Sheet.{Sheet, known}
-use Rattle.trf16.specs.Absence.{absent}
-use Rattle.trf16.specs.Round.{CanBePaired, named_by}
-use Rattle.trf16.specs.Verdict.{verdict}
+use Rattle.trf16.specs.Prelude.{Sheet, known, absent, CanBePaired, named_by, verdict}
 use Rattle.trf16.proofs.StartRanks.{own_starts}
-use Rattle.dutch_player.specs.Facts.{Facts, facts_of, total_of}
-use Rattle.dutch_player.specs.Laws.{start_ranks}
+use Rattle.dutch_player.specs.Prelude.{Facts, facts_of, total_of, start_ranks}
 use Rattle.dutch_player.proofs.PresentLemmas.{field_of}
-use Rattle.dutch_pair.specs.Boards.{boards}
-use Rattle.dutch_pair.specs.Everybody.{NameEverybodyOnce}
-use Rattle.dutch_pair.specs.Round.{Pairing, round}
+use Rattle.dutch_pair.specs.Prelude.{boards, NameEverybodyOnce, Pairing, round}
 use Rattle.dutch_pair.proofs.NamedBoards.{everybody_named}
 
 -- a total that is asked for, or that the report names, is within the limit

@@ -7,31 +7,19 @@ use Rattle.std.proofs.Math.Seq.{take-append_seam}
 use Rattle.std.proofs.lemmas.List.{append-nil}
 use Rattle.std.proofs.lemmas.Bool.{cases_eq, cases_order, false_from_ne_true, cond_both, true_from_ne_false, true≢false, false≢true}
 use Rattle.dutch_order.specs.declared.bracket.Shape.{Shape}
-use Rattle.dutch_order.specs.Arrangements.{Arrangement, Fits, Frame, arrangements, down, is_legal}
-use Rattle.dutch_order.specs.Choices.{numbers_from}
-use Rattle.dutch_order.specs.Forms.{NoneTwice}
-use Rattle.dutch_order.specs.Keys.{IsIn}
+use Rattle.dutch_order.specs.Prelude.{Arrangement, Fits, Frame, arrangements, down, is_legal, numbers_from, NoneTwice, IsIn}
 use Rattle.dutch_order.proofs.CursorSets.{AreLists}
 use Rattle.dutch_order.proofs.FormArrangements.{in-lists}
 use Rattle.dutch_order.proofs.Lists.{filter-all, map-numbers_from}
 use Rattle.dutch_order.proofs.NoneTwice.{rises-twice, twice-apart, twice-back, twice-front, twice-join}
 use Rattle.dutch_order.proofs.Orders.{IsIn-append, IsIn-back, IsIn-front, IsIn-map, map-IsIn, IsIn-filter, filter-IsIn, member_has}
-use Rattle.dutch_player.specs.Facts.{Facts}
-use Rattle.dutch_bracket.specs.Eligible.{HasCandidate}
+use Rattle.dutch_player.specs.Prelude.{Facts}
+use Rattle.dutch_bracket.specs.Prelude.{HasCandidate, Reached, ends_round, frame_of, numbers_meet, number_may_be_left, Choice, bracket, candidates_of, choice, completable, downfloaters, eligible, is_penultimate, scoregroups, seats_meet_sym, seat_of, all_pairs, seats_meet, seats_may_be_left, has_member}
 use Rattle.dutch_bracket.specs.Completion.{Completable}
-use Rattle.dutch_pair.specs.Outcomes.{visit_of}
+use Rattle.dutch_pair.specs.Prelude.{visit_of, NoTwoMayMeet, moved_down, Pairing, Round, Visit, brackets, everybody, final_bracket, no_pairing, ordinary_bracket, pairing_in, passing, penultimate_bracket, round, paired_again, GoesOut, HasWayOut, StandsBefore}
 use Rattle.dutch_bracket.specs.declared.reached.BracketKind.{BracketKind}
 use Rattle.dutch_bracket.specs.declared.reached.BracketKind.TheVariants.{Ordinary, Last, Penultimate, Collapsed}
-use Rattle.dutch_bracket.specs.Reached.{Reached, ends_round, frame_of, numbers_meet, number_may_be_left}
-use Rattle.dutch_bracket.specs.Brackets.{Choice, bracket, candidates_of, choice, completable, downfloaters, eligible, is_penultimate, scoregroups}
-use Rattle.dutch_pair.specs.DeadEnds.{NoTwoMayMeet, moved_down}
-use Rattle.dutch_pair.specs.Round.{Pairing, Round, Visit, brackets, everybody, final_bracket, no_pairing, ordinary_bracket, pairing_in, passing, penultimate_bracket, round, paired_again}
 use Rattle.dutch_pair.proofs.RoundBy.{final_by, ordinary_by, penultimate_by}
-use Rattle.dutch_bracket.specs.SeatLaws.{seats_meet_sym}
-use Rattle.dutch_bracket.specs.Seated.{seat_of, all_pairs}
-use Rattle.dutch_bracket.specs.Seats.{seats_meet, seats_may_be_left}
-use Rattle.dutch_bracket.specs.Shapes.{has_member}
-use Rattle.dutch_pair.specs.WaysOut.{GoesOut, HasWayOut, StandsBefore}
 use Rattle.dutch_bracket.proofs.ArrangementParts.{numbers_rise}
 use Rattle.dutch_bracket.proofs.Covering.{completable_by_test}
 use Rattle.dutch_choice.proofs.BestLemmas.{chosen_is}

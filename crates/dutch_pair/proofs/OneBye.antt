@@ -3,13 +3,9 @@ use Rattle.std.proofs.Common.{◌≡◌, ℕ, ◌+◌, ◌≤◌, Bool, true, fa
 use Rattle.std.proofs.lemmas.Bool.{and_parts, true≢false}
 use Rattle.std.proofs.lemmas.List.{length-map}
 use Rattle.dutch_order.specs.declared.bracket.Shape.{Shape}
-use Rattle.dutch_order.specs.Choices.{all_meet}
-use Rattle.dutch_order.specs.Keys.{IsIn}
-use Rattle.dutch_order.specs.Arrangements.{Frame, Arrangement, arrangements, down, is_legal, leaves_one}
-use Rattle.dutch_player.specs.Facts.{Facts}
-use Rattle.dutch_bracket.specs.Reached.{Reached, ends_round, frame_of, numbers_meet, number_may_be_left}
-use Rattle.dutch_bracket.specs.Brackets.{Choice, candidates_of, choice, downfloaters, eligible, can_be_chosen}
-use Rattle.dutch_bracket.specs.Seated.{seat_of}
+use Rattle.dutch_order.specs.Prelude.{all_meet, IsIn, Frame, Arrangement, arrangements, down, is_legal, leaves_one}
+use Rattle.dutch_player.specs.Prelude.{Facts}
+use Rattle.dutch_bracket.specs.Prelude.{Reached, ends_round, frame_of, numbers_meet, number_may_be_left, Choice, candidates_of, choice, downfloaters, eligible, can_be_chosen, seat_of}
 use Rattle.dutch_bracket.proofs.LeastPsd.{in_filter}
 use Rattle.dutch_bracket.proofs.LegalPairs.{in_passes}
 use Rattle.dutch_choice.proofs.BestLemmas.{chosen_is}

@@ -1,11 +1,10 @@
 -- The round from a bracket on, for any choice in it: the form in which laws of it go by cases on the choice.
 use Rattle.std.proofs.Common.{ℕ, ◌+◌, List, ◌++◌}
 use Rattle.std.specs.Prelude.{if◌then◌else◌, Option}
-use Rattle.dutch_player.specs.Facts.{Facts}
+use Rattle.dutch_player.specs.Prelude.{Facts}
 use Rattle.dutch_bracket.specs.declared.reached.BracketKind.TheVariants.{Collapsed}
-use Rattle.dutch_bracket.specs.Reached.{Reached}
-use Rattle.dutch_bracket.specs.Brackets.{Choice, bracket, completable, downfloaters}
-use Rattle.dutch_pair.specs.Round.{Round, by_choice, ending, final_bracket, paired_again, pairing_in, passing, penultimate_bracket}
+use Rattle.dutch_bracket.specs.Prelude.{Reached, Choice, bracket, completable, downfloaters}
+use Rattle.dutch_pair.specs.Prelude.{Round, by_choice, ending, final_bracket, paired_again, pairing_in, passing, penultimate_bracket}
 
 module _ (facts : Facts) where
   abbrev pub final_by : Reached → Option Choice → Round

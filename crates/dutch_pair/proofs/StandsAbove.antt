@@ -3,17 +3,11 @@ use Rattle.std.proofs.Common.{◌≡◌, ℕ, zero, suc, ◌+◌, ◌<◌, ◌�
 use Rattle.std.proofs.lemmas.Bool.{cond_both}
 use Rattle.std.specs.List.{AllByRecursion, concat}
 use Rattle.dutch_order.specs.declared.bracket.Shape.{Shape}
-use Rattle.dutch_player.specs.Facts.{Facts}
+use Rattle.dutch_player.specs.Prelude.{Facts}
 use Rattle.dutch_bracket.specs.declared.reached.BracketKind.{BracketKind}
 use Rattle.dutch_bracket.specs.declared.reached.BracketKind.TheVariants.{Ordinary, Last, Penultimate, Collapsed}
-use Rattle.dutch_bracket.specs.Reached.{Reached, IsAbove}
-use Rattle.dutch_pair.specs.Walk.{Goes}
-use Rattle.dutch_pair.specs.WaysOut.{GoesOut, StandsBefore}
-use Rattle.dutch_pair.specs.Lower.{lower_of}
-use Rattle.dutch_pair.specs.Outcomes.{shown, visit_at, visit_of}
-use Rattle.dutch_pair.specs.Stages.{group_kind}
-use Rattle.dutch_bracket.specs.Brackets.{Choice, bracket, choice, completable, downfloaters, first_group, scoregroups, shape_of}
-use Rattle.dutch_pair.specs.Round.{Round, Visit, everybody, no_pairing, passing, pairing_in, penultimate_bracket, paired_again, brackets, round}
+use Rattle.dutch_bracket.specs.Prelude.{Reached, IsAbove, Choice, bracket, choice, completable, downfloaters, first_group, scoregroups, shape_of}
+use Rattle.dutch_pair.specs.Prelude.{Goes, GoesOut, StandsBefore, lower_of, shown, visit_at, visit_of, group_kind, Round, Visit, everybody, no_pairing, passing, pairing_in, penultimate_bracket, paired_again, brackets, round}
 use Rattle.dutch_pair.proofs.RoundBy.{final_by, penultimate_by, ordinary_by}
 use Rattle.dutch_choice.proofs.BestLemmas.{chosen_is}
 use Rattle.dutch_bracket.proofs.GroupLemmas.{concat_scoregroups}

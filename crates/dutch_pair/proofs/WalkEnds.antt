@@ -3,17 +3,11 @@ use Rattle.std.proofs.Common.{◌≡◌, ℕ, ◌+◌, ◌≤◌, List, [], ◌�
 use Rattle.std.specs.List.{AllByRecursion}
 use Rattle.std.proofs.lemmas.List.{length-map}
 use Rattle.dutch_order.specs.declared.bracket.Shape.{Shape}
-use Rattle.dutch_order.specs.Arrangements.{Arrangement, arrangements, down, is_legal}
-use Rattle.dutch_order.specs.Candidates.{Candidate}
-use Rattle.dutch_order.specs.Keys.{IsIn}
-use Rattle.dutch_player.specs.Facts.{Facts}
+use Rattle.dutch_order.specs.Prelude.{Arrangement, arrangements, down, is_legal, Candidate, IsIn}
+use Rattle.dutch_player.specs.Prelude.{Facts}
 use Rattle.dutch_bracket.specs.declared.reached.BracketKind.TheVariants.{Ordinary, Penultimate, Collapsed}
-use Rattle.dutch_bracket.specs.Seated.{IsPair, seat_of, AreSeats, AllNumbers, IsCandidate}
-use Rattle.dutch_bracket.specs.Reached.{Reached, IsOf, IsAbove, frame_of, numbers_meet, number_may_be_left}
-use Rattle.dutch_bracket.specs.NextBracket.{IsOfBracket}
-use Rattle.dutch_pair.specs.Walk.{AreAbove, Goes}
-use Rattle.dutch_bracket.specs.Brackets.{bracket, can_be_chosen, downfloaters, candidates_of, eligible, choice}
-use Rattle.dutch_pair.specs.Round.{paired_again}
+use Rattle.dutch_bracket.specs.Prelude.{IsPair, seat_of, AreSeats, AllNumbers, IsCandidate, Reached, IsOf, IsAbove, frame_of, numbers_meet, number_may_be_left, IsOfBracket, bracket, can_be_chosen, downfloaters, candidates_of, eligible, choice}
+use Rattle.dutch_pair.specs.Prelude.{AreAbove, Goes, paired_again}
 use Rattle.dutch_bracket.proofs.LeastPsd.{in_filter}
 use Rattle.dutch_choice.proofs.BestLemmas.{chosen_is}
 use Rattle.dutch_bracket.proofs.FlatBrackets.{candidate_of}

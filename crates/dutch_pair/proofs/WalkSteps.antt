@@ -2,26 +2,16 @@
 use Rattle.std.proofs.Common.{◌≡◌, ℕ, ◌+◌, ◌≤◌, Bool, true, false, cond, List, [], ◌∷◌, ◌++◌, length, map, Option, Some, refl, sym, ap, ◌∙◌, subst, arith, append-nil}
 use Rattle.std.proofs.lemmas.Bool.{not-false, cond_both}
 use Rattle.dutch_order.specs.declared.bracket.Shape.{Shape}
-use Rattle.dutch_order.specs.Arrangements.{down}
-use Rattle.dutch_player.specs.Facts.{Facts}
+use Rattle.dutch_order.specs.Prelude.{down}
+use Rattle.dutch_player.specs.Prelude.{Facts}
 use Rattle.dutch_bracket.specs.declared.reached.BracketKind.{BracketKind}
 use Rattle.dutch_bracket.specs.declared.reached.BracketKind.TheVariants.{Ordinary, Last, Penultimate, Collapsed}
 use Rattle.dutch_choice.specs.declared.choice.Choice.{Choice as Made}
 use Rattle.dutch_pair.specs.declared.stage.Stage.{Stage}
-use Rattle.dutch_bracket.specs.Context.{Context}
-use Rattle.dutch_bracket.specs.InContext.{frame_here, quality_here}
-use Rattle.dutch_pair.specs.Lower.{lower_of}
-use Rattle.dutch_pair.specs.Outcomes.{IsStage, shown, visit_at}
-use Rattle.dutch_choice.specs.Chosen.{IsChoice}
-use Rattle.dutch_bracket.specs.QualityIn.{quality_in}
-use Rattle.dutch_bracket.specs.Reached.{Reached, IsAbove, frame_of}
-use Rattle.dutch_bracket.specs.Brackets.{Choice, bracket, choice, completable, downfloaters, quality_of, scoregroups, shape_of}
-use Rattle.dutch_pair.specs.Round.{Round, brackets, passing, pairing_in, penultimate_bracket, paired_again}
+use Rattle.dutch_bracket.specs.Prelude.{Context, frame_here, quality_here, quality_in, Reached, IsAbove, frame_of, Choice, bracket, choice, completable, downfloaters, quality_of, scoregroups, shape_of, seat_of}
+use Rattle.dutch_pair.specs.Prelude.{lower_of, IsStage, shown, visit_at, Round, brackets, passing, pairing_in, penultimate_bracket, paired_again, IsSettled, choice_of, group_kind, is_again, round_by, Goes, GoesOut, HasWayOut, StandsBefore}
+use Rattle.dutch_choice.specs.Prelude.{IsChoice}
 use Rattle.dutch_pair.proofs.RoundBy.{final_by, ordinary_by, penultimate_by}
-use Rattle.dutch_bracket.specs.Seated.{seat_of}
-use Rattle.dutch_pair.specs.Stages.{IsSettled, choice_of, group_kind, is_again, round_by}
-use Rattle.dutch_pair.specs.Walk.{Goes}
-use Rattle.dutch_pair.specs.WaysOut.{GoesOut, HasWayOut, StandsBefore}
 use Rattle.dutch_choice.proofs.BestLemmas.{choice_of_shape}
 use Rattle.dutch_pair.proofs.GroupWalk.{IsParted}
 use Rattle.dutch_pair.proofs.LowerLemmas.{goes_ends, lower_is}

@@ -3,18 +3,15 @@ use Rattle.std.proofs.Common.{◌≡◌, ℕ, ◌+◌, ◌≤◌, Bool, true, fa
 use Rattle.std.proofs.lemmas.Bool.{cond_both}
 use Rattle.std.specs.Prelude.{IfSome, option_map}
 use Rattle.std.specs.List.{concat}
-use Rattle.dutch_order.specs.Candidates.{Candidate}
-use Rattle.dutch_order.specs.Arrangements.{down}
-use Rattle.dutch_player.specs.Facts.{Facts}
-use Rattle.dutch_bracket.specs.Reached.{Reached, ends_round, frame_of}
+use Rattle.dutch_order.specs.Prelude.{Candidate, down}
+use Rattle.dutch_player.specs.Prelude.{Facts}
+use Rattle.dutch_bracket.specs.Prelude.{Reached, ends_round, frame_of, Choice, bracket, choice, completable, downfloaters, scoregroups, all_pairs}
 use Rattle.dutch_pair.proofs.OneBye.{left_few}
 use Rattle.dutch_pair.proofs.WalkEnds.{of_bracket}
 use Rattle.dutch_bracket.specs.declared.reached.BracketKind.{BracketKind}
 use Rattle.dutch_bracket.specs.declared.reached.BracketKind.TheVariants.{Ordinary, Last, Collapsed}
-use Rattle.dutch_bracket.specs.Brackets.{Choice, bracket, choice, completable, downfloaters, scoregroups}
-use Rattle.dutch_pair.specs.Round.{Round, Pairing, everybody, pairing_in, passing, no_pairing, final_bracket, penultimate_bracket, paired_again, ordinary_bracket, brackets, round}
+use Rattle.dutch_pair.specs.Prelude.{Round, Pairing, everybody, pairing_in, passing, no_pairing, final_bracket, penultimate_bracket, paired_again, ordinary_bracket, brackets, round}
 use Rattle.dutch_pair.proofs.RoundBy.{final_by, penultimate_by, ordinary_by}
-use Rattle.dutch_bracket.specs.Seated.{all_pairs}
 use Rattle.dutch_bracket.proofs.GroupLemmas.{concat_scoregroups}
 use Rattle.dutch_bracket.proofs.Totals.{total, total_append}
 use Rattle.dutch_bracket.proofs.Everybody.{pairs_total, pairs_append, bracket_whole}

@@ -1,11 +1,11 @@
 -- Why the players of a round cannot be paired out (C.04.3 A.9): some of them block, and the others fall into groups, too many of them odd.
 use Rattle.std.specs.Prelude.{ℕ, ◌%◌, Bool, not, ◌&&◌, ◌==◌, List, length, slice_index}
 use Rattle.std.specs.List.{list_any}
-use Rattle.dual.specs.Barriers.{IsTooNarrow, is_of_odd_group}
-use Rattle.dutch_order.specs.Choices.{numbers_from}
-use Rattle.dutch_player.specs.Facts.{Facts}
+use Rattle.dual.specs.Prelude.{IsTooNarrow, is_of_odd_group}
+use Rattle.dutch_order.specs.Prelude.{numbers_from}
+use Rattle.dutch_player.specs.Prelude.{Facts}
 use Rattle.dutch_pair.specs.Round.{everybody}
-use Rattle.dutch_bracket.specs.Seats.{seats_meet, seats_may_be_left}
+use Rattle.dutch_bracket.specs.Prelude.{seats_meet, seats_may_be_left}
 
 -- a label for each seat, and the greatest one
 pub record Barrier : Type 0 where

@@ -1,10 +1,9 @@
 -- Why no bracket that a round reaches is a dead end (C.04.3 A.9): who cannot meet in it, and in any list of pairs behind it.
 use Rattle.std.specs.Prelude.{◌≡◌, ℕ, false, List, take}
-use Rattle.dutch_order.specs.Keys.{IsIn}
-use Rattle.dutch_player.specs.Facts.{Facts}
+use Rattle.dutch_order.specs.Prelude.{IsIn}
+use Rattle.dutch_player.specs.Prelude.{Facts}
 use Rattle.dutch_bracket.specs.Completion.{Covers, MayBeLeftOut}
-use Rattle.dutch_bracket.specs.Reached.{Reached}
-use Rattle.dutch_bracket.specs.Seats.{seats_meet, seats_may_be_left}
+use Rattle.dutch_bracket.specs.Prelude.{Reached, seats_meet, seats_may_be_left}
 
 -- A.3: the players who were moved down into a bracket
 abbrev pub moved_down : Reached → List ℕ

@@ -1,8 +1,7 @@
 -- Whom the boards of a round name.
 use Rattle.std.specs.Prelude.{ℕ, List, IsPermutation}
-use Rattle.trf16.specs.Round.{named_by}
-use Rattle.dutch_player.specs.Facts.{Facts}
-use Rattle.dutch_player.specs.Laws.{start_ranks}
+use Rattle.trf16.specs.Prelude.{named_by}
+use Rattle.dutch_player.specs.Prelude.{Facts, start_ranks}
 
 -- some boards name each present player, once, and nobody else
 abbrev pub NameEverybodyOnce : Facts → List (ℕ × ℕ) → Type 0

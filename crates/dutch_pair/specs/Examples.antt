@@ -4,19 +4,12 @@ use Rattle.trf16.specs.declared.cell.Colour.{Colour}
 use Rattle.trf16.specs.declared.cell.Colour.TheVariants.{White, Black}
 use Rattle.dutch_player.specs.declared.float.Float.{Float}
 use Rattle.dutch_player.specs.declared.float.Float.TheVariants.{Up, Down}
-use Rattle.dutch_player.specs.Facts.{SeatFacts, Facts}
-use Rattle.dutch_order.specs.Arrangements.{Arrangement}
-use Rattle.dutch_order.specs.Exchange.{exchange_cmp}
-use Rattle.dutch_order.specs.Limbo.{limbo_cmp}
+use Rattle.dutch_player.specs.Prelude.{SeatFacts, Facts}
+use Rattle.dutch_order.specs.Prelude.{Arrangement, exchange_cmp, limbo_cmp}
 use Rattle.dutch_bracket.specs.declared.reached.BracketKind.TheVariants.{Ordinary}
-use Rattle.dutch_bracket.specs.NextBracket.{quality, value_of}
-use Rattle.dutch_bracket.specs.Reached.{Reached, numbers_meet, number_may_be_left}
-use Rattle.dutch_bracket.specs.Quality.{Quality, count_in, is_better, psd, quality_with}
-use Rattle.dutch_bracket.specs.Brackets.{best_of_shape, bracket, candidates_of, choice, completable, eligible, quality_of, shape_of}
+use Rattle.dutch_bracket.specs.Prelude.{quality, value_of, Reached, numbers_meet, number_may_be_left, Quality, count_in, is_better, psd, quality_with, best_of_shape, bracket, candidates_of, choice, completable, eligible, quality_of, shape_of, seats_meet, seats_may_be_left, going_down, going_up}
 use Rattle.dutch_pair.specs.Round.{round}
-use Rattle.dutch_bracket.specs.Seats.{seats_meet, seats_may_be_left}
 use Rattle.dutch_pair.specs.Boards.{board_of, boards, goes_before, goes_before_by_sum}
-use Rattle.dutch_bracket.specs.Seated.{going_down, going_up}
 
 -- the boards of a round, if it has a pairing; who unfolds this unfolds all that a round is worked out with
 unfoldable pub boards_of : Facts → Option (List (ℕ × ℕ))

@@ -2,14 +2,12 @@
 use Rattle.std.specs.Prelude.{◌≡◌, ℕ, false, Some}
 use Rattle.std.specs.List.{list_any}
 use Rattle.dutch_order.specs.declared.bracket.Shape.{Shape}
-use Rattle.dutch_order.specs.Arrangements.{down}
+use Rattle.dutch_order.specs.Prelude.{down}
 use Rattle.dutch_pair.specs.declared.instead.Instead.{Instead}
 use Rattle.dutch_pair.specs.declared.instead.Instead.TheVariants.{Best, FewerMovedDown, NoneEligible, NoneLegal, Undecided}
 use Rattle.dutch_choice.specs.declared.wish.Wish.{Wish}
-use Rattle.dutch_bracket.specs.QualityIn.{quality_in}
-use Rattle.dutch_bracket.specs.Context.{Context}
-use Rattle.dutch_bracket.specs.InContext.{candidates_here, eligible_here, frame_here, quality_here}
-use Rattle.dutch_choice.specs.Wishes.{IsBarred, SomeGrants, best_granting, grants, some_grants, with_mdps}
+use Rattle.dutch_bracket.specs.Prelude.{quality_in, Context, candidates_here, eligible_here, frame_here, quality_here}
+use Rattle.dutch_choice.specs.Prelude.{IsBarred, SomeGrants, best_granting, grants, some_grants, with_mdps}
 
 -- what is told of a wish, for a bracket above lower seats and its shape: the best candidate that grants it, with its downfloaters and its
 -- quality; or the first of these that stands: legal candidates grant it, but none that can be chosen (C.4); none of the shape grants it,

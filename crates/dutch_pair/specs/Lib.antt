@@ -11,3 +11,4 @@ pub mod WaysOut
 pub mod DeadEnds
 pub mod Barriers
 pub mod Instead
+pub mod Prelude

@@ -1,10 +1,8 @@
 -- The players below a bracket (C.04.3 A.3).
 use Rattle.std.specs.Prelude.{ℕ, Bool, nat_lt, List, filter}
 use Rattle.std.specs.List.{list_all}
-use Rattle.dutch_player.specs.Facts.{Facts}
-use Rattle.dutch_bracket.specs.Seated.{score_at}
-use Rattle.dutch_bracket.specs.Context.{Context}
-use Rattle.dutch_bracket.specs.Reached.{Reached}
+use Rattle.dutch_player.specs.Prelude.{Facts}
+use Rattle.dutch_bracket.specs.Prelude.{score_at, Context, Reached}
 use Rattle.dutch_pair.specs.Round.{everybody}
 
 -- the score of a seat is lower than each of some seats

@@ -2,8 +2,8 @@
 use Rattle.std.specs.Prelude.{◌≡◌, ℕ, zero, suc, ◌+◌, ◌≤◌, true, List, [], ◌∷◌, map, length, Option, Some, None, option_map, is_some}
 use Rattle.std.specs.List.{AllByRecursion}
 use Rattle.dutch_order.specs.declared.bracket.Shape.{Shape}
-use Rattle.dutch_order.specs.Arrangements.{Fits}
-use Rattle.dutch_player.specs.Facts.{Facts}
+use Rattle.dutch_order.specs.Prelude.{Fits}
+use Rattle.dutch_player.specs.Prelude.{Facts}
 use Rattle.dutch_pair.specs.declared.round.Outcome.{Outcome}
 use Rattle.dutch_pair.specs.declared.round.Outcome.TheVariants.{Paired, NoPairing, Undecided}
 use Rattle.dutch_pair.specs.declared.round.BracketAt.{BracketAt}
@@ -11,15 +11,10 @@ use Rattle.dutch_pair.specs.declared.round.BracketAt.TheVariants.{Bracket, NotRe
 use Rattle.dutch_pair.specs.declared.round.AllStages.{AllStages}
 use Rattle.dutch_pair.specs.declared.round.AllStages.TheVariants.{Paired as StagesPaired, NoPairing as NoStages, Undecided as StagesUndecided}
 use Rattle.dutch_pair.specs.declared.stage.Stage.{Stage}
-use Rattle.dutch_bracket.specs.NextBracket.{IsOfBracket}
+use Rattle.dutch_bracket.specs.Prelude.{IsOfBracket, quality_in, Reached, IsAbove, IsOf, frame_of, choice, quality_of, AreSeats, seats_meet, seats_may_be_left}
 use Rattle.dutch_pair.specs.Lower.{lower_of}
-use Rattle.dutch_bracket.specs.QualityIn.{quality_in}
-use Rattle.dutch_bracket.specs.Reached.{Reached, IsAbove, IsOf, frame_of}
-use Rattle.dutch_bracket.specs.Brackets.{choice, quality_of}
 use Rattle.dutch_pair.specs.Round.{Visit, round, everybody}
 use Rattle.dutch_bracket.specs.Completion.{Completable}
-use Rattle.dutch_bracket.specs.Seated.{AreSeats}
-use Rattle.dutch_bracket.specs.Seats.{seats_meet, seats_may_be_left}
 use Rattle.dutch_pair.specs.Boards.{boards}
 
 -- the bracket at a place of a list, the first at 0

@@ -2,13 +2,10 @@
 use Rattle.std.specs.Prelude.{ℕ, ◌+◌, Bool, true, false, if◌then◌else◌, List, [], ◌∷◌, ◌++◌, length, Option, Some, None, option_map}
 use Rattle.std.specs.List.{concat}
 use Rattle.dutch_order.specs.declared.bracket.Shape.{Shape}
-use Rattle.dutch_order.specs.Choices.{numbers_from}
-use Rattle.dutch_order.specs.Arrangements.{Arrangement}
-use Rattle.dutch_player.specs.Facts.{Facts}
+use Rattle.dutch_order.specs.Prelude.{numbers_from, Arrangement}
+use Rattle.dutch_player.specs.Prelude.{Facts}
 use Rattle.dutch_bracket.specs.declared.reached.BracketKind.TheVariants.{Ordinary, Last, Penultimate, Collapsed}
-use Rattle.dutch_bracket.specs.Reached.{Reached}
-use Rattle.dutch_bracket.specs.Seated.{all_pairs}
-use Rattle.dutch_bracket.specs.Brackets.{Choice, bracket, choice, completable, downfloaters, scoregroups}
+use Rattle.dutch_bracket.specs.Prelude.{Reached, all_pairs, Choice, bracket, choice, completable, downfloaters, scoregroups}
 
 -- a bracket that was reached, its shape, the arrangement that is chosen in it, and whether it is paired again
 pub record Visit : Type 0 where

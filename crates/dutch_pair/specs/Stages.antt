@@ -2,8 +2,8 @@
 use Rattle.std.specs.Prelude.{◌≡◌, ℕ, ◌+◌, ◌≤◌, Bool, true, false, not, if◌then◌else◌, List, [], ◌∷◌, ◌++◌, length, map, Option, Some, None}
 use Rattle.std.specs.List.{AllByRecursion}
 use Rattle.dutch_order.specs.declared.bracket.Shape.{Shape}
-use Rattle.dutch_order.specs.Arrangements.{Fits, down}
-use Rattle.dutch_player.specs.Facts.{Facts}
+use Rattle.dutch_order.specs.Prelude.{Fits, down}
+use Rattle.dutch_player.specs.Prelude.{Facts}
 use Rattle.dutch_bracket.specs.declared.reached.BracketKind.{BracketKind}
 use Rattle.dutch_bracket.specs.declared.reached.BracketKind.TheVariants.{Ordinary, Last, Penultimate, Collapsed}
 use Rattle.dutch_pair.specs.declared.stage.Stage.{Stage}
@@ -11,12 +11,9 @@ use Rattle.dutch_pair.specs.declared.walk.Next.{Next}
 use Rattle.dutch_pair.specs.declared.walk.Next.TheVariants.{Bracket, Bye}
 use Rattle.dutch_pair.specs.declared.walk.Halt.{Halt}
 use Rattle.dutch_pair.specs.declared.walk.Halt.TheVariants.{NoPairing, Undecided, Fault}
-use Rattle.dutch_bracket.specs.QualityIn.{quality_in}
-use Rattle.dutch_bracket.specs.Reached.{Reached, IsOf, frame_of}
-use Rattle.dutch_bracket.specs.Brackets.{Choice, choice, completable, quality_of, scoregroups}
+use Rattle.dutch_bracket.specs.Prelude.{quality_in, Reached, IsOf, frame_of, Choice, choice, completable, quality_of, scoregroups, AreSeats, IsPair, all_pairs, seat_of}
 use Rattle.dutch_pair.specs.Round.{Round, Pairing, Visit, brackets, everybody, round, ending, final_bracket, ordinary_bracket, passing, pairing_in, penultimate_bracket}
 use Rattle.dutch_pair.specs.Outcomes.{IsStage, IsStoppedIn, shown, visit_of}
-use Rattle.dutch_bracket.specs.Seated.{AreSeats, IsPair, all_pairs, seat_of}
 use Rattle.dutch_pair.specs.WaysOut.{StandsBefore}
 
 -- where a walk stands in a field: the most steps of a bracket, those used for the one that comes next, its number, the round from there

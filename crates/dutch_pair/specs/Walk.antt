@@ -1,9 +1,9 @@
 -- What the walk over the brackets keeps of its seats: a model that carries the round's proof.
 use Rattle.std.specs.Prelude.{◌≡◌, ℕ, ◌<◌, List, [], ◌∷◌, ◌++◌, length}
 use Rattle.std.specs.List.{AllByRecursion}
-use Rattle.dutch_player.specs.Facts.{Facts}
+use Rattle.dutch_player.specs.Prelude.{Facts}
 use Rattle.dutch_pair.specs.Round.{everybody}
-use Rattle.dutch_bracket.specs.Seated.{score_at}
+use Rattle.dutch_bracket.specs.Prelude.{score_at}
 
 -- seats of a field by rank, each before all that follow
 abbrev pub AreRanked : Facts → List ℕ → Type 0

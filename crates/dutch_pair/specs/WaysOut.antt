@@ -1,16 +1,12 @@
 -- What the walk over the brackets keeps, so that it never comes to one without a candidate (C.04.3 A.9, C.5): a model that carries the
 -- round's proof.
 use Rattle.std.specs.Prelude.{◌≡◌, ℕ, ◌+◌, ◌<◌, ◌≤◌, true, List, [], ◌++◌, length}
-use Rattle.dutch_order.specs.Forms.{NoneTwice}
-use Rattle.dutch_order.specs.Keys.{IsIn}
-use Rattle.dutch_player.specs.Facts.{Facts}
+use Rattle.dutch_order.specs.Prelude.{NoneTwice, IsIn}
+use Rattle.dutch_player.specs.Prelude.{Facts}
 use Rattle.dutch_bracket.specs.declared.reached.BracketKind.{BracketKind}
 use Rattle.dutch_bracket.specs.declared.reached.BracketKind.TheVariants.{Ordinary, Last, Penultimate, Collapsed}
 use Rattle.dutch_bracket.specs.Completion.{Completable}
-use Rattle.dutch_bracket.specs.Eligible.{HasCandidate}
-use Rattle.dutch_bracket.specs.Reached.{Reached}
-use Rattle.dutch_bracket.specs.Brackets.{bracket}
-use Rattle.dutch_bracket.specs.Seats.{seats_meet, seats_may_be_left}
+use Rattle.dutch_bracket.specs.Prelude.{HasCandidate, Reached, bracket, seats_meet, seats_may_be_left}
 use Rattle.dutch_pair.specs.Walk.{AreAbove, Goes}
 
 -- those moved down and those below them can be paired out, each is there once, and no two of those moved down may meet

@@ -3,10 +3,10 @@
 // Whoever finds the labels is not trusted: they are handed out only if the check of a barrier confirms them.
 ghost use Rattle.std.specs.Prelude.{◌≡◌, ◌<◌, ◌==◌, length, IfOk, IfSome};
 ghost use Rattle.std.specs.List.{list_any};
-ghost use Rattle.dual.specs.Barriers.{group_size, is_of_odd_group};
+ghost use Rattle.dual.specs.Prelude.{group_size, is_of_odd_group};
 ghost use Rattle.dutch_pair.specs.Barriers.{Blocks, has_blockers, lacks_bye, label, opens_odd_group};
 ghost use Rattle.dutch_pair.specs.Round.{everybody};
-ghost use Rattle.dutch_bracket.specs.Seats.{seats_may_be_left};
+ghost use Rattle.dutch_bracket.specs.Prelude.{seats_may_be_left};
 
 use crate::walk::everybody;
 use dual::tells_incompletable;

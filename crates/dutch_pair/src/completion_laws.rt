@@ -1,11 +1,10 @@
 // Laws of the definitions alone: a round is paired exactly if its players can be paired out (C.04.3 A.9, C.5).
 ghost use Rattle.std.specs.Prelude.{◌≡◌, ◌↔◌, None, false, is_some, true};
-ghost use Rattle.dutch_player.specs.Facts.{Facts};
+ghost use Rattle.dutch_player.specs.Prelude.{Facts};
 ghost use Rattle.dutch_pair.specs.Barriers.{Barrier, Blocks};
 ghost use Rattle.dutch_bracket.specs.Completion.{Completable};
-ghost use Rattle.dutch_bracket.specs.Brackets.{completable};
+ghost use Rattle.dutch_bracket.specs.Prelude.{completable, seats_meet, seats_may_be_left};
 ghost use Rattle.dutch_pair.specs.Round.{everybody, round};
-ghost use Rattle.dutch_bracket.specs.Seats.{seats_meet, seats_may_be_left};
 
 /// There is no dead end: a round is paired exactly if some list of pairs of present players who may meet leaves out at
 /// most one of them, who may have the bye. So each bracket on the way has a candidate that can be chosen.

@@ -1,7 +1,6 @@
 // The definitions of a round, tried on rounds that can be followed by hand.
 ghost use Rattle.std.specs.Prelude.{◌≡◌, [], ◌∷◌, Some, None, true};
-ghost use Rattle.dutch_bracket.specs.Quality.{is_better};
-ghost use Rattle.dutch_bracket.specs.Brackets.{candidates_of, quality_of};
+ghost use Rattle.dutch_bracket.specs.Prelude.{is_better, candidates_of, quality_of};
 ghost use Rattle.dutch_pair.specs.Examples.{boards_of, pairs_reached, five_players, leader_moves_down, pair_given_up};
 ghost use Rattle.dutch_pair.specs.Examples.{all_met, two_leaders, forfeit_winner};
 ghost use Rattle.dutch_pair.specs.Examples.{leader_above_two, leader_meets, leader_quality};

@@ -3,13 +3,11 @@
 ghost use Rattle.std.specs.Prelude.{◌≡◌, ◌+◌, IfOk, Some, false, true};
 ghost use Rattle.std.specs.List.{list_any};
 ghost use Rattle.std.specs.Result.{MatchResult};
-ghost use Rattle.dutch_order.specs.Steps.{MatchDrawn, Spends};
+ghost use Rattle.dutch_order.specs.Prelude.{MatchDrawn, Spends};
 ghost use Rattle.dutch_pair.specs.Lower.{above_lower};
 ghost use Rattle.dutch_pair.specs.Outcomes.{IsStage};
-ghost use Rattle.dutch_bracket.specs.InContext.{FitsHere, candidates_here, eligible_here};
-ghost use Rattle.dutch_bracket.specs.Brackets.{shape_of};
-ghost use Rattle.dutch_bracket.specs.Stops.{Decides};
-ghost use Rattle.dutch_choice.specs.Wishes.{NoneGrants, SomeGrants, grants, some_grants, with_mdps};
+ghost use Rattle.dutch_bracket.specs.Prelude.{FitsHere, candidates_here, eligible_here, shape_of, Decides};
+ghost use Rattle.dutch_choice.specs.Prelude.{NoneGrants, SomeGrants, grants, some_grants, with_mdps};
 ghost use Rattle.dutch_pair.specs.Instead.{IsInstead};
 
 use crate::lower::lower_of;
@@ -61,9 +59,8 @@ impl<'a> Bound for Wished<'a> {
     type Room = ();
 
     ghost use Rattle.std.specs.Prelude.{not};
-    ghost use Rattle.dutch_bracket.specs.InContext.{frame_here};
-    ghost use Rattle.dutch_bracket.specs.Reached.{numbers_meet, number_may_be_left};
-    ghost use Rattle.dutch_choice.specs.Wishes.{grants};
+    ghost use Rattle.dutch_bracket.specs.Prelude.{frame_here, numbers_meet, number_may_be_left};
+    ghost use Rattle.dutch_choice.specs.Prelude.{grants};
 
     ghost frame = { λ w. frame_here w.context.now };
 

@@ -2,13 +2,11 @@
 ghost use Rattle.std.specs.Prelude.{◌≡◌, ◌+◌, ◌*◌, ◌<◌, ◌≤◌, [], if◌then◌else◌, length, map, filter};
 ghost use Rattle.arrayvec.specs.ArrayVec.{array_vec_len};
 ghost use Rattle.dutch_player.specs.declared.float.Float.TheVariants.{Up, Down};
-ghost use Rattle.dutch_bracket.specs.Items.{counted, only_if, seats_of, those_in, those_in_pairs};
-ghost use Rattle.dutch_bracket.specs.Items.{those_with_topscorers, who_counts};
+ghost use Rattle.dutch_bracket.specs.Prelude.{counted, only_if, seats_of, those_in, those_in_pairs};
+ghost use Rattle.dutch_bracket.specs.Prelude.{those_with_topscorers, who_counts, again, has_topscorer, highest_first};
+ghost use Rattle.dutch_bracket.specs.Prelude.{misses, placed_all, quality_in, AllPairs, AreSeats, HasSeats};
+ghost use Rattle.dutch_bracket.specs.Prelude.{floats_down, goes, going_down, going_up, is_uneven};
 ghost use Rattle.dutch_pair.specs.Outcomes.{IsStage};
-ghost use Rattle.dutch_bracket.specs.Quality.{again, has_topscorer, highest_first, misses, placed_all};
-ghost use Rattle.dutch_bracket.specs.QualityIn.{quality_in};
-ghost use Rattle.dutch_bracket.specs.Seated.{AllPairs, AreSeats, HasSeats, floats_down, goes, going_down, going_up};
-ghost use Rattle.dutch_bracket.specs.Seated.{is_uneven};
 
 use crate::stage::Stage;
 use dutch_bracket::colours_missed::{Miss, has_topscorer, misses};

@@ -1,8 +1,7 @@
 // The players below a bracket that a round reaches (C.04.3 A.3).
 ghost use Rattle.std.specs.Prelude.{◌≡◌, ◌<◌, ◌≤◌, filter, length};
 ghost use Rattle.dutch_order.specs.declared.numbers.TheConstants.{LIMIT};
-ghost use Rattle.dutch_bracket.specs.Seated.{AreSeats};
-ghost use Rattle.dutch_bracket.specs.Reached.{IsOf};
+ghost use Rattle.dutch_bracket.specs.Prelude.{AreSeats, IsOf};
 ghost use Rattle.dutch_pair.specs.Lower.{is_below, lower_of};
 
 use crate::walk::everybody;

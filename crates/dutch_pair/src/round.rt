@@ -1,7 +1,7 @@
 // The round, bracket by bracket (C.04.3 A.3, A.9), specified by a recursion over the scoregroups.
 ghost use Rattle.std.specs.Prelude.{◌≡◌, true, IfOk};
 ghost use Rattle.std.specs.Result.{MatchResult};
-ghost use Rattle.dutch_bracket.specs.Brackets.{completable};
+ghost use Rattle.dutch_bracket.specs.Prelude.{completable};
 ghost use Rattle.dutch_pair.specs.declared.round.AllStages.TheVariants.{Paired};
 ghost use Rattle.dutch_pair.specs.Round.{everybody};
 ghost use Rattle.dutch_pair.specs.Stages.{ArePairs, IsFound, IsHalt};

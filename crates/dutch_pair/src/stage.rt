@@ -2,12 +2,9 @@
 ghost use Rattle.std.specs.Prelude.{◌≡◌, ◌≤◌, ◌++◌, false, length, map, IfOk, OnOk};
 ghost use Rattle.std.specs.List.{AllByRecursion};
 ghost use Rattle.std.specs.Option.{MatchOption};
-ghost use Rattle.dutch_order.specs.Steps.{Spends};
-ghost use Rattle.dutch_bracket.specs.Seated.{IsPair, AllNumbers, seat_of};
-ghost use Rattle.dutch_bracket.specs.Eligible.{HasCandidate};
-ghost use Rattle.dutch_bracket.specs.Brackets.{completable};
+ghost use Rattle.dutch_order.specs.Prelude.{Spends};
+ghost use Rattle.dutch_bracket.specs.Prelude.{IsPair, AllNumbers, seat_of, HasCandidate, completable, Decides};
 ghost use Rattle.dutch_pair.specs.Outcomes.{IsStage};
-ghost use Rattle.dutch_bracket.specs.Stops.{Decides};
 ghost use Rattle.dutch_pair.specs.Stages.{IsSettled, is_again, own_pairs};
 
 use dutch_bracket::context::Context;

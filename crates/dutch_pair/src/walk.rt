@@ -5,10 +5,8 @@
 // meet. So each bracket has a candidate that can be chosen, and at the end of the walk at most one player is left over.
 ghost use Rattle.std.specs.Prelude.{◌≡◌, ◌+◌, ◌<◌, ◌≤◌, length, Some, IfErr};
 ghost use Rattle.std.specs.Result.{MatchResult};
-ghost use Rattle.dutch_order.specs.Steps.{Spends};
-ghost use Rattle.dutch_bracket.specs.Eligible.{HasCandidate};
-ghost use Rattle.dutch_bracket.specs.InContext.{FitsHere};
-ghost use Rattle.dutch_bracket.specs.Brackets.{scoregroups, shape_of};
+ghost use Rattle.dutch_order.specs.Prelude.{Spends};
+ghost use Rattle.dutch_bracket.specs.Prelude.{HasCandidate, FitsHere, scoregroups, shape_of};
 ghost use Rattle.dutch_pair.specs.declared.walk.Halt.TheVariants.{Fault};
 ghost use Rattle.dutch_pair.specs.Round.{everybody, brackets, paired_again};
 ghost use Rattle.dutch_pair.specs.Walk.{Goes};

@@ -3,7 +3,7 @@ use Rattle.std.proofs.Common.{◌≡◌, ◌+◌, cond, List, [], ◌∷◌, len
 use Rattle.std.proofs.lemmas.List.Sums.{sum_by-cons}
 use Rattle.trf16.specs.declared.cell.Colour.{Colour}
 use Rattle.trf16.specs.declared.cell.Colour.TheVariants.{White, Black}
-use Rattle.dutch_player.specs.Preferences.{is_white, is_black, whites, blacks}
+use Rattle.dutch_player.specs.Prelude.{is_white, is_black, whites, blacks}
 
 pub of_both : (played : List Colour) → whites played + blacks played ≡ length played
 of_both [] = refl

@@ -7,11 +7,7 @@ use Rattle.dutch_player.specs.declared.colour_rule.ColourRule.{ColourRule}
 use Rattle.dutch_player.specs.declared.colour_rule.ColourRule.TheVariants.{BothPreferences, StrongerPreference, HigherRank, InitialColour}
 use Rattle.dutch_player.specs.declared.colours.Decision.{Decision}
 use Rattle.dutch_player.specs.declared.preference.Pref.{Pref}
-use Rattle.dutch_player.specs.Preferences.{is_same, other, preference}
-use Rattle.dutch_player.specs.Facts.{SeatFacts, Facts, seat_at}
-use Rattle.dutch_player.specs.Meetings.{may_meet, have_met, has_met, is_kept_from, are_apart, clash, is_absolute, is_topscorer, colours_allow}
-use Rattle.dutch_player.specs.Colours.{is_stronger, alternated, by, by_history, by_preferences, colours, contested, colour_of_higher, colour_rule, decision_of, granted, with_colour}
-use Rattle.dutch_player.specs.Laws.{Gets, GrantsBoth, TellsRule}
+use Rattle.dutch_player.specs.Prelude.{is_same, other, preference, SeatFacts, Facts, seat_at, may_meet, have_met, has_met, is_kept_from, are_apart, clash, is_absolute, is_topscorer, colours_allow, is_stronger, alternated, by, by_history, by_preferences, colours, contested, colour_of_higher, colour_rule, decision_of, granted, with_colour, Gets, GrantsBoth, TellsRule}
 
 or_comm : (x y : Bool) → (x || y) ≡ (y || x)
 or_comm true true = refl

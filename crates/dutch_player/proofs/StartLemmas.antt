@@ -7,9 +7,7 @@ use Rattle.std.proofs.lemmas.List.{drop_more, drop_all}
 use Rattle.std.proofs.lemmas.List.Quantifiers.{position-Some}
 use Rattle.trf16.proofs.MarkLemmas.{none_from}
 use Rattle.dutch_player.specs.declared.seat.Seat.{Seat}
-use Rattle.dutch_player.specs.SeatOf.{facts_in}
-use Rattle.dutch_player.specs.Facts.{Facts, no_seat, seat_at}
-use Rattle.dutch_player.specs.StartRanks.{has_start, seat_with, TellsSeat}
+use Rattle.dutch_player.specs.Prelude.{facts_in, Facts, no_seat, seat_at, has_start, seat_with, TellsSeat}
 
 told : (facts : Facts) (start : ℕ) (given : Option ℕ) → seat_with facts start ≡ given → TellsSeat facts start given
 told facts start (Some seat) e =

@@ -4,11 +4,8 @@ use Rattle.std.specs.Option.{ok_or, option_map_or}
 use Rattle.trf16.specs.declared.cell.Colour.{Colour}
 use Rattle.trf16.specs.declared.cell.Colour.TheVariants.{White}
 use Rattle.trf16.specs.declared.kind.LineKind.TheVariants.{Xxa, Xxs, Rank}
-use Rattle.trf16.specs.Sheet.{Entry, Sheet, rounds_played}
+use Rattle.trf16.specs.Prelude.{Entry, Sheet, rounds_played, unfinished, absent, apart_from, first_of, ranked_by, IsRankedBy}
 use Rattle.trf16.specs.Outcomes.{◌>>=◌}
-use Rattle.trf16.specs.Unfinished.{unfinished}
-use Rattle.trf16.specs.Absence.{absent, apart_from, first_of}
-use Rattle.trf16.specs.Ranking.{ranked_by, IsRankedBy}
 use Rattle.dutch_player.specs.declared.float.Float.{Float}
 use Rattle.dutch_player.specs.declared.fault.FieldFault.{FieldFault}
 use Rattle.dutch_player.specs.declared.fault.FieldFault.TheVariants.{Unfinished, Unsupported, RoundsUnknown, RoundsOver}

@@ -6,7 +6,7 @@ use Rattle.trf16.specs.declared.cell.Colour.{Colour}
 use Rattle.trf16.specs.declared.cell.Bye.TheVariants.{Full, Allocated}
 use Rattle.trf16.specs.declared.cell.Cell.{Cell}
 use Rattle.trf16.specs.declared.cell.Cell.TheVariants.{Bye, Game, Forfeit}
-use Rattle.trf16.specs.Sheet.{Sheet, half_points, points_upto, cell_at}
+use Rattle.trf16.specs.Prelude.{Sheet, half_points, points_upto, cell_at}
 use Rattle.dutch_player.specs.declared.float.Float.{Float}
 use Rattle.dutch_player.specs.declared.float.Float.TheVariants.{Up, Down}
 

@@ -8,3 +8,4 @@ pub mod Colours
 pub mod SeatOf
 pub mod StartRanks
 pub mod Laws
+pub mod Prelude

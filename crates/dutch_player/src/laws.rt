@@ -1,8 +1,6 @@
 // Laws of the rules, which hold of every field.
 ghost use Rattle.std.specs.Prelude.{◌≡◌, ◌<◌, ◌≤◌, ◌≢◌, ℕ, Ok, Option, false, length};
-ghost use Rattle.trf16.specs.Absence.{apart};
-ghost use Rattle.trf16.specs.Sheet.{Sheet};
-ghost use Rattle.trf16.specs.StartRanks.{HasOwnStarts};
+ghost use Rattle.trf16.specs.Prelude.{apart, Sheet, HasOwnStarts};
 ghost use Rattle.trf16.specs.declared.cell.Colour.{Colour};
 ghost use Rattle.dutch_player.specs.Meetings.{are_apart, may_meet};
 ghost use Rattle.dutch_player.specs.Colours.{colours, colour_rule};

@@ -1,6 +1,6 @@
 // The present players of a report, by rank.
 ghost use Rattle.std.specs.Prelude.{◌≡◌, ◌≤◌, map, IfOk, vec_len};
-ghost use Rattle.trf16.specs.Sheet.{entry_of, rounds_played};
+ghost use Rattle.trf16.specs.Prelude.{entry_of, rounds_played};
 ghost use Rattle.dutch_player.specs.SeatOf.{facts_in};
 ghost use Rattle.dutch_player.specs.Facts.{seat_of, seats_of, ranked};
 ghost use Rattle.trf16.specs.declared.limits.TheConstants.{MOST_PLAYERS};

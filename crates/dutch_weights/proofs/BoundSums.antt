@@ -3,8 +3,8 @@ use Rattle.std.proofs.Common.{◌≡◌, ℕ, suc, ◌+◌, ◌-◌, ◌<◌, �
 use Rattle.std.specs.List.{zip}
 use Rattle.std.proofs.lemmas.List.{drop_all, drop-drop}
 use Rattle.std.proofs.lemmas.List.Sums.{sum_by-cons}
-use Rattle.dutch_bracket.specs.Quality.{one_if}
-use Rattle.dutch_weights.specs.WeightFloors.{is_first, passed_over}
+use Rattle.dutch_bracket.specs.Prelude.{one_if}
+use Rattle.dutch_weights.specs.Prelude.{is_first, passed_over}
 use Rattle.dutch_weights.proofs.CandidateMatchings.{zip_none}
 use Rattle.dutch_weights.proofs.WeightsBehind.{at_met, at_none}
 use Rattle.dutch_weights.proofs.WrittenNumbers.{at_most}

@@ -8,30 +8,18 @@ use Rattle.std.proofs.lemmas.Bool.Decides.{nat_tests}
 use Rattle.std.proofs.lemmas.List.{get_or_append_left, get_or-append-add, map-append}
 use Rattle.std.proofs.lemmas.List.Elements.{All-head, All-tail}
 use Rattle.std.proofs.lemmas.List.Sums.{sum_by-cons, sum_by-append}
-use Rattle.dual.specs.Floors.{FloorTable, IsFloor, extra_in}
-use Rattle.dual.specs.Matchings.{IsMatching, IsPartOf, MakeUp, cost, in_both}
+use Rattle.dual.specs.Prelude.{FloorTable, IsFloor, extra_in, IsMatching, IsPartOf, MakeUp, cost, in_both}
 use Rattle.dual.proofs.Sums.{sum_none}
 use Rattle.dual.proofs.WeakDuality.{counted}
 use Rattle.dutch_order.specs.declared.bracket.Shape.{Shape}
-use Rattle.dutch_order.specs.Arrangements.{Arrangement, Fits, down}
-use Rattle.dutch_order.specs.Choices.{numbers_from}
-use Rattle.dutch_order.specs.Keys.{IsIn}
-use Rattle.dutch_order.specs.Prefixes.{Begins, Beginning}
+use Rattle.dutch_order.specs.Prelude.{Arrangement, Fits, down, numbers_from, IsIn, Begins, Beginning}
 use Rattle.dutch_order.proofs.Lists.{map-numbers_from}
 use Rattle.dutch_order.proofs.Members.{length-numbers, numbers-append}
-use Rattle.dutch_player.specs.Facts.{Facts}
+use Rattle.dutch_player.specs.Prelude.{Facts}
 use Rattle.dutch_weights.specs.declared.scoped.Reach.TheVariants.{Lower}
 use Rattle.dutch_bracket.specs.Completion.{Completable, Covers as Covering, MayBeLeftOut}
-use Rattle.dutch_bracket.specs.Beginnings.{fixed_lists}
-use Rattle.dutch_weights.specs.Orders.{Order}
-use Rattle.dutch_bracket.specs.Reached.{IsOf, Reached, frame_of}
-use Rattle.dutch_bracket.specs.Brackets.{candidates_of, completable, downfloaters, quality_of}
-use Rattle.dutch_bracket.specs.Scopes.{Covers, Scope, may_stay}
-use Rattle.dutch_weights.specs.ScopedCosts.{Scoped, any_seat, both_go, both_weigh, bracket_costs, costs_in, goes_down, going_weight, is_inside, least_of, lower_costs, may_pair_out, side_in}
-use Rattle.dutch_bracket.specs.Seated.{AllNumbers, seat_of}
-use Rattle.dutch_bracket.specs.Seats.{seats_may_be_left, seats_meet}
-use Rattle.dutch_weights.specs.WeightFloors.{added_in}
-use Rattle.dutch_bracket.specs.Weights.{Scale, number_pairs, weight_of, weighing}
+use Rattle.dutch_bracket.specs.Prelude.{fixed_lists, IsOf, Reached, frame_of, candidates_of, completable, downfloaters, quality_of, Covers, Scope, may_stay, AllNumbers, seat_of, seats_may_be_left, seats_meet, Scale, number_pairs, weight_of, weighing}
+use Rattle.dutch_weights.specs.Prelude.{Order, Scoped, any_seat, both_go, both_weigh, bracket_costs, costs_in, goes_down, going_weight, is_inside, least_of, lower_costs, may_pair_out, side_in, added_in}
 use Rattle.dutch_bracket.proofs.AllLemmas.{all_join}
 use Rattle.dutch_bracket.proofs.ArrangementParts.{numbers_above}
 use Rattle.dutch_weights.proofs.C06ToC19Weights.{all_so, candidate_weighs}

@@ -9,22 +9,15 @@ use Rattle.std.proofs.lemmas.List.Sums.{sum_by-cons, sum_by-append}
 use Rattle.std.proofs.Math.Nat.{mul-add}
 use Rattle.trf16.specs.declared.cell.Colour.{Colour}
 use Rattle.trf16.specs.declared.cell.Colour.TheVariants.{White, Black}
-use Rattle.dutch_order.specs.Arrangements.{Arrangement, down}
-use Rattle.dual.specs.Matchings.{cost}
+use Rattle.dutch_order.specs.Prelude.{Arrangement, down}
+use Rattle.dual.specs.Prelude.{cost}
 use Rattle.dual.proofs.Sums.{sum_map}
 use Rattle.dutch_player.specs.declared.float.Float.{Float}
 use Rattle.dutch_player.specs.declared.float.Float.TheVariants.{Up, Down}
-use Rattle.dutch_player.specs.Colours.{colours}
-use Rattle.dutch_player.specs.Facts.{SeatFacts, Facts, seat_at}
+use Rattle.dutch_player.specs.Prelude.{colours, SeatFacts, Facts, seat_at}
 use Rattle.dutch_bracket.specs.declared.seated.Floater.{Floater}
 use Rattle.dutch_bracket.specs.declared.colours_missed.Miss.TheVariants.{Wide, Third, Preference, StrongPreference}
-use Rattle.dutch_bracket.specs.Beginnings.{seated_so}
-use Rattle.dutch_bracket.specs.NextBracket.{no_value, quality}
-use Rattle.dutch_bracket.specs.Quality.{Quality, NextValue, again, count_in, count_in_pairs, count_with_topscorers, differences, float_of, has_topscorer, highest_first, is_float, misses, one_if, psd, quality_with}
-use Rattle.dutch_bracket.specs.Reached.{Reached, frame_of}
-use Rattle.dutch_bracket.specs.Brackets.{downfloaters, quality_of}
-use Rattle.dutch_bracket.specs.Seated.{Seated, all_pairs, difference, difference_down, floats_down, goes_down, goes_up, going_down, going_up, is_uneven, lowest, pairs_of, score_at, seat_of}
-use Rattle.dutch_bracket.specs.Weights.{HasDigits, HasFloatBases, NextScale, Scale, alone_by, count_had, counts, digits_below, digits_with, float_digits, in_base, number_pairs, player_digits, weight_below, weight_of, weight_with, weighing, written}
+use Rattle.dutch_bracket.specs.Prelude.{seated_so, no_value, quality, Quality, NextValue, again, count_in, count_in_pairs, count_with_topscorers, differences, float_of, has_topscorer, highest_first, is_float, misses, one_if, psd, quality_with, Reached, frame_of, downfloaters, quality_of, Seated, all_pairs, difference, difference_down, floats_down, goes_down, goes_up, going_down, going_up, is_uneven, lowest, pairs_of, score_at, seat_of, HasDigits, HasFloatBases, NextScale, Scale, alone_by, count_had, counts, digits_below, digits_with, float_digits, in_base, number_pairs, player_digits, weight_below, weight_of, weight_with, weighing, written}
 use Rattle.dutch_bracket.proofs.AllLemmas.{all_join}
 use Rattle.dutch_bracket.proofs.Copies.{Falls, copies, copies_append, highest_first_copies, highest_first_falls}
 use Rattle.dutch_bracket.proofs.C08ToC19Fixed.{with_topscorers_add_up, filtered_add_up, mapped_add_up, counts_add_up, copies_add_up}

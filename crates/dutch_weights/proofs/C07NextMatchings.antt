@@ -8,32 +8,19 @@ use Rattle.std.proofs.lemmas.Bool.Decides.{nat_tests}
 use Rattle.std.proofs.lemmas.List.{get_or-append-add, get_or-append_right, get_or-map, get_or_append_left, length-map, map-append}
 use Rattle.std.proofs.lemmas.List.Sums.{sum_by-append, sum_by-cons}
 use Rattle.std.proofs.lemmas.Simd.{map-map}
-use Rattle.dual.specs.Matchings.{MakeUp, in_both}
+use Rattle.dual.specs.Prelude.{MakeUp, in_both}
 use Rattle.dual.proofs.Sums.{sum_map, sum_of_ones}
 use Rattle.dutch_order.specs.declared.bracket.Shape.{Shape}
-use Rattle.dutch_order.specs.Arrangements.{Arrangement, Frame, arrangements, down, is_legal, remainder_pairs}
-use Rattle.dutch_order.specs.Choices.{all_meet, numbers_from}
-use Rattle.dutch_order.specs.Forms.{NoneTwice}
-use Rattle.dutch_order.specs.Keys.{IsIn}
+use Rattle.dutch_order.specs.Prelude.{Arrangement, Frame, arrangements, down, is_legal, remainder_pairs, all_meet, numbers_from, NoneTwice, IsIn}
 use Rattle.dutch_order.proofs.Lists.{map-numbers_from}
 use Rattle.dutch_order.proofs.Members.{length-numbers, numbers-append}
 use Rattle.dutch_order.proofs.NoneTwice.{twice-front}
 use Rattle.dutch_order.proofs.Orders.{Rises, Rises-from, all_members, member_has}
 use Rattle.dutch_order.proofs.Turns.{at_index}
-use Rattle.dutch_player.specs.Facts.{Facts}
-use Rattle.dutch_player.specs.Meetings.{may_meet}
+use Rattle.dutch_player.specs.Prelude.{Facts, may_meet}
 use Rattle.dutch_bracket.specs.declared.reached.BracketKind.{BracketKind}
 use Rattle.dutch_bracket.specs.declared.reached.BracketKind.TheVariants.{Ordinary}
-use Rattle.dutch_bracket.specs.NextBracket.{AreLeft, IsFlat, IsNext, legal_in, next_bracket, psd_in, quality, value_in, value_of, value_of_shape}
-use Rattle.dutch_bracket.specs.NextMatchings.{GoesBelow, IsSmall, JoinsBelow, MayPairBelow, count_below, group_below, players_below, score_below, seat_below, value_below}
-use Rattle.dutch_bracket.specs.Quality.{NextValue, highest_first, psd, quality_with}
-use Rattle.dutch_bracket.specs.QualityIn.{next_in}
-use Rattle.dutch_bracket.specs.Reached.{IsAbove, IsOf, Reached, frame_of, is_number, number_may_be_left, numbers_meet}
-use Rattle.dutch_bracket.specs.Brackets.{candidates_of, downfloaters, first_group, quality_of, scoregroups}
-use Rattle.dutch_bracket.specs.Seated.{all_pairs, difference, difference_down, lowest, score_at, seat_of}
-use Rattle.dutch_bracket.specs.Seats.{is_seat, seats_meet}
-use Rattle.dutch_bracket.specs.Shapes.{greatest_shape, shapes}
-use Rattle.dutch_bracket.specs.Weights.{number_pairs}
+use Rattle.dutch_bracket.specs.Prelude.{AreLeft, IsFlat, IsNext, legal_in, next_bracket, psd_in, quality, value_in, value_of, value_of_shape, GoesBelow, IsSmall, JoinsBelow, MayPairBelow, count_below, group_below, players_below, score_below, seat_below, value_below, NextValue, highest_first, psd, quality_with, next_in, IsAbove, IsOf, Reached, frame_of, is_number, number_may_be_left, numbers_meet, candidates_of, downfloaters, first_group, quality_of, scoregroups, all_pairs, difference, difference_down, lowest, score_at, seat_of, is_seat, seats_meet, greatest_shape, shapes, number_pairs}
 use Rattle.dutch_bracket.proofs.AllLemmas.{all_join}
 use Rattle.dutch_bracket.proofs.ArrangementParts.{numbers_above, numbers_rise, numbers_within, parts_of}
 use Rattle.dutch_weights.proofs.C06ToC19Weights.{all_so, pairs_seated}

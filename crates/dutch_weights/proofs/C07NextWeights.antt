@@ -8,32 +8,17 @@ use Rattle.std.proofs.lemmas.Bool.{and_from, and_parts, ne_eqb, or_right}
 use Rattle.std.proofs.lemmas.Bool.Decides.{nat_tests}
 use Rattle.std.proofs.lemmas.List.{get_or_append_left, get_or-append_right}
 use Rattle.std.proofs.lemmas.List.Sums.{sum_by-cons, sum_by-append}
-use Rattle.dual.specs.Floors.{FloorTable, IsFloor, extra_in}
-use Rattle.dual.specs.Matchings.{IsMatching, IsPartOf, cost, in_both}
+use Rattle.dual.specs.Prelude.{FloorTable, IsFloor, extra_in, IsMatching, IsPartOf, cost, in_both}
 use Rattle.dual.proofs.Sums.{sum_none, sum_of_ones, sum_of_twos}
 use Rattle.dutch_order.specs.declared.bracket.Shape.{Shape}
-use Rattle.dutch_order.specs.Arrangements.{Arrangement, Fits, down}
-use Rattle.dutch_order.specs.Choices.{numbers_from}
-use Rattle.dutch_order.specs.Keys.{IsIn}
-use Rattle.dutch_order.specs.Prefixes.{Begins, Beginning}
+use Rattle.dutch_order.specs.Prelude.{Arrangement, Fits, down, numbers_from, IsIn, Begins, Beginning}
 use Rattle.dutch_order.proofs.Members.{length-numbers, numbers-append}
 use Rattle.dutch_order.proofs.Orders.{member_has}
-use Rattle.dutch_player.specs.Facts.{Facts}
+use Rattle.dutch_player.specs.Prelude.{Facts}
 use Rattle.dutch_bracket.specs.declared.reached.BracketKind.TheVariants.{Ordinary}
 use Rattle.dutch_weights.specs.declared.scoped.Reach.TheVariants.{Next}
-use Rattle.dutch_bracket.specs.Beginnings.{fixed_lists}
-use Rattle.dutch_bracket.specs.NextBracket.{IsNext}
-use Rattle.dutch_bracket.specs.NextMatchings.{GoesBelow, JoinsBelow, MayPairBelow, count_below, group_below, score_below, seat_below}
-use Rattle.dutch_weights.specs.Orders.{Order}
-use Rattle.dutch_bracket.specs.Quality.{NextValue, Quality}
-use Rattle.dutch_bracket.specs.Reached.{IsAbove, Reached, frame_of, is_number, numbers_meet}
-use Rattle.dutch_bracket.specs.Brackets.{candidates_of, quality_of}
-use Rattle.dutch_bracket.specs.Scopes.{Covers, Scope, is_joined, may_stay}
-use Rattle.dutch_weights.specs.ScopedCosts.{Scoped, are_inside, both_go, bracket_costs, costs_in, goes_down, is_inside, is_number_below, may_meet_below, next_costs, pair_weight_below, side_in}
-use Rattle.dutch_bracket.specs.Seated.{difference, difference_down, score_at}
-use Rattle.dutch_weights.specs.WeightFloors.{added_in}
-use Rattle.dutch_weights.specs.WeightTables.{alone_weight, met_weight, own_weight}
-use Rattle.dutch_bracket.specs.Weights.{IsNextScale, IsScaleFor, NextScale, Scale, alone_by, number_pairs, weight_below, weight_of, weighing}
+use Rattle.dutch_bracket.specs.Prelude.{fixed_lists, IsNext, GoesBelow, JoinsBelow, MayPairBelow, count_below, group_below, score_below, seat_below, NextValue, Quality, IsAbove, Reached, frame_of, is_number, numbers_meet, candidates_of, quality_of, Covers, Scope, is_joined, may_stay, difference, difference_down, score_at, IsNextScale, IsScaleFor, NextScale, Scale, alone_by, number_pairs, weight_below, weight_of, weighing}
+use Rattle.dutch_weights.specs.Prelude.{Order, Scoped, are_inside, both_go, bracket_costs, costs_in, goes_down, is_inside, is_number_below, may_meet_below, next_costs, pair_weight_below, side_in, added_in, alone_weight, met_weight, own_weight}
 use Rattle.dutch_bracket.proofs.AllLemmas.{all_join}
 use Rattle.dutch_bracket.proofs.ArrangementParts.{numbers_above}
 use Rattle.dutch_weights.proofs.C04Lower.{one_by_one, sums_same}

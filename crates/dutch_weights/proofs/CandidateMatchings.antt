@@ -7,19 +7,11 @@ use Rattle.std.proofs.lemmas.Bool.{and_parts}
 use Rattle.std.proofs.lemmas.List.{length-map}
 use Rattle.std.proofs.lemmas.List.Elements.{All-nil, All-cons}
 use Rattle.std.proofs.lemmas.List.Sums.{sum_by-cons, sum_by-append}
-use Rattle.dual.specs.Matchings.{IsMatching, IsPartOf, in_both}
+use Rattle.dual.specs.Prelude.{IsMatching, IsPartOf, in_both}
 use Rattle.dutch_order.specs.declared.bracket.Shape.{Shape}
-use Rattle.dutch_order.specs.Arrangements.{Arrangement, Fits, arrangements, down, is_legal, leaves_one}
-use Rattle.dutch_order.specs.Choices.{all_meet, numbers_from}
-use Rattle.dutch_order.specs.Keys.{IsIn}
-use Rattle.dutch_order.specs.Prefixes.{GoesOn}
-use Rattle.dutch_player.specs.Facts.{Facts}
-use Rattle.dutch_bracket.specs.Beginnings.{HasPairsOf}
-use Rattle.dutch_bracket.specs.ColourFloors.{beyond}
-use Rattle.dutch_bracket.specs.Reached.{IsOf, Reached, ends_round, frame_of, number_may_be_left, numbers_meet}
-use Rattle.dutch_bracket.specs.Brackets.{candidates_of, quality_of}
-use Rattle.dutch_bracket.specs.Seated.{score_at}
-use Rattle.dutch_bracket.specs.Weights.{HasDigits, IsScaleFor, Scale, number_pairs, numbers, weighing}
+use Rattle.dutch_order.specs.Prelude.{Arrangement, Fits, arrangements, down, is_legal, leaves_one, all_meet, numbers_from, IsIn, GoesOn}
+use Rattle.dutch_player.specs.Prelude.{Facts}
+use Rattle.dutch_bracket.specs.Prelude.{HasPairsOf, beyond, IsOf, Reached, ends_round, frame_of, number_may_be_left, numbers_meet, candidates_of, quality_of, score_at, HasDigits, IsScaleFor, Scale, number_pairs, numbers, weighing}
 use Rattle.dutch_bracket.proofs.AllLemmas.{all_join}
 use Rattle.dutch_bracket.proofs.ArrangementParts.{parts_of}
 use Rattle.dutch_weights.proofs.C06ToC19Weights.{IsSmallBelow, candidate_digits}

@@ -4,12 +4,9 @@ use Rattle.std.proofs.Common.{◌≡◌, ℕ, ◌+◌, ◌<◌, ◌≤◌, Bool,
 use Rattle.std.specs.List.{AllByRecursion, zip}
 use Rattle.std.proofs.lemmas.Bool.{false_from_ne_true, ltb-true}
 use Rattle.std.proofs.lemmas.List.Sums.{sum_by-append, sum_by-cons}
-use Rattle.dutch_order.specs.Arrangements.{Arrangement}
-use Rattle.dutch_order.specs.Prefixes.{Beginning}
-use Rattle.dutch_weights.specs.Orders.{Order, added, with_lesser}
-use Rattle.dutch_weights.specs.ScopedCosts.{with_order}
-use Rattle.dutch_weights.specs.WeightFloors.{IsMostAdded}
-use Rattle.dutch_bracket.specs.Weights.{number_pairs}
+use Rattle.dutch_order.specs.Prelude.{Arrangement, Beginning}
+use Rattle.dutch_weights.specs.Prelude.{Order, added, with_lesser, with_order, IsMostAdded}
+use Rattle.dutch_bracket.specs.Prelude.{number_pairs}
 use Rattle.dutch_weights.proofs.OrderLemmas.{with_first}
 
 module _ (mdps : ℕ) (order : Order) (w : ℕ → ℕ → ℕ) where

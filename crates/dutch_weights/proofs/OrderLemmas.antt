@@ -5,14 +5,10 @@ use Rattle.std.specs.Option.{IfSome, SomeIff}
 use Rattle.std.proofs.Math.Nat.{mul-add}
 use Rattle.std.proofs.lemmas.Bool.{false_from_ne_true, true≢false}
 use Rattle.std.proofs.lemmas.List.Sums.{sum_by-cons}
-use Rattle.dutch_order.specs.Choices.{is_member, subsets}
-use Rattle.dutch_order.specs.Exchange.{sum_of}
-use Rattle.dutch_order.specs.Exchanged.{IsExchange, KnownExchange}
-use Rattle.dutch_order.specs.Keys.{IsIn}
-use Rattle.dutch_order.specs.Stages.{total}
+use Rattle.dutch_order.specs.Prelude.{is_member, subsets, sum_of, IsExchange, KnownExchange, IsIn, total}
 use Rattle.dutch_order.proofs.CursorSets.{AreSet, in-member, member-in, subset-from, subset-to}
 use Rattle.dutch_order.proofs.Orders.{IsIn-append, IsIn-back, IsIn-filter, IsIn-front, IsIn-map, Rises, all_members, filter-IsIn, Rises-filter, Rises-from, member_has}
-use Rattle.dutch_weights.specs.Orders.{Order, added, kept, lesser, more_of, short_of, with_lesser}
+use Rattle.dutch_weights.specs.Prelude.{Order, added, kept, lesser, more_of, short_of, with_lesser}
 
 -- ---- sums
 

@@ -2,7 +2,7 @@
 use Rattle.std.proofs.Common.{◌≡◌, ℕ, ◌+◌, ◌-◌, ◌*◌, ◌<◌, ◌≤◌, inl, inr, ap, arith, mul_comm}
 use Rattle.std.proofs.Math.Nat.{mul-le-mul_right}
 use Rattle.std.proofs.lemmas.Bool.{cases_lt}
-use Rattle.dutch_weights.specs.WeightTables.{place_of}
+use Rattle.dutch_weights.specs.Prelude.{place_of}
 
 row : (n r s : ℕ) → r < s → r * n + n ≤ s * n
 row n r s lt = let le : (r + 1) * n ≤ s * n = mul-le-mul_right n (omega arith) in omega (arith, le)

@@ -4,28 +4,21 @@ use Rattle.std.proofs.Common.{◌≡◌, ℕ, suc, ◌+◌, ◌<◌, ◌≤◌, 
 use Rattle.std.specs.List.{AllByRecursion, zip}
 use Rattle.std.proofs.lemmas.Bool.{and_parts, cases_Bool, true≢false}
 use Rattle.std.proofs.lemmas.Bool.Decides.{nat_tests}
-use Rattle.dual.specs.Matchings.{Costs, IsMatching}
+use Rattle.dual.specs.Prelude.{Costs, IsMatching}
 use Rattle.dutch_order.specs.declared.bracket.Shape.{Shape}
 use Rattle.dutch_order.specs.declared.prefix.Filling.{Filling}
 use Rattle.dutch_order.specs.declared.prefix.Filling.TheVariants.{S1, S2, S2r}
-use Rattle.dutch_order.specs.Arrangements.{Arrangement, Fits, Frame, arrangements, down, left_of, paired, players_of, remainder_pairs, residents_of}
-use Rattle.dutch_order.specs.Choices.{all_meet, is_member}
-use Rattle.dutch_order.specs.Keys.{IsIn}
-use Rattle.dutch_order.specs.Prefixes.{Begins, BeginsAt, Beginning}
+use Rattle.dutch_order.specs.Prelude.{Arrangement, Fits, Frame, arrangements, down, left_of, paired, players_of, remainder_pairs, residents_of, all_meet, is_member, IsIn, Begins, BeginsAt, Beginning}
 use Rattle.dutch_order.proofs.Counts.{member-four}
 use Rattle.dutch_order.proofs.CursorSets.{in-member, member-in}
 use Rattle.dutch_order.proofs.HalfWalks.{Climbs}
 use Rattle.dutch_order.proofs.Orders.{IsIn-filter, all_members, member_has}
-use Rattle.dutch_player.specs.Facts.{Facts}
+use Rattle.dutch_player.specs.Prelude.{Facts}
 use Rattle.dutch_weights.specs.declared.scoped.Reach.TheVariants.{Bracket}
 use Rattle.dutch_bracket.specs.declared.scope.Standing.{Standing}
 use Rattle.dutch_bracket.specs.declared.scope.Standing.TheVariants.{Any, Outside, First, Resident, FirstResident, OtherResident}
-use Rattle.dutch_weights.specs.Orders.{Order}
-use Rattle.dutch_bracket.specs.Reached.{IsOf, Reached, frame_of, numbers_meet}
-use Rattle.dutch_bracket.specs.Brackets.{candidates_of}
-use Rattle.dutch_bracket.specs.Scopes.{Covers, CoversBy, Scope, is_joined, may_stay, moved_down_standing, resident_standing}
-use Rattle.dutch_weights.specs.ScopedCosts.{costs_in}
-use Rattle.dutch_bracket.specs.Weights.{Scale, number_pairs, numbers, weighing}
+use Rattle.dutch_weights.specs.Prelude.{Order, costs_in}
+use Rattle.dutch_bracket.specs.Prelude.{IsOf, Reached, frame_of, numbers_meet, candidates_of, Covers, CoversBy, Scope, is_joined, may_stay, moved_down_standing, resident_standing, Scale, number_pairs, numbers, weighing}
 use Rattle.dutch_bracket.proofs.AllLemmas.{all_join}
 use Rattle.dutch_bracket.proofs.ArrangementParts.{lists_of, parts_of, subset_members, tuple_members}
 use Rattle.dutch_weights.proofs.CandidateMatchings.{candidate_is_matching, each, left_legal}

@@ -3,14 +3,10 @@ use Rattle.std.proofs.Common.{◌≡◌, ℕ, Bool, ◌+◌, ◌<◌, ◌≤◌,
 use Rattle.std.proofs.Common.{inl, inr, refl, sym, ap, subst, ◌∙◌, arith}
 use Rattle.std.proofs.lemmas.Bool.{cases_eq}
 use Rattle.std.proofs.lemmas.List.{get_or-set_other, get_or-set_same}
-use Rattle.dutch_player.specs.Facts.{Facts}
-use Rattle.dutch_bracket.specs.NextBracket.{no_value}
-use Rattle.dutch_bracket.specs.Quality.{NextValue, quality_with}
-use Rattle.dutch_bracket.specs.Reached.{numbers_meet}
-use Rattle.dutch_bracket.specs.Seated.{Seated}
-use Rattle.dutch_weights.specs.WeightTables.{HasPairs, IsNumber, TellsPairsUpto, pair_of, pair_weight, place_in}
+use Rattle.dutch_player.specs.Prelude.{Facts}
+use Rattle.dutch_bracket.specs.Prelude.{no_value, NextValue, quality_with, numbers_meet, Seated, Scale, Weighing, weight_with}
+use Rattle.dutch_weights.specs.Prelude.{HasPairs, IsNumber, TellsPairsUpto, pair_of, pair_weight, place_in}
 use Rattle.dutch_weights.specs.declared.weighing.PairWeight.{PairWeight}
-use Rattle.dutch_bracket.specs.Weights.{Scale, Weighing, weight_with}
 use Rattle.dutch_weights.proofs.PairPlaces.{inside, same_place}
 
 -- what is said of the next bracket has no part in what weighs without it

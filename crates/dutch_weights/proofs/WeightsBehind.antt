@@ -4,31 +4,19 @@ use Rattle.std.proofs.Common.{◌≡◌, ℕ, zero, suc, ◌+◌, ◌-◌, ◌*�
 use Rattle.std.specs.List.{AllByRecursion}
 use Rattle.std.specs.Option.{ForSome}
 use Rattle.std.proofs.lemmas.Bool.{eq-eqb, ne_eqb}
-use Rattle.dual.specs.Floors.{FloorTable, IsFloor, extra_in, extra_left_in}
+use Rattle.dual.specs.Prelude.{FloorTable, IsFloor, extra_in, extra_left_in, Costs, IsPartOf, cost}
 use Rattle.dual.proofs.Sums.{sum_none}
-use Rattle.dual.specs.Matchings.{Costs, IsPartOf, cost}
 use Rattle.dutch_order.specs.declared.bracket.Shape.{Shape}
 use Rattle.dutch_order.specs.declared.prefix.Filling.{Filling}
 use Rattle.dutch_order.specs.declared.prefix.Filling.TheVariants.{S1, S2, S2r}
-use Rattle.dutch_order.specs.Arrangements.{Arrangement, Fits, Frame, arrangements, down, left_of, remainder_pairs, residents_of}
-use Rattle.dutch_order.specs.Choices.{numbers_from, subsets}
-use Rattle.dutch_order.specs.Keys.{IsIn}
-use Rattle.dutch_order.specs.Prefixes.{Begins, BeginsAt, Beginning}
+use Rattle.dutch_order.specs.Prelude.{Arrangement, Fits, Frame, arrangements, down, left_of, remainder_pairs, residents_of, numbers_from, subsets, IsIn, Begins, BeginsAt, Beginning}
 use Rattle.dutch_order.proofs.Members.{length-numbers}
 use Rattle.dutch_order.proofs.Orders.{IsIn-append, IsIn-map}
-use Rattle.dutch_player.specs.Facts.{Facts}
-use Rattle.dutch_bracket.specs.Beginnings.{fixed_lists}
-use Rattle.dutch_weights.specs.Orders.{Order}
-use Rattle.dutch_bracket.specs.Quality.{Quality, is_better}
-use Rattle.dutch_bracket.specs.QualityIn.{next_in}
+use Rattle.dutch_player.specs.Prelude.{Facts}
+use Rattle.dutch_bracket.specs.Prelude.{fixed_lists, Quality, is_better, next_in, IsOf, Reached, frame_of, candidates_of, completable, downfloaters, is_penultimate, quality_of, Covers, Scope, HasDigits, IsOn, IsScale, IsScaleFor, Scale, number_pairs, numbers, weighing, weight_above, weight_of}
+use Rattle.dutch_weights.specs.Prelude.{Order, IsFloorBy, MeasuresNext, Scoped, all_numbers, costs_in, kept_by, without_left, AreFloors, HasNoBetterOn, IsChoosable, IsScaled, IsWeightFloor, ScopedFloor, Weighed, added_in, bound_behind, is_first, left_known, passed_over, weighing_of, weight_in}
 use Rattle.dutch_weights.specs.declared.scoped.Reach.{Reach}
 use Rattle.dutch_weights.specs.declared.scoped.Reach.TheVariants.{Bracket, Lower, Next}
-use Rattle.dutch_bracket.specs.Reached.{IsOf, Reached, frame_of}
-use Rattle.dutch_bracket.specs.Brackets.{candidates_of, completable, downfloaters, is_penultimate, quality_of}
-use Rattle.dutch_bracket.specs.Scopes.{Covers, Scope}
-use Rattle.dutch_weights.specs.ScopedCosts.{IsFloorBy, MeasuresNext, Scoped, all_numbers, costs_in, kept_by, without_left}
-use Rattle.dutch_weights.specs.WeightFloors.{AreFloors, HasNoBetterOn, IsChoosable, IsScaled, IsWeightFloor, ScopedFloor, Weighed, added_in, bound_behind, is_first, left_known, passed_over, weighing_of, weight_in}
-use Rattle.dutch_bracket.specs.Weights.{HasDigits, IsOn, IsScale, IsScaleFor, Scale, number_pairs, numbers, weighing, weight_above, weight_of}
 use Rattle.dutch_bracket.proofs.ArrangementParts.{lists_of, numbers_above, numbers_rise, numbers_within, parts_of, subset_members, subset_whole}
 use Rattle.dutch_weights.proofs.C06ToC19Weights.{IsSmallBelow, candidate_ordered, candidate_weighs}
 use Rattle.dutch_weights.proofs.C04Lower.{weighs_more_below}

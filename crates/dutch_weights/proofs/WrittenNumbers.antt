@@ -15,14 +15,11 @@ use Rattle.std.proofs.lemmas.Bool.Decides.{nat_tests}
 use Rattle.std.proofs.lemmas.Cmp.{tied_itself, nat_list_cmp_total}
 use Rattle.std.proofs.lemmas.List.Sums.{sum_by-cons}
 use Rattle.std.proofs.Math.Nat.{le_of_mul-le-mul_left, mul-add, mul-le-mul_left}
-use Rattle.dutch_order.specs.Keys.{IsIn}
+use Rattle.dutch_order.specs.Prelude.{IsIn}
 use Rattle.dutch_order.proofs.Comparing.{lists_tied}
-use Rattle.dutch_bracket.specs.NextBracket.{is_lower}
-use Rattle.dutch_bracket.specs.Quality.{Quality, NextValue, highest_first, is_better, one_if}
-use Rattle.dutch_bracket.specs.QualityIn.{next_in}
-use Rattle.dutch_weights.specs.WeightFloors.{HasNoBetterOn, HasSameNextOn}
-use Rattle.dutch_bracket.specs.Weights.{HasDigits, IsAmong, IsOn, IsOnNext, IsScale, IsWithin, NextScale, Scale, alone_by, counts, digits, digits_below}
-use Rattle.dutch_bracket.specs.Weights.{float_digits, in_base, nobody, player_digits, weight_above, weight_of, weight_with, written}
+use Rattle.dutch_bracket.specs.Prelude.{is_lower, Quality, NextValue, highest_first, is_better, one_if, next_in, HasDigits, IsAmong, IsOn, IsOnNext, IsScale, IsWithin, NextScale, Scale, alone_by, counts, digits, digits_below, float_digits, in_base, player_digits, weight_above, weight_of, weight_with, written}
+use Rattle.dutch_weights.specs.Prelude.{HasNoBetterOn, HasSameNextOn}
+use Rattle.dutch_bracket.specs.Weights.{nobody}
 use Rattle.dutch_bracket.proofs.Copies.{Falls, copies, highest_first_falls, not_lower}
 use Rattle.dutch_bracket.proofs.FloorOrder.{number_not}
 use Rattle.dutch_bracket.proofs.InTurn.{better_in_turn, compared_by_colours, compared_by_differences}

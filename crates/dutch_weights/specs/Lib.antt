@@ -4,3 +4,4 @@ pub mod WeightFloors
 pub mod Orders
 pub mod Rests
 pub mod ScopedCosts
+pub mod Prelude

@@ -2,20 +2,15 @@
 -- are paired out with all lower players (C.4), or meet the next lower scoregroup (C.7). What bounds the choice by beginnings stands on
 -- these; a reader of its promise may pass them by.
 use Rattle.std.specs.Prelude.{◌≡◌, ℕ, ◌+◌, ◌-◌, ◌^◌, ◌%◌, ◌<◌, ◌≤◌, [], length, min, Bool, true, ◌&&◌, ◌||◌, not, ◌==◌, if◌then◌else◌, nat_lt, nat_le, List, ◌++◌, slice_index_or, is_some}
-use Rattle.dual.specs.Floors.{FloorTable, IsFloor}
-use Rattle.dual.specs.Matchings.{Costs}
-use Rattle.dutch_order.specs.Choices.{numbers_from}
-use Rattle.dutch_player.specs.Meetings.{may_meet}
+use Rattle.dual.specs.Prelude.{FloorTable, IsFloor, Costs}
+use Rattle.dutch_order.specs.Prelude.{numbers_from}
+use Rattle.dutch_player.specs.Prelude.{may_meet}
 use Rattle.dutch_weights.specs.declared.scoped.Reach.{Reach}
 use Rattle.dutch_weights.specs.declared.scoped.Reach.TheVariants.{Bracket, Lower, Next}
 use Rattle.dutch_bracket.specs.declared.scope.Standing.{Standing}
 use Rattle.dutch_weights.specs.Orders.{Order, with_lesser}
-use Rattle.dutch_bracket.specs.Scopes.{Scope, is_joined, may_stay, standing_of}
-use Rattle.dutch_bracket.specs.Seated.{seat_of}
-use Rattle.dutch_bracket.specs.Seats.{seats_meet, seats_may_be_left}
-use Rattle.dutch_bracket.specs.NextMatchings.{count_below, seat_below}
+use Rattle.dutch_bracket.specs.Prelude.{Scope, is_joined, may_stay, standing_of, seat_of, seats_meet, seats_may_be_left, count_below, seat_below, Scale, Weighing, weighing}
 use Rattle.dutch_weights.specs.WeightTables.{alone_weight, met_weight}
-use Rattle.dutch_bracket.specs.Weights.{Scale, Weighing, weighing}
 
 -- a bracket whose pairs are weighed, a scope of its arrangements, over whom their matchings go, and what is added to pairs of residents
 pub record Scoped : Type 0 where

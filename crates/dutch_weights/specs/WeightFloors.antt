@@ -2,25 +2,14 @@
 -- bounds the choice by beginnings stands on these; a reader of its promise may pass them by.
 use Rattle.std.specs.Prelude.{◌≡◌, ℕ, zero, suc, ◌+◌, ◌≤◌, ◌==◌, true, false, Bool, if◌then◌else◌, List, [], ◌∷◌, All, drop, sum_by, Option, Some, None}
 use Rattle.std.specs.Option.{ForSome}
-use Rattle.dual.specs.Floors.{FloorTable, extra_in, extra_left_in}
+use Rattle.dual.specs.Prelude.{FloorTable, extra_in, extra_left_in}
 use Rattle.dutch_order.specs.declared.bracket.Shape.{Shape}
 use Rattle.dutch_order.specs.declared.prefix.Filling.{Filling}
 use Rattle.dutch_order.specs.declared.prefix.Filling.TheVariants.{S1, S2, S2r}
-use Rattle.dutch_order.specs.Arrangements.{Arrangement, Fits}
-use Rattle.dutch_order.specs.Exchanged.{IsExchange, KnownExchange}
-use Rattle.dutch_order.specs.Keys.{IsIn}
-use Rattle.dutch_order.specs.Prefixes.{Begins, Beginning}
-use Rattle.dutch_player.specs.Facts.{Facts}
-use Rattle.dutch_bracket.specs.Context.{Context}
-use Rattle.dutch_bracket.specs.Beginnings.{fixed_lists}
+use Rattle.dutch_order.specs.Prelude.{Arrangement, Fits, IsExchange, KnownExchange, IsIn, Begins, Beginning}
+use Rattle.dutch_player.specs.Prelude.{Facts}
+use Rattle.dutch_bracket.specs.Prelude.{Context, fixed_lists, NextValue, Quality, next_in, IsOf, Reached, frame_of, can_be_chosen, candidates_of, quality_of, Covers, Scope, HasNoBetter, IsOn, IsScale, IsScaleFor, NextScale, Scale, Weighing, number_pairs, weight_above, weight_of}
 use Rattle.dutch_weights.specs.Orders.{Order, added}
-use Rattle.dutch_bracket.specs.Quality.{NextValue, Quality}
-use Rattle.dutch_bracket.specs.QualityIn.{next_in}
-use Rattle.dutch_bracket.specs.Reached.{IsOf, Reached, frame_of}
-use Rattle.dutch_bracket.specs.Brackets.{can_be_chosen, candidates_of, quality_of}
-use Rattle.dutch_bracket.specs.Scopes.{Covers, Scope}
-use Rattle.dutch_bracket.specs.NextBracket.{HasNoBetter}
-use Rattle.dutch_bracket.specs.Weights.{IsOn, IsScale, IsScaleFor, NextScale, Scale, Weighing, number_pairs, weight_above, weight_of}
 use Rattle.dutch_weights.specs.declared.weight_floor.Bar.{Bar}
 
 -- a bracket of a field above lower seats, a shape of its arrangements, and a scale

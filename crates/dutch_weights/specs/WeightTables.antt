@@ -2,13 +2,9 @@
 -- these.
 use Rattle.std.specs.Prelude.{◌≡◌, ℕ, ◌+◌, ◌-◌, ◌*◌, ◌^◌, ◌<◌, ◌≤◌, Option, None, Some, List, [], ◌∷◌, length, slice_index, slice_index_or, nat_le, if◌then◌else◌}
 use Rattle.std.specs.Option.{ForSome, SomeIff}
-use Rattle.dutch_bracket.specs.Context.{Context}
-use Rattle.dutch_bracket.specs.NextMatchings.{count_below, score_below, seat_below}
-use Rattle.dutch_bracket.specs.Reached.{Reached, numbers_meet}
-use Rattle.dutch_bracket.specs.Seated.{difference_down, score_at}
+use Rattle.dutch_bracket.specs.Prelude.{Context, count_below, score_below, seat_below, Reached, numbers_meet, difference_down, score_at, Scale, Weighing, weight_below, weight_of_one_down, weight_of_pair, written}
 use Rattle.dutch_weights.specs.declared.weighing.Below.{Below}
 use Rattle.dutch_weights.specs.declared.weighing.PairWeight.{PairWeight}
-use Rattle.dutch_bracket.specs.Weights.{Scale, Weighing, weight_below, weight_of_one_down, weight_of_pair, written}
 
 -- a number that is there exactly where it is less than 2^512
 abbrev pub IsThere : Option ℕ → ℕ → Type 0

@@ -13,9 +13,8 @@ ghost use Rattle.dutch_weights.specs.declared.scoped.Reach.TheVariants.{Next};
 ghost use Rattle.dutch_weights.specs.ScopedCosts.{IsReached, MeasuresNext, TellsSides, any_seat, are_inside, both_go};
 ghost use Rattle.dutch_weights.specs.ScopedCosts.{IsFloorBy, all_numbers, bracket_costs, kept_by};
 ghost use Rattle.dutch_weights.specs.ScopedCosts.{is_number_below, may_meet_below, pair_weight_below};
-ghost use Rattle.dutch_bracket.specs.Scopes.{is_joined};
+ghost use Rattle.dutch_bracket.specs.Prelude.{is_joined, may_stay};
 ghost use Rattle.dutch_weights.specs.ScopedCosts.{going_weight, goes_down, is_inside, lower_costs, may_pair_out};
-ghost use Rattle.dutch_bracket.specs.Scopes.{may_stay};
 ghost use Rattle.dutch_weights.specs.ScopedCosts.{side_in, size_by};
 ghost use Rattle.dutch_weights.specs.WeightTables.{IsNumber};
 

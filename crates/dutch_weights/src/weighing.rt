@@ -4,18 +4,13 @@ ghost use Rattle.std.specs.Prelude.{◌≡◌, ◌+◌, ◌*◌, ◌<◌, ◌≤
 ghost use Rattle.std.specs.Prelude.{length};
 ghost use Rattle.std.specs.Option.{ForSome, SomeIff};
 ghost use Rattle.dutch_bracket.specs.declared.reached.BracketKind.TheVariants.{Ordinary};
-ghost use Rattle.dutch_bracket.specs.Beginnings.{seated_so};
-ghost use Rattle.dutch_bracket.specs.NextBracket.{no_value};
-ghost use Rattle.dutch_bracket.specs.Reached.{numbers_meet};
-ghost use Rattle.dutch_bracket.specs.Quality.{quality_with};
-ghost use Rattle.dutch_bracket.specs.Seated.{HasSeats, seat_of};
-ghost use Rattle.dutch_bracket.specs.NextMatchings.{count_below};
+ghost use Rattle.dutch_bracket.specs.Prelude.{seated_so, no_value, numbers_meet, quality_with, HasSeats, seat_of};
+ghost use Rattle.dutch_bracket.specs.Prelude.{count_below, weight_with};
 ghost use Rattle.dutch_weights.specs.WeightTables.{HasAll, HasBelow, HasPairs, IsHeavy, IsNumber, IsNumberBelow};
 ghost use Rattle.dutch_weights.specs.WeightTables.{TellsBelow, TellsDown, TellsEachBelow, TellsPairs, TellsPairsUpto};
 ghost use Rattle.dutch_weights.specs.WeightTables.{alone_weight, below_of, down_weight, met_weight, own_weight};
 ghost use Rattle.dutch_weights.specs.WeightTables.{pair_of, pair_weight, place_in, place_of, weighed_on};
 ghost use Rattle.dutch_order.specs.declared.numbers.TheConstants.{LIMIT};
-ghost use Rattle.dutch_bracket.specs.Weights.{weight_with};
 
 use crate::scale::Scale;
 use dutch_bracket::context::Context;
@@ -57,7 +52,7 @@ pub(crate) struct Below {
 
 impl<'a> Model for Weighing<'a> {
     ghost use Rattle.dutch_weights.specs.WeightTables.{HasAll, HasPairs, TellsBelow, TellsDown, TellsPairs, weighed_on};
-    ghost use Rattle.dutch_bracket.specs.Weights.{Weighing};
+    ghost use Rattle.dutch_bracket.specs.Prelude.{Weighing};
 
     ghost Value = { Weighing };
 
@@ -80,7 +75,7 @@ struct Weigher<'a> {
 
 impl<'a> Model for Weigher<'a> {
     ghost use Rattle.dutch_weights.specs.WeightTables.{weighed_on};
-    ghost use Rattle.dutch_bracket.specs.Weights.{Weighing};
+    ghost use Rattle.dutch_bracket.specs.Prelude.{Weighing};
 
     ghost Value = { Weighing };
 
@@ -454,7 +449,7 @@ impl Weighing<'_> {
 
 impl dual::Rule for Weighing<'_> {
     ghost use Rattle.std.specs.Prelude.{◌<◌, ◌≤◌, length};
-    ghost use Rattle.dutch_bracket.specs.Weights.{weighing};
+    ghost use Rattle.dutch_bracket.specs.Prelude.{weighing};
 
     ghost costs = { λ w. weighing w.facts w.reached w.scale };
 

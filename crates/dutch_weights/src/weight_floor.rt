@@ -4,14 +4,11 @@
 ghost use Rattle.std.specs.Prelude.{◌≡◌, ◌+◌, ◌-◌, ◌*◌, ◌<◌, ◌≤◌, ◌⊎◌, ◌↔◌, All, IfOk, IfSome, IsTrue, is_some, true};
 ghost use Rattle.std.specs.Prelude.{drop, length, sum_by, if◌then◌else◌};
 ghost use Rattle.std.specs.List.{zip};
-ghost use Rattle.dual.specs.Floors.{extra_in, extra_left_in};
+ghost use Rattle.dual.specs.Prelude.{extra_in, extra_left_in};
 ghost use Rattle.dutch_order.specs.declared.numbers.TheConstants.{LIMIT};
 ghost use Rattle.dutch_weights.specs.declared.scoped.Reach.TheVariants.{Lower};
 ghost use Rattle.dutch_weights.specs.ScopedCosts.{MeasuresNext};
-ghost use Rattle.dutch_bracket.specs.Quality.{one_if};
-ghost use Rattle.dutch_bracket.specs.QualityIn.{quality_in};
-ghost use Rattle.dutch_bracket.specs.Brackets.{is_penultimate};
-ghost use Rattle.dutch_bracket.specs.Weights.{IsScaleFor};
+ghost use Rattle.dutch_bracket.specs.Prelude.{one_if, quality_in, is_penultimate, IsScaleFor};
 ghost use Rattle.dutch_weights.specs.WeightFloors.{IsMostAdded, IsScaleHere, IsWeightFloor, Weighed, bound_behind};
 ghost use Rattle.dutch_weights.specs.WeightFloors.{is_first};
 ghost use Rattle.dutch_weights.specs.WeightFloors.{left_known, passed_over, weighed_for};

@@ -4,17 +4,15 @@ use Rattle.std.specs.List.{position_from}
 use Rattle.std.specs.Option.{option_map_or}
 use Rattle.std.proofs.lemmas.List.{drop_more, drop_all, length-map}
 use Rattle.dutch_order.specs.declared.numbers.TheConstants.{LIMIT}
-use Rattle.dutch_player.specs.Facts.{Facts}
-use Rattle.dutch_pair.specs.Lower.{above_lower}
-use Rattle.dutch_pair.specs.Outcomes.{IsStage}
-use Rattle.dutch_bracket.specs.Seated.{score_at}
-use Rattle.dutch_pair.specs.Instead.{IsInstead}
+use Rattle.dutch_player.specs.Prelude.{Facts}
+use Rattle.dutch_pair.specs.Prelude.{above_lower, IsStage, IsInstead}
+use Rattle.dutch_bracket.specs.Prelude.{score_at}
 use Rattle.dutch_pair.specs.declared.instead.Instead.{Instead}
 use Rattle.dutch_pair.specs.declared.stage.Stage.{Stage}
 use Rattle.dutch_choice.specs.declared.wish.Wish.{Wish}
 use Rattle.explained.specs.InsteadAnswers.{IsSearched}
 use Rattle.explained.specs.InsteadTexts.{search_answer}
-use Rattle.replies.specs.Replies.{answer_of}
+use Rattle.replies.specs.Prelude.{answer_of}
 use Rattle.replies.specs.declared.reply.Reply.{Reply}
 
 -- the number that is found from a place on

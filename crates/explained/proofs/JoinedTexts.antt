@@ -1,9 +1,8 @@
 -- Texts that are put one behind the other.
 use Rattle.std.proofs.Common.{◌≡◌, ◌∙◌, ◌++◌, ◌==◌, ℕ, false, cond, List, [], Some, Result, Ok, Err, OnOk, ap, sym, subst, append_assoc, flat_map}
 use Rattle.std.specs.Prelude.{if◌then◌else◌, is_ok, codes}
-use Rattle.dutch_player.specs.Facts.{Facts}
-use Rattle.dutch_bracket.specs.Items.{players_counted, who_counts}
-use Rattle.dutch_bracket.specs.QualityIn.{quality_in}
+use Rattle.dutch_player.specs.Prelude.{Facts}
+use Rattle.dutch_bracket.specs.Prelude.{players_counted, who_counts, quality_in}
 use Rattle.dutch_bracket.specs.declared.item.Item.{Item}
 use Rattle.dutch_pair.specs.declared.stage.Stage.{Stage}
 use Rattle.round_lines.specs.CandidateTexts.{rank_text}

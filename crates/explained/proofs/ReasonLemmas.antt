@@ -2,17 +2,12 @@
 use Rattle.std.proofs.Common.{◌≡◌, ◌∙◌, ℕ, ◌<◌, ◌≤◌, ◌⊎◌, inl, inr, true, false, ◌&&◌, List, [], ◌∷◌, refl, sym, ap, subst, arith}
 use Rattle.std.specs.List.{list_any}
 use Rattle.std.proofs.lemmas.Bool.{and_parts, and_from, cases_lt}
-use Rattle.dutch_order.specs.Arrangements.{Arrangement}
-use Rattle.dutch_order.specs.Keys.{IsIn}
+use Rattle.dutch_order.specs.Prelude.{Arrangement, IsIn}
 use Rattle.dutch_order.proofs.Orders.{filter-IsIn}
-use Rattle.dutch_player.specs.Facts.{Facts}
-use Rattle.dutch_pair.specs.Lower.{above_lower, lower_of}
-use Rattle.dutch_pair.specs.Outcomes.{IsStage}
-use Rattle.dutch_bracket.specs.Reached.{frame_of}
-use Rattle.dutch_bracket.specs.Brackets.{can_be_chosen, candidates_of, eligible}
-use Rattle.dutch_bracket.specs.Shapes.{fits, has_member}
-use Rattle.dutch_choice.specs.Wishes.{IsBarred, grants, some_grants, with_mdps}
-use Rattle.dutch_pair.specs.Instead.{IsInstead}
+use Rattle.dutch_player.specs.Prelude.{Facts}
+use Rattle.dutch_pair.specs.Prelude.{above_lower, lower_of, IsStage, IsInstead}
+use Rattle.dutch_bracket.specs.Prelude.{frame_of, can_be_chosen, candidates_of, eligible, fits, has_member}
+use Rattle.dutch_choice.specs.Prelude.{IsBarred, grants, some_grants, with_mdps}
 use Rattle.dutch_pair.specs.declared.instead.Instead.TheVariants.{FewerMovedDown, NoneEligible, NoneLegal}
 use Rattle.dutch_pair.specs.declared.stage.Stage.{Stage}
 use Rattle.dutch_choice.specs.declared.wish.Wish.{Wish}

@@ -1,10 +1,9 @@
 -- Whom a stage leaves over, by number and by seat.
 use Rattle.std.proofs.Common.{◌≡◌, ℕ, zero, suc, ◌-◌, ◌<◌, ◌≤◌, true, List, [], ◌∷◌, length, slice_index_or, ap, sym, subst, ◌∙◌, arith}
 use Rattle.std.proofs.lemmas.Bool.Decides.{nat_tests}
-use Rattle.dutch_player.specs.Facts.{Facts}
-use Rattle.dutch_pair.specs.Outcomes.{IsStage}
-use Rattle.dutch_bracket.specs.Reached.{Reached, is_number}
-use Rattle.dutch_bracket.specs.Seated.{AllNumbers, seat_of}
+use Rattle.dutch_player.specs.Prelude.{Facts}
+use Rattle.dutch_pair.specs.Prelude.{IsStage}
+use Rattle.dutch_bracket.specs.Prelude.{Reached, is_number, AllNumbers, seat_of}
 use Rattle.dutch_pair.specs.declared.stage.Stage.{Stage}
 use Rattle.dutch_pair.proofs.WalkEnds.{candidate_is}
 

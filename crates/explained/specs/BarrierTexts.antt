@@ -1,9 +1,8 @@
 -- The lines with which `explain` tells why there is no pairing: who blocks, the odd groups behind them, and that nobody may have the bye.
 use Rattle.std.specs.Prelude.{ℕ, ◌==◌, if◌then◌else◌, List, [], ◌++◌, Option, Some, None, codes}
 use Rattle.std.specs.List.{flat_map}
-use Rattle.dutch_player.specs.Facts.{Facts}
-use Rattle.dutch_pair.specs.Barriers.{Barrier, has_blockers, label, lacks_bye, opens_odd_group}
-use Rattle.dutch_pair.specs.Round.{everybody}
+use Rattle.dutch_player.specs.Prelude.{Facts}
+use Rattle.dutch_pair.specs.Prelude.{Barrier, has_blockers, label, lacks_bye, opens_odd_group, everybody}
 use Rattle.round_lines.specs.CandidateTexts.{rank_text}
 
 module _ (facts : Facts) where

@@ -1,20 +1,17 @@
 -- What `explain` answers: the round, bracket by bracket, or what of it one player is told.
 use Rattle.std.specs.Prelude.{◌≡◌, ℕ, IfSome, List, ◌++◌, Option, Some, None, Result, Ok, Err}
-use Rattle.dutch_pair.specs.Barriers.{Barrier, Blocks}
-use Rattle.dutch_pair.specs.Outcomes.{AreStages}
+use Rattle.dutch_pair.specs.Prelude.{Barrier, Blocks, AreStages}
 use Rattle.dutch_pair.specs.declared.round.AllStages.{AllStages}
 use Rattle.dutch_pair.specs.declared.round.AllStages.TheVariants.{Paired, NoPairing, Undecided}
-use Rattle.dutch_player.specs.Facts.{Facts, facts_of}
-use Rattle.dutch_player.specs.StartRanks.{seat_with}
+use Rattle.dutch_player.specs.Prelude.{Facts, facts_of, seat_with}
 use Rattle.dutch_player.specs.declared.fault.FieldFault.{FieldFault}
-use Rattle.trf16.specs.Sheet.{Sheet}
+use Rattle.trf16.specs.Prelude.{Sheet}
 use Rattle.trf16.specs.declared.fault.Fault.{Fault}
 use Rattle.explained.specs.BarrierTexts.{reason_text}
 use Rattle.explained.specs.ExplainTexts.{round_text, stages_text}
 use Rattle.explained.specs.InsteadAnswers.{AnswersInstead, PairedRound}
 use Rattle.round_lines.specs.PlayerTexts.{absent_text, player_text}
-use Rattle.replies.specs.Questions.{question_fault}
-use Rattle.replies.specs.Statuses.{Answer, behind, done, field_refusal, no_pairing, plain, question_refusal, refusal, undecided}
+use Rattle.replies.specs.Prelude.{question_fault, Answer, behind, done, field_refusal, no_pairing, plain, question_refusal, refusal, undecided}
 use Rattle.requests.specs.declared.options.ExplainOptions.{ExplainOptions}
 use Rattle.requests.specs.declared.options.Question.{Question}
 use Rattle.replies.specs.declared.question.QuestionFault.{QuestionFault}

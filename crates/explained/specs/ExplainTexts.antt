@@ -3,18 +3,16 @@ use Rattle.std.specs.Prelude.{ℕ, zero, suc, ◌-◌, ◌/◌, Bool, true, ◌|
 use Rattle.std.specs.List.{flat_map, list_any}
 use Rattle.std.specs.Option.{option_map_or}
 use Rattle.std.specs.Fmt.{decimal}
-use Rattle.trf16.specs.Sheet.{Sheet}
-use Rattle.dutch_player.specs.Colours.{colours, colour_rule}
-use Rattle.dutch_player.specs.Facts.{Facts}
+use Rattle.trf16.specs.Prelude.{Sheet}
+use Rattle.dutch_player.specs.Prelude.{colours, colour_rule, Facts}
 use Rattle.dutch_player.specs.declared.colour_rule.ColourRule.{ColourRule}
 use Rattle.dutch_player.specs.declared.colour_rule.ColourRule.TheVariants.{BothPreferences, StrongerPreference, Alternation, HigherRank, InitialColour}
-use Rattle.dutch_bracket.specs.Reached.{Reached, ends_round}
-use Rattle.dutch_bracket.specs.Seated.{score_at, seat_of}
-use Rattle.dutch_pair.specs.Stages.{own_pairs}
+use Rattle.dutch_bracket.specs.Prelude.{Reached, ends_round, score_at, seat_of}
+use Rattle.dutch_pair.specs.Prelude.{own_pairs}
 use Rattle.dutch_pair.specs.declared.stage.Stage.{Stage}
 use Rattle.round_lines.specs.CandidateTexts.{bracket_text, candidate_text, rank_text}
 use Rattle.explained.specs.StageItems.{items_text}
-use Rattle.replies.specs.Texts.{halves_text}
+use Rattle.replies.specs.Prelude.{halves_text}
 
 -- E: the rule that decided the colours of two
 abbrev pub rule_text : ColourRule → List ℕ

@@ -2,19 +2,17 @@
 use Rattle.std.specs.Prelude.{◌≡◌, ℕ, ◌<◌, Bool, true, false, ◌&&◌, ◌==◌, if◌then◌else◌, List, [], ◌∷◌, length, Option, Some, None, option_map, codes}
 use Rattle.std.specs.List.{list_any, position_from}
 use Rattle.std.specs.Option.{option_map_or}
-use Rattle.dutch_player.specs.Facts.{Facts}
-use Rattle.dutch_player.specs.StartRanks.{seat_with}
-use Rattle.dutch_pair.specs.Lower.{above_lower}
-use Rattle.dutch_choice.specs.Wishes.{grants}
-use Rattle.dutch_pair.specs.Instead.{IsInstead}
+use Rattle.dutch_player.specs.Prelude.{Facts, seat_with}
+use Rattle.dutch_pair.specs.Prelude.{above_lower, IsInstead}
+use Rattle.dutch_choice.specs.Prelude.{grants}
 use Rattle.dutch_pair.specs.declared.instead.Instead.{Instead}
 use Rattle.dutch_pair.specs.declared.stage.Stage.{Stage}
 use Rattle.dutch_choice.specs.declared.wish.Wish.{Wish}
 use Rattle.dutch_choice.specs.declared.wish.Wish.TheVariants.{Pair, LeftOver}
-use Rattle.trf16.specs.Sheet.{Sheet}
+use Rattle.trf16.specs.Prelude.{Sheet}
 use Rattle.explained.specs.InsteadTexts.{instead_text, search_answer}
 use Rattle.round_lines.specs.Obstacles.{against_bye, against_meeting, obstacle_text}
-use Rattle.replies.specs.Statuses.{Answer, done}
+use Rattle.replies.specs.Prelude.{Answer, done}
 use Rattle.explained.specs.declared.instead.Rival.{Rival}
 use Rattle.explained.specs.declared.instead.Rival.TheVariants.{Bye, Seat}
 use Rattle.round_lines.specs.declared.obstacle.Obstacle.{Obstacle}

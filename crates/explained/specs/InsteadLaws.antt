@@ -1,21 +1,15 @@
 -- What the obstacles say, and the reasons why no candidate grants a wish, in words of their own.
 use Rattle.std.specs.Prelude.{◌≡◌, ◌≢◌, ℕ, ◌<◌, ◌≤◌, ◌⊎◌, ◌&&◌, true, false, List, [], ◌∷◌, ◌++◌, Some}
-use Rattle.dutch_order.specs.Arrangements.{Arrangement, Fits}
-use Rattle.dutch_order.specs.Keys.{IsIn}
-use Rattle.dutch_player.specs.Facts.{Facts, seat_at}
-use Rattle.dutch_player.specs.Histories.{opponent_played}
-use Rattle.dutch_player.specs.Meetings.{is_topscorer}
-use Rattle.dutch_player.specs.Preferences.{preference}
+use Rattle.dutch_order.specs.Prelude.{Arrangement, Fits, IsIn}
+use Rattle.dutch_player.specs.Prelude.{Facts, seat_at, opponent_played, is_topscorer, preference}
 use Rattle.dutch_player.specs.declared.preference.Strength.TheVariants.{Absolute}
 use Rattle.dutch_player.specs.declared.preference.Pref.{Pref}
-use Rattle.dutch_pair.specs.Lower.{lower_of}
-use Rattle.dutch_bracket.specs.Reached.{frame_of}
-use Rattle.dutch_bracket.specs.Brackets.{can_be_chosen, candidates_of}
-use Rattle.dutch_choice.specs.Wishes.{grants, with_mdps}
+use Rattle.dutch_pair.specs.Prelude.{lower_of}
+use Rattle.dutch_bracket.specs.Prelude.{frame_of, can_be_chosen, candidates_of}
+use Rattle.dutch_choice.specs.Prelude.{grants, with_mdps}
 use Rattle.dutch_pair.specs.declared.stage.Stage.{Stage}
 use Rattle.dutch_choice.specs.declared.wish.Wish.{Wish}
-use Rattle.trf16.specs.Absence.{apart}
-use Rattle.trf16.specs.Sheet.{Sheet, cell_in, rounds_played}
+use Rattle.trf16.specs.Prelude.{apart, Sheet, cell_in, rounds_played}
 use Rattle.explained.specs.InsteadAnswers.{goes_on, stands_in, stands_in_one, wish_in}
 use Rattle.explained.specs.declared.instead.Rival.{Rival}
 use Rattle.explained.specs.declared.instead.Rival.TheVariants.{Bye, Seat}

@@ -1,12 +1,12 @@
 -- The line that tells why a player does not meet another one in the next round, or does not have the bye.
 use Rattle.std.specs.Prelude.{ℕ, List, ◌++◌, codes}
 use Rattle.std.specs.Fmt.{decimal}
-use Rattle.dutch_bracket.specs.QualityIn.{quality_in}
+use Rattle.dutch_bracket.specs.Prelude.{quality_in}
 use Rattle.dutch_pair.specs.declared.instead.Instead.{Instead}
 use Rattle.dutch_pair.specs.declared.instead.Instead.TheVariants.{Best, FewerMovedDown, NoneEligible, NoneLegal, Undecided}
 use Rattle.dutch_pair.specs.declared.stage.Stage.{Stage}
 use Rattle.round_lines.specs.ValueTexts.{candidate_text}
-use Rattle.replies.specs.Statuses.{Answer, done, undecided}
+use Rattle.replies.specs.Prelude.{Answer, done, undecided}
 
 -- the line of who is asked for, 0 for the bye
 abbrev pub instead_text : ℕ → List ℕ → List ℕ

@@ -1,10 +1,8 @@
 -- The lines of what counts against the choice in a bracket, all items in their order (C.04.3 C.6 to C.19).
 use Rattle.std.specs.Prelude.{ℕ, List}
 use Rattle.std.specs.List.{flat_map}
-use Rattle.dutch_player.specs.Facts.{Facts}
-use Rattle.dutch_bracket.specs.Items.{players_counted, who_counts}
-use Rattle.dutch_bracket.specs.Quality.{Quality, all_items}
-use Rattle.dutch_bracket.specs.QualityIn.{quality_in}
+use Rattle.dutch_player.specs.Prelude.{Facts}
+use Rattle.dutch_bracket.specs.Prelude.{players_counted, who_counts, Quality, all_items, quality_in}
 use Rattle.dutch_bracket.specs.declared.item.Item.{Item}
 use Rattle.dutch_bracket.specs.declared.item.Item.TheVariants.{Psd, NextBracket, WideDifferences, ThirdColours, MissedPreferences, MissedStrong, DownAgain, UpAgain, DownAgainBefore, UpAgainBefore, DownAgainBy, UpAgainBy, DownAgainBeforeBy, UpAgainBeforeBy}
 use Rattle.dutch_pair.specs.declared.stage.Stage.{Stage}

@@ -1,12 +1,12 @@
 // The lines that tell why there is no pairing: who blocks, the odd groups behind them, and that nobody may have the bye
 // (C.04.3 A.9).
 ghost use Rattle.std.specs.Prelude.{◌≡◌, ◌<◌, ◌++◌, IfOk, OnOk, length, string_bytes};
-ghost use Rattle.dutch_pair.specs.Round.{everybody};
-ghost use Rattle.dutch_bracket.specs.Seated.{AreSeats};
+ghost use Rattle.dutch_pair.specs.Prelude.{everybody};
+ghost use Rattle.dutch_bracket.specs.Prelude.{AreSeats};
 ghost use Rattle.explained.specs.BarrierTexts.{barrier_text, blockers_text, group_text, groups_text, labelled_text};
 ghost use Rattle.explained.specs.BarrierTexts.{lacking_text, member_text};
 ghost use Rattle.explained.specs.ExplainAnswers.{TellsWhy, no_pairing_with};
-ghost use Rattle.replies.specs.Replies.{answer_of};
+ghost use Rattle.replies.specs.Prelude.{answer_of};
 
 use dutch_order::{Numbers, numbered_from};
 use dutch_pair::{Barrier, PairFault, barrier_of, lacks_bye};

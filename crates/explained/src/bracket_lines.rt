@@ -1,9 +1,8 @@
 // The lines of a round and of its brackets: who is in each, what is chosen, the boards, and who is left over.
 ghost use Rattle.std.specs.Prelude.{◌≡◌, ◌<◌, ◌++◌, IfOk, OnOk, length, string_bytes};
 ghost use Rattle.std.specs.List.{AllByRecursion, flat_map};
-ghost use Rattle.dutch_bracket.specs.Seated.{IsPair, AreSeats};
-ghost use Rattle.dutch_pair.specs.Outcomes.{IsStage};
-ghost use Rattle.dutch_bracket.specs.Reached.{IsOf};
+ghost use Rattle.dutch_bracket.specs.Prelude.{IsPair, AreSeats, IsOf};
+ghost use Rattle.dutch_pair.specs.Prelude.{IsStage};
 ghost use Rattle.explained.specs.ExplainTexts.{bar_text, boards_text, bye_text, byes_text, chosen_text};
 ghost use Rattle.explained.specs.ExplainTexts.{colours_text, is_bracket_told, is_told, over_text, pairs_text};
 ghost use Rattle.explained.specs.ExplainTexts.{left_text, players_text, round_text, rule_text, scored_text};

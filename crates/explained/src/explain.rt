@@ -1,17 +1,17 @@
 // The command `explain`: why the next round is paired as it is, bracket by bracket or for one player.
 ghost use Rattle.std.specs.Prelude.{◌≡◌, ◌<◌, ◌≤◌, ◌++◌, IfOk, Ok, OnOk, length, string_bytes};
 ghost use Rattle.std.specs.List.{AllByRecursion};
-ghost use Rattle.dutch_pair.specs.Outcomes.{IsStage};
-ghost use Rattle.trf16.specs.Verdict.{verdict};
-ghost use Rattle.dutch_bracket.specs.Seated.{AreSeats};
-ghost use Rattle.dutch_player.specs.StartRanks.{seat_with};
+ghost use Rattle.dutch_pair.specs.Prelude.{IsStage};
+ghost use Rattle.trf16.specs.Prelude.{verdict};
+ghost use Rattle.dutch_bracket.specs.Prelude.{AreSeats};
+ghost use Rattle.dutch_player.specs.Prelude.{seat_with};
 ghost use Rattle.explained.specs.ExplainAnswers.{AnswersExplain, ExplainsField, IsExplained, IsToldBehind};
 ghost use Rattle.explained.specs.ExplainAnswers.{TellsPaired, about_text, front_text, present_text};
-ghost use Rattle.replies.specs.Replies.{answer_of};
+ghost use Rattle.replies.specs.Prelude.{answer_of};
 
 use crate::barrier_lines::no_pairing_because;
 use crate::bracket_lines::{put_stages, round_line};
-use crate::instead::{Question, Paired, instead};
+use crate::instead::{Paired, Question, instead};
 use dutch_pair::{AllStages, PairFault, stages};
 use dutch_player::{Field, FieldFault};
 use replies::refusal::{cannot_be_asked, cannot_be_paired, refused, undecided};

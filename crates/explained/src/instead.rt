@@ -2,15 +2,14 @@
 ghost use Rattle.std.specs.Prelude.{◌≡◌, ◌<◌, ◌≤◌, IfOk, IfSome, MatchOption, None, Some, length};
 ghost use Rattle.std.specs.List.{AllByRecursion};
 ghost use Rattle.dutch_order.specs.declared.numbers.TheConstants.{LIMIT};
-ghost use Rattle.dutch_pair.specs.Outcomes.{IsStage};
-ghost use Rattle.dutch_choice.specs.Wishes.{grants};
+ghost use Rattle.dutch_pair.specs.Prelude.{IsStage};
+ghost use Rattle.dutch_choice.specs.Prelude.{grants};
 ghost use Rattle.explained.specs.InsteadAnswers.{AnswersInstead, AnswersWish, IsRival, IsSearched, decided_in};
 ghost use Rattle.explained.specs.InsteadAnswers.{goes_on, number_among, number_in, obstacle_of, rival_of};
 ghost use Rattle.explained.specs.InsteadAnswers.{stands_in, stands_in_one, wish_in};
 ghost use Rattle.explained.specs.InsteadTexts.{in_bracket, instead_text, search_answer};
 ghost use Rattle.round_lines.specs.Obstacles.{obstacle_text};
-ghost use Rattle.replies.specs.Replies.{answer_of};
-ghost use Rattle.replies.specs.Statuses.{done};
+ghost use Rattle.replies.specs.Prelude.{answer_of, done};
 
 use dutch_pair::{Instead, PairFault, Stage, Wish, best_instead};
 use dutch_player::Field;

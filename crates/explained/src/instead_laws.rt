@@ -1,10 +1,8 @@
 // Laws on what is told to a player who asks for another opponent, or for the bye: each reason is true.
 ghost use Rattle.std.specs.Prelude.{◌≡◌, ℕ, ◌&&◌, true, List, Some};
-ghost use Rattle.dutch_player.specs.Facts.{Facts};
-ghost use Rattle.trf16.specs.Sheet.{Sheet};
-ghost use Rattle.dutch_pair.specs.Lower.{above_lower};
-ghost use Rattle.dutch_pair.specs.Outcomes.{IsStage};
-ghost use Rattle.dutch_pair.specs.Instead.{IsInstead};
+ghost use Rattle.dutch_player.specs.Prelude.{Facts};
+ghost use Rattle.trf16.specs.Prelude.{Sheet};
+ghost use Rattle.dutch_pair.specs.Prelude.{above_lower, IsStage, IsInstead};
 ghost use Rattle.dutch_pair.specs.declared.instead.Instead.TheVariants.{FewerMovedDown, NoneEligible, NoneLegal};
 ghost use Rattle.dutch_pair.specs.declared.stage.Stage.{Stage};
 ghost use Rattle.dutch_choice.specs.declared.wish.Wish.{Wish};

@@ -1,7 +1,7 @@
 // The lines of what counts against the choice in a bracket, item by item (C.04.3 C.6 to C.19).
 ghost use Rattle.std.specs.Prelude.{◌≡◌, ◌++◌, OnOk, string_bytes};
 ghost use Rattle.std.specs.List.{flat_map};
-ghost use Rattle.dutch_pair.specs.Outcomes.{IsStage};
+ghost use Rattle.dutch_pair.specs.Prelude.{IsStage};
 ghost use Rattle.explained.specs.StageItems.{counted_text, item_text, items_text};
 
 use dutch_pair::{ITEMS, Item, Stage, who_counts};

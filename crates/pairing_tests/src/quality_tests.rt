@@ -1,7 +1,7 @@
 // What a caller can ask of a bracket by calls alone: the qualities of its candidates, its choice, and boards.
-ghost use Rattle.dutch_order.specs.Arrangements.{Fits};
-ghost use Rattle.dutch_pair.specs.Lower.{lower_of};
-ghost use Rattle.dutch_bracket.specs.Reached.{IsAbove, frame_of};
+ghost use Rattle.dutch_order.specs.Prelude.{Fits};
+ghost use Rattle.dutch_pair.specs.Prelude.{lower_of};
+ghost use Rattle.dutch_bracket.specs.Prelude.{IsAbove, frame_of};
 
 use dutch_order::{Budget, Candidates, Shape, Step};
 use dutch_pair::boards::boards;

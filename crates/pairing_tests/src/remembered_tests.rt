@@ -1,6 +1,6 @@
 // The look-ahead from a bracket of eight to a scoregroup of four, and which of its values are kept.
 ghost use Rattle.std.specs.Prelude.{◌≡◌, IfOk};
-ghost use Rattle.dutch_bracket.specs.Reached.{IsOf};
+ghost use Rattle.dutch_bracket.specs.Prelude.{IsOf};
 
 use dutch_order::{Budget, Numbers};
 use dutch_pair::{BracketAt, BracketKind, Look, LookAhead, Reached, are_left, bracket_at, is_next};

@@ -2,7 +2,7 @@
 use Rattle.std.proofs.Common.{◌≡◌, ◌∙◌, ◌<◌, ◌&&◌, ◌||◌, ◌==◌, cond, refl, sym, ap, arith, append-nil, append_assoc, ℕ, Bool, true, false, List, [], ◌∷◌, ◌++◌, length, drop, get_or}
 use Rattle.std.proofs.lemmas.Bool.{and_right, cond_both, or_from}
 use Rattle.std.specs.Prelude.{⊤}
-use Rattle.replies.specs.Controls.{holds_control, is_control, is_long_control, shown_byte, without_controls}
+use Rattle.replies.specs.Prelude.{holds_control, is_control, is_long_control, shown_byte, without_controls}
 
 -- no byte makes a long control character with a question mark behind it
 mark_behind : (b : ℕ) → is_long_control b 63 ≡ false

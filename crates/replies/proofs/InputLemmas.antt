@@ -2,7 +2,7 @@
 use Rattle.std.proofs.Common.{◌≡◌, ◌≤◌, ◌+◌, ℕ, List, [], Option, length, take, subst, append-nil}
 use Rattle.std.specs.Io.KnownBytes.{Consumes}
 use Rattle.std.proofs.KnownBytes.{Consumes-trans}
-use Rattle.replies.specs.Input.{most_read}
+use Rattle.replies.specs.Prelude.{most_read}
 
 -- the bytes so far are those that the source gave, no call failed, and each call gave a byte
 pub record HasRead (first now : Option (List ℕ)) (bytes : List ℕ) (failures_first failures_now calls_first calls_now : ℕ) : Type 0 where

@@ -3,9 +3,7 @@ use Rattle.std.proofs.Common.{◌≡◌, ◌∙◌, ◌≤◌, ◌<◌, ◌+◌,
 use Rattle.std.specs.Prelude.{slice_index_or}
 use Rattle.std.proofs.lemmas.List.{drop_all, drop_more}
 use Rattle.tiebreak.specs.declared.key.Key.{Key}
-use Rattle.replies.specs.StandingsTexts.{values_text}
-use Rattle.replies.specs.Tables.{LabelFacts, gap, labels_text, padded}
-use Rattle.replies.specs.WallTexts.{values_labels}
+use Rattle.replies.specs.Prelude.{values_text, LabelFacts, gap, labels_text, padded, values_labels}
 
 no_values : (keys : List Key) → values_text keys [] ≡ []
 no_values [] = refl

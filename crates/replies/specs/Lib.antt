@@ -14,3 +14,4 @@ pub mod StandingsTexts
 pub mod Tables
 pub mod WallTexts
 pub mod StandingsAnswers
+pub mod Prelude

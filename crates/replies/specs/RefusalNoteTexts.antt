@@ -2,8 +2,7 @@
 use Rattle.std.specs.Prelude.{ℕ, if◌then◌else◌, List, [], ◌++◌, codes, Option, Some, None, option_and_then, Result, Ok, Err}
 use Rattle.std.specs.Option.{option_map_or}
 use Rattle.std.specs.Fmt.{decimal}
-use Rattle.trf16.specs.Sheet.{Sheet}
-use Rattle.trf16.specs.Summed.{verdict_unsummed}
+use Rattle.trf16.specs.Prelude.{Sheet, verdict_unsummed}
 use Rattle.trf16.specs.declared.fault.Fault.{Fault}
 use Rattle.trf16.specs.declared.fault.Fault.TheVariants.{Points}
 use Rattle.report_notes.specs.RefusalNotes.{columns_of, fits_in_bytes, held, line_of, sums_among}

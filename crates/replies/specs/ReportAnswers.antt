@@ -1,10 +1,7 @@
 -- What the commands answer that only read a report: `check` and `format`.
 use Rattle.std.specs.Prelude.{ℕ, Bool, true, false, List, ◌++◌, length, Result, Ok, Err}
 use Rattle.report_notes.specs.Notes.{notes_of}
-use Rattle.trf16.specs.Sheet.{Sheet, rounds_played}
-use Rattle.trf16.specs.Summed.{summed, verdict_unsummed}
-use Rattle.trf16.specs.Verdict.{verdict}
-use Rattle.trf16.specs.Written.{written}
+use Rattle.trf16.specs.Prelude.{Sheet, rounds_played, summed, verdict_unsummed, verdict, written}
 use Rattle.trf16.specs.declared.fault.Fault.{Fault}
 use Rattle.replies.specs.NoteTexts.{notes_text}
 use Rattle.replies.specs.RefusalNoteTexts.{with_note, refusal_note}

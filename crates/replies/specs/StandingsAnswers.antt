@@ -1,10 +1,9 @@
 -- What `standings` answers: the lines of the players, with or without names.
 use Rattle.std.specs.Prelude.{ℕ, Bool, true, false, List, Result, Ok, Err}
-use Rattle.tiebreak.specs.Keys.{RowFacts}
-use Rattle.tiebreak.specs.Standings.{standings_of}
+use Rattle.tiebreak.specs.Prelude.{RowFacts, standings_of}
 use Rattle.tiebreak.specs.declared.fault.TieFault.{TieFault}
 use Rattle.tiebreak.specs.declared.key.Key.{Key}
-use Rattle.trf16.specs.Sheet.{Sheet}
+use Rattle.trf16.specs.Prelude.{Sheet}
 use Rattle.trf16.specs.declared.fault.Fault.{Fault}
 use Rattle.replies.specs.StandingsTexts.{rows_text}
 use Rattle.replies.specs.Statuses.{Answer, done, refusal, tie_refusal}

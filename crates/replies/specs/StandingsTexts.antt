@@ -1,7 +1,7 @@
 -- The lines of the standings.
 use Rattle.std.specs.Prelude.{ℕ, ◌+◌, ◌/◌, ◌%◌, ◌==◌, if◌then◌else◌, List, [], ◌∷◌, ◌++◌, Option, Some, None, codes}
 use Rattle.std.specs.Fmt.{decimal}
-use Rattle.tiebreak.specs.Keys.{RowFacts}
+use Rattle.tiebreak.specs.Prelude.{RowFacts}
 use Rattle.tiebreak.specs.declared.key.Key.{Key}
 use Rattle.tiebreak.specs.declared.key.Key.TheVariants.{Direct, Buchholz, SonnebornBerger}
 use Rattle.replies.specs.Texts.{halves_text}

@@ -1,10 +1,9 @@
 -- The boards and the standings for the wall: with names, in columns.
 use Rattle.std.specs.Prelude.{ℕ, ◌+◌, ◌==◌, if◌then◌else◌, List, [], ◌∷◌, ◌++◌, length, Option, codes}
 use Rattle.std.specs.Fmt.{decimal}
-use Rattle.tiebreak.specs.Keys.{RowFacts}
+use Rattle.tiebreak.specs.Prelude.{RowFacts}
 use Rattle.tiebreak.specs.declared.key.Key.{Key}
-use Rattle.trf16.specs.Names.{name_in}
-use Rattle.trf16.specs.Sheet.{Sheet, points_upto, rounds_played}
+use Rattle.trf16.specs.Prelude.{name_in, Sheet, points_upto, rounds_played}
 use Rattle.replies.specs.Controls.{without_controls}
 use Rattle.replies.specs.StandingsTexts.{value_text}
 use Rattle.replies.specs.Tables.{LabelFacts, left, right, table_text}

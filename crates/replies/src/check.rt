@@ -1,6 +1,6 @@
 // The command `check`: whether a report is accepted, how many players and rounds it has, and what looks like a mistake.
 ghost use Rattle.std.specs.Prelude.{◌≡◌, ℕ, ◌≤◌, ◌++◌, IfOk, Ok, string_bytes};
-ghost use Rattle.trf16.specs.Verdict.{verdict};
+ghost use Rattle.trf16.specs.Prelude.{verdict};
 ghost use Rattle.report_notes.specs.Notes.{notes_of};
 ghost use Rattle.replies.specs.ReportAnswers.{check_answer, size_text};
 ghost use Rattle.replies.specs.NoteTexts.{notes_text};

@@ -1,8 +1,6 @@
 // The command `format`: a report in canonical columns.
 ghost use Rattle.std.specs.Prelude.{◌≡◌, ◌≤◌, IfOk, Ok, false, true};
-ghost use Rattle.trf16.specs.Summed.{summed, verdict_unsummed};
-ghost use Rattle.trf16.specs.Verdict.{verdict};
-ghost use Rattle.trf16.specs.Written.{written};
+ghost use Rattle.trf16.specs.Prelude.{summed, verdict_unsummed, verdict, written};
 ghost use Rattle.replies.specs.ReportAnswers.{format_answer, format_verdict};
 ghost use Rattle.replies.specs.Replies.{answer_of};
 ghost use Rattle.replies.specs.Statuses.{report_answer};

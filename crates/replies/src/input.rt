@@ -1,6 +1,6 @@
 // The input of a run: all bytes of a source, in a counted number of calls.
 ghost use Rattle.std.specs.Prelude.{◌≤◌, ◌+◌};
-ghost use Rattle.trf16.specs.Output.{use_of};
+ghost use Rattle.trf16.specs.Prelude.{use_of};
 ghost use Rattle.replies.specs.Input.{ReadsInput, most_read};
 
 use std::alloc::Global;

@@ -1,6 +1,6 @@
 // The line of `check --notes` beside a refusal: what was found.
 ghost use Rattle.std.specs.Prelude.{◌≡◌, ◌≢◌, ◌≤◌, ◌++◌, IfOk, Err, Ok, codes, string_bytes};
-ghost use Rattle.trf16.specs.Summed.{verdict_unsummed};
+ghost use Rattle.trf16.specs.Prelude.{verdict_unsummed};
 ghost use Rattle.report_notes.specs.RefusalNotes.{alone_in_bytes, are_lines_read, fits_in_bytes};
 ghost use Rattle.replies.specs.RefusalNoteTexts.{bytes_text, columns_text, held_text, line_in_bytes, line_note};
 ghost use Rattle.replies.specs.RefusalNoteTexts.{points_note, refusal_note, sums_text, with_note};

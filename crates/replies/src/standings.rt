@@ -1,6 +1,6 @@
 // The command `standings`: the players by score and by the keys that break ties.
 ghost use Rattle.std.specs.Prelude.{◌≡◌, ◌++◌, ◌≤◌, ◌<◌, IfOk, Ok, OnOk, length, string_bytes};
-ghost use Rattle.trf16.specs.Verdict.{verdict};
+ghost use Rattle.trf16.specs.Prelude.{verdict};
 ghost use Rattle.replies.specs.Replies.{answer_of};
 ghost use Rattle.replies.specs.StandingsAnswers.{standings_answer, table_answer};
 ghost use Rattle.replies.specs.StandingsTexts.{row_text, rows_text, value_text, values_text};

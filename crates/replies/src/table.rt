@@ -3,7 +3,7 @@ ghost use Rattle.std.specs.Prelude.{◌≡◌, ◌++◌, ◌∷◌, [], IfOk, On
 ghost use Rattle.replies.specs.Tables.{gap, labels_text, left, padded, padded_by, right, table_text, widest};
 ghost use Rattle.replies.specs.Tables.{width, width_in, widths};
 ghost use Rattle.replies.specs.WallTexts.{shown};
-ghost use Rattle.trf16.specs.Written.{blanks};
+ghost use Rattle.trf16.specs.Prelude.{blanks};
 
 use crate::controls::without_controls;
 use std::alloc::{AllocError, Global};
@@ -154,7 +154,12 @@ fn widest(lines: &[TableLine], utf8: bool, column: usize) -> usize
 }
 
 // How wide the first columns are, so many of them.
-fn widths(alloc: Global, lines: &[TableLine], utf8: bool, count: usize) -> Result<Vec<usize>, AllocError>
+fn widths(
+    alloc: Global,
+    lines: &[TableLine],
+    utf8: bool,
+    count: usize,
+) -> Result<Vec<usize>, AllocError>
     ensures { IfOk result (λ all. all.items ≡ widths utf8 count lines.now) }
 {
     let mut all = Vec::new(alloc);
@@ -180,7 +185,12 @@ fn put_gap(text: &mut Vec<u8>, behind: &[Label]) -> Result<(), AllocError>
 }
 
 // Puts a line, each of its labels as wide as its column.
-fn put_line(text: &mut Vec<u8>, utf8: bool, widths: &[usize], line: &TableLine) -> Result<(), AllocError>
+fn put_line(
+    text: &mut Vec<u8>,
+    utf8: bool,
+    widths: &[usize],
+    line: &TableLine,
+) -> Result<(), AllocError>
     ensures { OnOk result (text.new.items ≡ text.old.items ++ labels_text utf8 widths.now 0 line.now) }
 {
     let labels = line.labels.as_slice();
@@ -192,7 +202,12 @@ fn put_line(text: &mut Vec<u8>, utf8: bool, widths: &[usize], line: &TableLine) 
 }
 
 /// The text of a table of `count` columns, whose columns are characters where `utf8` says so, else bytes.
-pub fn table(alloc: Global, lines: &[TableLine], utf8: bool, count: usize) -> Result<Vec<u8>, AllocError>
+pub fn table(
+    alloc: Global,
+    lines: &[TableLine],
+    utf8: bool,
+    count: usize,
+) -> Result<Vec<u8>, AllocError>
     ensures { IfOk result (λ text. text.items ≡ table_text utf8 count lines.now) }
 {
     let widths = widths(alloc, lines, utf8, count)?;

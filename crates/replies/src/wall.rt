@@ -102,7 +102,12 @@ fn push_player(
 
 // Puts a player of the standings, and the values of the keys.
 #[tactic(auto, unfolding(crate::specs::WallTexts::row_labels))]
-fn push_row(line: &mut TableLine, report: &Report<'_>, keys: &[Key], row: &Row) -> Result<(), AllocError>
+fn push_row(
+    line: &mut TableLine,
+    report: &Report<'_>,
+    keys: &[Key],
+    row: &Row,
+) -> Result<(), AllocError>
     ensures { OnOk result (line.new ≡ line.old ++ row_labels report.now keys.now row.now) }
 {
     push_player(line, report, row.start(), row.score())?;

@@ -1,7 +1,6 @@
 -- One round further in a player's games.
 use Rattle.std.proofs.Common.{◌≡◌, refl, ℕ, suc, ◌+◌, ◌-◌, ◌<◌, true, false, ◌∷◌, arith}
-use Rattle.trf16.specs.Sheet.{Sheet, cell_in, rounds_played}
-use Rattle.trf16.specs.Unfinished.{is_unfinished}
+use Rattle.trf16.specs.Prelude.{Sheet, cell_in, rounds_played, is_unfinished}
 use Rattle.report_notes.specs.Games.{unfinished_behind}
 
 -- the round behind a given one has no result

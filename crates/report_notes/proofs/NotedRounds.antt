@@ -3,8 +3,7 @@ use Rattle.std.proofs.Common.{◌≡◌, ◌⊎◌, inl, inr, ℕ, zero, suc, �
 use Rattle.std.proofs.Common.{cond, List, [], ◌∷◌, get_or, refl, sym, ◌∙◌, arith, subst}
 use Rattle.std.specs.List.{list_any}
 use Rattle.std.proofs.lemmas.Bool.{eqb-true, eq-eqb, lt-ltb, le-ltb, cases_lt, true≢false}
-use Rattle.trf16.specs.Sheet.{Entry, Sheet, cell_in, cells_of, is_paired, last_paired, last_paired_of, rounds_played}
-use Rattle.trf16.specs.Unfinished.{is_unfinished}
+use Rattle.trf16.specs.Prelude.{Entry, Sheet, cell_in, cells_of, is_paired, last_paired, last_paired_of, rounds_played, is_unfinished}
 use Rattle.trf16.specs.declared.cell.Cell.{Cell}
 use Rattle.trf16.specs.declared.cell.Cell.TheVariants.{Blank, Bye, Game, Forfeit, Unfinished}
 use Rattle.report_notes.specs.Games.{rounds_without, unfinished_behind}

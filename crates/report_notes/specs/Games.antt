@@ -1,10 +1,7 @@
 -- The games of a player: those without a result, that of the last round, and the rounds that the points field counts.
 use Rattle.std.specs.Prelude.{ℕ, zero, suc, ◌+◌, ◌-◌, Bool, true, false, not, ◌&&◌, ◌==◌, nat_lt, if◌then◌else◌, List, [], ◌∷◌, take, sum_by}
 use Rattle.std.specs.Option.{option_map_or}
-use Rattle.trf16.specs.Lines.{text}
-use Rattle.trf16.specs.Fields.{words, number_in}
-use Rattle.trf16.specs.Sheet.{Entry, Sheet, cell_in, half_points, rounds_played}
-use Rattle.trf16.specs.Unfinished.{is_unfinished}
+use Rattle.trf16.specs.Prelude.{text, words, number_in, Entry, Sheet, cell_in, half_points, rounds_played, is_unfinished}
 use Rattle.trf16.specs.declared.cell.Cell.{Cell}
 use Rattle.trf16.specs.declared.cell.Cell.TheVariants.{Game}
 

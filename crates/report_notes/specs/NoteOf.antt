@@ -1,7 +1,6 @@
 -- Notes as definitions see them, wherever they lie in memory.
 use Rattle.std.specs.Prelude.{ℕ, List, [], ◌∷◌, ◌++◌, map}
-use Rattle.trf16.specs.Fields.{words}
-use Rattle.trf16.specs.Sheet.{Sheet}
+use Rattle.trf16.specs.Prelude.{words, Sheet}
 use Rattle.report_notes.specs.Games.{unfinished_behind}
 use Rattle.report_notes.specs.Notes.{Noted, NoPlayer, PlayedLast, UnknownKind, BlankBefore, OnePlayer}
 use Rattle.report_notes.specs.Notes.{LongName, EarlyPoints, NoResult, BehindColumn, absent_notes, last_column, name_notes, note_if}

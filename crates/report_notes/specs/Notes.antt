@@ -3,12 +3,7 @@ use Rattle.std.specs.Prelude.{ℕ, ◌+◌, ◌*◌, Bool, true, false, not, ◌
 use Rattle.std.specs.List.{list_all, list_any}
 use Rattle.std.specs.Option.{option_map_or}
 use Rattle.std.specs.Str.{byte}
-use Rattle.trf16.specs.Lines.{without_marks, lines, columns, joined, text, is_blank}
-use Rattle.trf16.specs.Fields.{words, number_of, without_blanks}
-use Rattle.trf16.specs.Extensions.{is_kind, is_word, words_of}
-use Rattle.trf16.specs.Sheet.{Sheet, known, rounds_played}
-use Rattle.trf16.specs.Verdict.{is_player}
-use Rattle.trf16.specs.Names.{player_of}
+use Rattle.trf16.specs.Prelude.{without_marks, lines, columns, joined, text, is_blank, words, number_of, without_blanks, is_kind, is_word, words_of, Sheet, known, rounds_played, is_player, player_of}
 use Rattle.report_notes.specs.Games.{start_in, unfinished_behind, played_last, counts_to_come}
 
 -- one thing that looks like a mistake, and its line: a number that no player has; that of a player who is absent from now on and played the

@@ -1,7 +1,6 @@
 -- What comes behind a place.
 use Rattle.std.specs.Prelude.{◌+◌, List, ◌++◌}
-use Rattle.trf16.specs.Lines.{lines}
-use Rattle.trf16.specs.Sheet.{Sheet}
+use Rattle.trf16.specs.Prelude.{lines, Sheet}
 use Rattle.report_notes.specs.Notes.{Noted, notes_from}
 use Rattle.report_notes.specs.NoteOf.{left_notes}
 use Rattle.report_notes.specs.declared.place.Place.{Place}

@@ -2,10 +2,7 @@
 -- that a points field was compared with.
 use Rattle.std.specs.Prelude.{ℕ, ◌+◌, ◌-◌, ◌*◌, ◌/◌, Bool, true, false, ◌&&◌, nat_le, nat_lt, if◌then◌else◌, List, [], ◌∷◌, ◌++◌, sum_by, take, slice_index_or, Option, Some, None, option_map, option_and_then, Result, Err}
 use Rattle.std.specs.Str.{byte, is_utf8}
-use Rattle.trf16.specs.Lines.{without_marks, lines, columns, text}
-use Rattle.trf16.specs.Names.{player_of}
-use Rattle.trf16.specs.Sheet.{Entry, Sheet, half_points, rounds_played}
-use Rattle.trf16.specs.Summed.{verdict_unsummed}
+use Rattle.trf16.specs.Prelude.{without_marks, lines, columns, text, player_of, Entry, Sheet, half_points, rounds_played, verdict_unsummed}
 use Rattle.trf16.specs.declared.fault.Excess.TheVariants.{Bytes}
 use Rattle.trf16.specs.declared.fault.Fault.{Fault}
 use Rattle.trf16.specs.declared.fault.Fault.TheVariants.{BadNumber, Duplicate, Misaligned, BadCell, BadExtension, TooMany}

@@ -1,8 +1,7 @@
 // The kinds of lines that are known.
 ghost use Rattle.std.specs.Prelude.{◌≡◌};
 ghost use Rattle.std.specs.List.{list_any};
-ghost use Rattle.trf16.specs.Fields.{words};
-ghost use Rattle.trf16.specs.Extensions.{is_word};
+ghost use Rattle.trf16.specs.Prelude.{words, is_word};
 ghost use Rattle.report_notes.specs.Notes.{begins_blank, is_known, kind_in};
 
 use trf16::{is_word, next_word, split_kind, without_blanks};

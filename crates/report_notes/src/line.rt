@@ -1,6 +1,6 @@
 // What of one line looks like a mistake.
 ghost use Rattle.std.specs.Prelude.{◌≡◌, ℕ, ◌∷◌, [], MatchOption};
-ghost use Rattle.trf16.specs.Lines.{columns};
+ghost use Rattle.trf16.specs.Prelude.{columns};
 ghost use Rattle.report_notes.specs.Notes.{carried_notes, extension_notes, line_notes};
 ghost use Rattle.report_notes.specs.NoteOf.{left_notes, noted};
 

@@ -1,7 +1,6 @@
 // What of a player's line looks like a mistake.
 ghost use Rattle.std.specs.Prelude.{◌≡◌, ℕ, ◌∷◌, [], MatchOption};
-ghost use Rattle.trf16.specs.Lines.{columns};
-ghost use Rattle.trf16.specs.Fields.{number_in, words};
+ghost use Rattle.trf16.specs.Prelude.{columns, number_in, words};
 ghost use Rattle.report_notes.specs.Games.{start_in};
 ghost use Rattle.report_notes.specs.Notes.{goes_on_behind, last_column, name_runs_on, player_notes};
 ghost use Rattle.report_notes.specs.NoteOf.{cells_left_notes, noted, player_left_notes};

@@ -1,8 +1,7 @@
 // Which rounds a player's points field counts.
 ghost use Rattle.std.specs.Prelude.{◌≡◌, false};
 ghost use Rattle.std.specs.Option.{option_map_or};
-ghost use Rattle.trf16.specs.Names.{player_of};
-ghost use Rattle.trf16.specs.Sheet.{entry_of};
+ghost use Rattle.trf16.specs.Prelude.{player_of, entry_of};
 ghost use Rattle.report_notes.specs.Games.{counts_to_come};
 
 use trf16::{Player, Report, front};

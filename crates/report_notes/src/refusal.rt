@@ -3,8 +3,7 @@
 ghost use Rattle.std.specs.Prelude.{◌≡◌, ℕ, ◌≤◌, List, ◌∷◌, [], Err, not, true, false};
 ghost use Rattle.std.specs.List.{list_all};
 ghost use Rattle.std.specs.Str.{is_utf8};
-ghost use Rattle.trf16.specs.Lines.{columns, ends_line, lines, text, without_marks};
-ghost use Rattle.trf16.specs.Sheet.{entry_of};
+ghost use Rattle.trf16.specs.Prelude.{columns, ends_line, lines, text, without_marks, entry_of};
 ghost use Rattle.trf16.specs.declared.limits.TheConstants.{LAST_COLUMN};
 ghost use Rattle.report_notes.specs.RefusalNotes.{alone_in_bytes, are_lines_read, columns_around, columns_of, held};
 ghost use Rattle.report_notes.specs.RefusalNotes.{line_in, line_of, sums_among, sums_of};

@@ -1,6 +1,6 @@
 // The notes of a report, one after the other.
 ghost use Rattle.std.specs.Prelude.{◌≡◌, ◌∷◌, ◌<◌, [], MatchOption, length};
-ghost use Rattle.trf16.specs.Sheet.{Sheet};
+ghost use Rattle.trf16.specs.Prelude.{Sheet};
 ghost use Rattle.report_notes.specs.Notes.{notes_of};
 ghost use Rattle.report_notes.specs.NoteOf.{left_notes, noted};
 ghost use Rattle.report_notes.specs.Places.{coming};

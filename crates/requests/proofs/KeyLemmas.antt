@@ -3,7 +3,7 @@ use Rattle.std.proofs.Common.{◌≡◌, ◌∙◌, ◌<◌, eqb, ℕ, List, [],
 use Rattle.std.specs.List.{after_first, before_first, position_or_len}
 use Rattle.std.proofs.lemmas.List.Splits.{slice_split_first, slice_split_none}
 use Rattle.std.proofs.lemmas.List.Sums.{fails_before_first}
-use Rattle.requests.specs.Keys.{names}
+use Rattle.requests.specs.Prelude.{names}
 
 -- a list without a comma is one name
 pub names_one : (text : List ℕ) → position_or_len (λ b. eqb b 44) text ≡ length text → names text ≡ text ∷ []

@@ -5,8 +5,7 @@ use Rattle.std.specs.List.{list_any}
 use Rattle.std.proofs.lemmas.Bool.{and_from, and_parts, and_right, not-false, not-true, or_cases, or_parts, or_right, ltb-true}
 use Rattle.std.proofs.lemmas.Bool.Decides.{nat_tests}
 use Rattle.std.proofs.lemmas.List.Folds.{list_any-append}
-use Rattle.requests.specs.KeySteps.{with_key, with_name}
-use Rattle.requests.specs.Keys.{are_different, if_listed, is_same, key_named, keys_in, keys_named, names}
+use Rattle.requests.specs.Prelude.{with_key, with_name, are_different, if_listed, is_same, key_named, keys_in, keys_named, names}
 use Rattle.tiebreak.specs.declared.key.Key.{Key}
 use Rattle.tiebreak.specs.declared.key.Key.TheVariants.{Direct, Buchholz, SonnebornBerger}
 

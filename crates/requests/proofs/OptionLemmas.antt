@@ -11,7 +11,7 @@ use Rattle.clap.specs.declared.builder.value_parser.ValueParser.TheVariants as v
 use Rattle.clap.specs.declared.parser.matches.Found.{Found}
 use Rattle.clap.proofs.ValueTestLemmas.{Accepts-accepts, accepts-Accepts}
 use Rattle.clap.proofs.WalkLemmas.{one_text-rows}
-use Rattle.requests.specs.Options.{number_in, number_of}
+use Rattle.requests.specs.Prelude.{number_in, number_of}
 
 -- what `from_str` reads of a text at an unsigned type of k bits
 module _ (E : Type 0) (G : List ℕ → Result ℕ E → Type 0) (k most : ℕ) (top : suc most ≡ 2 ^ k) (small : most < 2 ^ 64)

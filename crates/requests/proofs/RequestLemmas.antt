@@ -9,7 +9,7 @@ use Rattle.clap.specs.Simple.{argument_words, entered, label_of, names_of, rows_
 use Rattle.clap.specs.Takes.{is_given}
 use Rattle.clap.specs.Walk.{Held, Names, answers_to, finished, nothing_held, rows_after, settled, stop_after, walk, walk_from}
 use Rattle.clap.specs.Words.{App, Kinds, Row, Shape, Text, built, fault_of, subcommand_of}
-use Rattle.requests.specs.Words.{arbiter_app, task_by, task_of}
+use Rattle.requests.specs.Prelude.{arbiter_app, task_by, task_of}
 use Rattle.requests.proofs.WordLemmas.{commands_on_literals}
 
 -- each of these commands makes a task, or one with a fault

@@ -9,10 +9,8 @@ use Rattle.std.specs.Box.{box_value}
 use Rattle.clap.specs.declared.Error.{Error}
 use Rattle.clap.specs.declared.parser.matches.ArgMatches.{ArgMatches}
 use Rattle.clap.specs.declared.parser.matches.ArgMatches.TheViews.{out-ArgMatches, out-SubCommand}
-use Rattle.requests.specs.Options.{rows_in}
+use Rattle.requests.specs.Prelude.{rows_in, bracket_rule, by_rule, bye_rule, count_rule, from_rule, initial_rule, instead_rule, names_rule, notes_rule, player_rule, points_rule, report_rule, rounds_rule, steps_rule, candidates_app, explain_app, pair_app, standings_app, with_bracket_rules, with_option, with_round_rules, with_table_rules, ComesTo, FitsKind, arbiter_app, asked_by, check_app, format_app, is_mistake, is_shown, settled, task_by, versioned, with_command, with_engine, with_pairing}
 use Rattle.clap.proofs.OnLiterals.{clap_on_literals}
-use Rattle.requests.specs.CommandLine.{bracket_rule, by_rule, bye_rule, count_rule, from_rule, initial_rule, instead_rule, names_rule, notes_rule, player_rule, points_rule, report_rule, rounds_rule, steps_rule, candidates_app, explain_app, pair_app, standings_app, with_bracket_rules, with_option, with_round_rules, with_table_rules}
-use Rattle.requests.specs.Words.{ComesTo, FitsKind, arbiter_app, asked_by, check_app, format_app, is_mistake, is_shown, settled, task_by, versioned, with_command, with_engine, with_pairing}
 use Rattle.requests.specs.declared.options.WordFault.{WordFault}
 use Rattle.requests.specs.declared.words.Task.{Task}
 use Rattle.requests.specs.declared.words.Meaning.{Meaning}

@@ -4,3 +4,4 @@ pub mod Words
 pub mod Keys
 pub mod KeySteps
 pub mod Options
+pub mod Prelude

@@ -2,10 +2,9 @@
 use Rattle.std.proofs.Common.{◌≡◌, ◌∙◌, ◌≤◌, ◌<◌, ◌+◌, ◌++◌, ℕ, zero, suc, List, [], ◌∷◌, ap, sym, refl, subst, arith, append-nil, length, take, drop, flat_map}
 use Rattle.std.proofs.lemmas.Grind.{flat_map-append}
 use Rattle.std.proofs.lemmas.List.{drop_all}
-use Rattle.dutch_order.specs.Arrangements.{Arrangement, Frame, down}
-use Rattle.dutch_order.specs.Candidates.{Candidate}
-use Rattle.dutch_bracket.specs.Reached.{Reached, frame_of}
-use Rattle.dutch_player.specs.Facts.{Facts}
+use Rattle.dutch_order.specs.Prelude.{Arrangement, Frame, down, Candidate}
+use Rattle.dutch_bracket.specs.Prelude.{Reached, frame_of}
+use Rattle.dutch_player.specs.Prelude.{Facts}
 use Rattle.round_lines.specs.CandidateTexts.{candidate_text, line_text, pairs_text}
 use Rattle.round_lines.specs.Listings.{IsListing}
 use Rattle.round_lines.specs.declared.listing.Ending.TheVariants.{AtEnd, AtCount, Stopped}

@@ -2,13 +2,10 @@
 use Rattle.std.specs.Prelude.{ℕ, if◌then◌else◌, List, [], ◌∷◌, ◌++◌, codes}
 use Rattle.std.specs.List.{flat_map}
 use Rattle.std.specs.Fmt.{decimal}
-use Rattle.dutch_order.specs.Arrangements.{Arrangement, down}
-use Rattle.dutch_order.specs.Cursors.{cursor_text}
-use Rattle.dutch_order.specs.Candidates.{Candidate}
+use Rattle.dutch_order.specs.Prelude.{Arrangement, down, cursor_text, Candidate}
 use Rattle.dutch_order.specs.declared.bracket.Shape.{Shape}
-use Rattle.dutch_player.specs.Facts.{Facts, seat_at}
-use Rattle.dutch_bracket.specs.Reached.{Reached, frame_of, is_number}
-use Rattle.dutch_bracket.specs.Seated.{seat_of}
+use Rattle.dutch_player.specs.Prelude.{Facts, seat_at}
+use Rattle.dutch_bracket.specs.Prelude.{Reached, frame_of, is_number, seat_of}
 use Rattle.dutch_bracket.specs.declared.reached.BracketKind.{BracketKind}
 use Rattle.dutch_bracket.specs.declared.reached.BracketKind.TheVariants.{Ordinary, Last, Penultimate, Collapsed}
 

@@ -2,14 +2,14 @@
 use Rattle.std.specs.Prelude.{ℕ, ◌==◌, if◌then◌else◌, List, [], ◌∷◌, ◌++◌, codes}
 use Rattle.std.specs.List.{flat_map}
 use Rattle.std.specs.Fmt.{decimal}
-use Rattle.dutch_player.specs.Facts.{Facts}
-use Rattle.dutch_bracket.specs.Quality.{Quality}
+use Rattle.dutch_player.specs.Prelude.{Facts}
+use Rattle.dutch_bracket.specs.Prelude.{Quality}
 use Rattle.dutch_bracket.specs.declared.item.Item.{Item}
 use Rattle.dutch_bracket.specs.declared.item.Item.TheVariants.{Psd, NextBracket, WideDifferences, ThirdColours, MissedPreferences, MissedStrong, DownAgain, UpAgain, DownAgainBefore, UpAgainBefore, DownAgainBy, UpAgainBy, DownAgainBeforeBy, UpAgainBeforeBy}
 use Rattle.dutch_bracket.specs.declared.reached.BracketKind.{BracketKind}
 use Rattle.dutch_bracket.specs.declared.reached.BracketKind.TheVariants.{Ordinary, Last, Penultimate, Collapsed}
 use Rattle.round_lines.specs.CandidateTexts.{rank_text}
-use Rattle.replies.specs.Texts.{halves_text}
+use Rattle.replies.specs.Prelude.{halves_text}
 
 -- the article of an item
 abbrev pub article_text : Item → List ℕ

@@ -1,9 +1,9 @@
 -- The lines of a listing of candidates, and how it ends.
 use Rattle.std.specs.Prelude.{◌≡◌, ℕ, ◌<◌, ◌≤◌, List, length, take, codes}
 use Rattle.std.specs.List.{flat_map}
-use Rattle.dutch_order.specs.Arrangements.{Arrangement}
+use Rattle.dutch_order.specs.Prelude.{Arrangement}
 use Rattle.dutch_order.specs.declared.steps.Budget.{Budget}
-use Rattle.replies.specs.Texts.{undecided_text}
+use Rattle.replies.specs.Prelude.{undecided_text}
 use Rattle.round_lines.specs.declared.listing.Ending.{Ending}
 use Rattle.round_lines.specs.declared.listing.Ending.TheVariants.{AtEnd, AtCount, Stopped}
 use Rattle.replies.specs.declared.reply.Status.{Status}

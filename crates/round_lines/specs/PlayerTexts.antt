@@ -2,7 +2,7 @@
 use Rattle.std.specs.Prelude.{ℕ, zero, suc, ◌+◌, Bool, true, false, ◌==◌, nat_lt, if◌then◌else◌, List, [], ◌∷◌, ◌++◌, Option, Some, None, codes, ℤ, pos, int_lt}
 use Rattle.std.specs.List.{flat_map}
 use Rattle.std.specs.Fmt.{decimal, signed_decimal}
-use Rattle.trf16.specs.Sheet.{Sheet, cell_in, rounds_played}
+use Rattle.trf16.specs.Prelude.{Sheet, cell_in, rounds_played}
 use Rattle.trf16.specs.declared.cell.Colour.{Colour}
 use Rattle.trf16.specs.declared.cell.Colour.TheVariants.{White, Black}
 use Rattle.dutch_player.specs.declared.float.Float.{Float}
@@ -10,11 +10,8 @@ use Rattle.dutch_player.specs.declared.float.Float.TheVariants.{Up, Down}
 use Rattle.dutch_player.specs.declared.preference.Strength.{Strength}
 use Rattle.dutch_player.specs.declared.preference.Strength.TheVariants.{Absolute, Strong, Mild}
 use Rattle.dutch_player.specs.declared.preference.Pref.{Pref}
-use Rattle.dutch_player.specs.Facts.{SeatFacts, Facts, seat_at}
-use Rattle.dutch_player.specs.Histories.{colour_played}
-use Rattle.dutch_player.specs.Meetings.{is_topscorer}
-use Rattle.dutch_player.specs.Preferences.{difference, preference}
-use Rattle.replies.specs.Texts.{halves_text}
+use Rattle.dutch_player.specs.Prelude.{SeatFacts, Facts, seat_at, colour_played, is_topscorer, difference, preference}
+use Rattle.replies.specs.Prelude.{halves_text}
 
 -- a number put to its place among ascending ones, where it does not stand among them
 abbrev pub placed : ℕ → List ℕ → List ℕ

@@ -2,13 +2,12 @@
 use Rattle.std.specs.Prelude.{ℕ, ◌==◌, if◌then◌else◌, List, [], ◌∷◌, ◌++◌, Option, Some, None, codes}
 use Rattle.std.specs.List.{flat_map}
 use Rattle.std.specs.Fmt.{decimal}
-use Rattle.dutch_order.specs.Arrangements.{Arrangement}
-use Rattle.dutch_order.specs.Cursors.{cursor_text}
-use Rattle.dutch_bracket.specs.Quality.{Quality, first_difference}
+use Rattle.dutch_order.specs.Prelude.{Arrangement, cursor_text}
+use Rattle.dutch_bracket.specs.Prelude.{Quality, first_difference}
 use Rattle.dutch_bracket.specs.declared.item.Item.{Item}
 use Rattle.dutch_bracket.specs.declared.item.Item.TheVariants.{Psd, NextBracket, WideDifferences, ThirdColours, MissedPreferences, MissedStrong, DownAgain, UpAgain, DownAgainBefore, UpAgainBefore, DownAgainBy, UpAgainBy, DownAgainBeforeBy, UpAgainBeforeBy}
 use Rattle.round_lines.specs.ItemTexts.{article_text}
-use Rattle.replies.specs.Texts.{halves_text}
+use Rattle.replies.specs.Prelude.{halves_text}
 
 -- differences as points, with commas between them; a dash where there is none
 abbrev pub points_text : List ℕ → List ℕ

@@ -1,11 +1,10 @@
 // The lines of items that count against a choice (C.04.3 C.6 to C.19).
 ghost use Rattle.std.specs.Prelude.{◌≡◌, ◌++◌, OnOk, codes, string_bytes};
 ghost use Rattle.std.specs.List.{flat_map};
-ghost use Rattle.dutch_player.specs.Facts.{seat_at};
-ghost use Rattle.dutch_bracket.specs.Items.{players_counted};
-ghost use Rattle.dutch_bracket.specs.QualityIn.{quality_in};
+ghost use Rattle.dutch_player.specs.Prelude.{seat_at};
+ghost use Rattle.dutch_bracket.specs.Prelude.{players_counted, quality_in};
 ghost use Rattle.round_lines.specs.CandidateTexts.{rank_text};
-ghost use Rattle.replies.specs.Texts.{halves_text};
+ghost use Rattle.replies.specs.Prelude.{halves_text};
 ghost use Rattle.round_lines.specs.ItemTexts.{article_text, differences_text, list_text, many_text, next_text};
 ghost use Rattle.round_lines.specs.ItemTexts.{psd_text};
 

@@ -2,8 +2,8 @@
 ghost use Rattle.std.specs.Prelude.{◌≡◌, ◌<◌, ◌++◌, IfOk, OnOk, codes, length, string_bytes};
 ghost use Rattle.std.specs.List.{flat_map};
 ghost use Rattle.std.specs.Fmt.{decimal};
-ghost use Rattle.dutch_player.specs.Facts.{seat_at};
-ghost use Rattle.trf16.specs.Sheet.{rounds_played};
+ghost use Rattle.dutch_player.specs.Prelude.{seat_at};
+ghost use Rattle.trf16.specs.Prelude.{rounds_played};
 ghost use Rattle.round_lines.specs.PlayerTexts.{absent_text, ascending, colour_text, colours_text, difference_text};
 ghost use Rattle.round_lines.specs.PlayerTexts.{float_text, floats_text, game_text, games_text, history_text};
 ghost use Rattle.round_lines.specs.PlayerTexts.{met_text, placed, player_text, preference_text, rights_text};

@@ -1,6 +1,6 @@
 // The values of a quality's items as texts (C.04.3 C.6 to C.19).
 ghost use Rattle.std.specs.Prelude.{◌≡◌, IfOk, string_bytes};
-ghost use Rattle.dutch_bracket.specs.QualityIn.{quality_in};
+ghost use Rattle.dutch_bracket.specs.Prelude.{quality_in};
 ghost use Rattle.round_lines.specs.ValueTexts.{against_text, candidate_text, next_text, points_text, value_text};
 
 use crate::item_texts::{article, put_points};

@@ -3,12 +3,10 @@ use Rattle.std.proofs.Common.{◌≡◌, ℕ, ◌+◌, List, [], ◌∷◌, ◌+
 use Rattle.std.specs.Prelude.{All}
 use Rattle.std.proofs.lemmas.List.Elements.{All-map}
 use Rattle.std.proofs.lemmas.List.Sorted.{All-permutation}
-use Rattle.trf16.specs.Sheet.{Sheet}
+use Rattle.trf16.specs.Prelude.{Sheet}
 use Rattle.tiebreak.specs.declared.key.Key.{Key}
-use Rattle.tiebreak.specs.Keys.{RowFacts, value_of}
-use Rattle.tiebreak.specs.Standings.{goes_before, ranked, row_of, with_value, with_key, with_keys, judged, standings_of}
+use Rattle.tiebreak.specs.Prelude.{RowFacts, value_of, goes_before, ranked, row_of, with_value, with_key, with_keys, judged, standings_of, HasEachKey}
 use Rattle.trf16.proofs.RankLemmas.{ranked_moves}
-use Rattle.tiebreak.specs.Laws.{HasEachKey}
 use Rattle.tiebreak.proofs.RowLemmas.{rows-given}
 
 -- each row has so many values

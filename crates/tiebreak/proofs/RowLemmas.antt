@@ -2,14 +2,12 @@
 use Rattle.std.proofs.Common.{◌≡◌, ℕ, List, [], ◌∷◌, map, Option, Result, Ok, Err, refl, ap, ◌∙◌, subst}
 use Rattle.std.specs.Prelude.{IsPermutation}
 use Rattle.std.proofs.lemmas.List.Sorted.{IsPermutation-map}
-use Rattle.trf16.specs.Sheet.{Entry, Sheet}
+use Rattle.trf16.specs.Prelude.{Entry, Sheet}
 use Rattle.tiebreak.specs.declared.key.Key.{Key}
 use Rattle.tiebreak.specs.declared.fault.TieFault.{TieFault}
-use Rattle.tiebreak.specs.Keys.{RowFacts, value_of}
+use Rattle.tiebreak.specs.Prelude.{RowFacts, value_of, goes_before, ranked, row_of, with_value, with_key, with_keys, judged, standings_of, HasEachOnce}
 use Rattle.trf16.proofs.RankLemmas.{ranked_moves}
 use Rattle.trf16.specs.Outcomes.{◌>>=◌}
-use Rattle.tiebreak.specs.Standings.{goes_before, ranked, row_of, with_value, with_key, with_keys, judged, standings_of}
-use Rattle.tiebreak.specs.Laws.{HasEachOnce}
 
 abbrev starts : List RowFacts → List ℕ
 starts rows = map (λ row. row.start) rows

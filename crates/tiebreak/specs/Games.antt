@@ -3,7 +3,7 @@ use Rattle.std.specs.Prelude.{ℕ, ◌+◌, ◌-◌, Bool, false, ◌==◌, List
 use Rattle.std.specs.List.{list_any, range_with_len}
 use Rattle.trf16.specs.declared.cell.Cell.{Cell}
 use Rattle.trf16.specs.declared.cell.Cell.TheVariants.{Game}
-use Rattle.trf16.specs.Sheet.{Sheet, rounds_played, points_upto, cell_in, half_points}
+use Rattle.trf16.specs.Prelude.{Sheet, rounds_played, points_upto, cell_in, half_points}
 
 -- the rounds that were paired, from 1 to the last
 abbrev pub rounds_of : Sheet → List ℕ

@@ -5,7 +5,7 @@ use Rattle.std.specs.Option.{option_eq}
 use Rattle.std.specs.Cmp.Lexicographic.{pointwise}
 use Rattle.trf16.specs.declared.cell.Cell.{Cell}
 use Rattle.trf16.specs.declared.cell.Cell.TheVariants.{Game}
-use Rattle.trf16.specs.Sheet.{Sheet, cell_in, game_points, half_points}
+use Rattle.trf16.specs.Prelude.{Sheet, cell_in, game_points, half_points}
 use Rattle.tiebreak.specs.declared.key.Key.{Key}
 use Rattle.tiebreak.specs.declared.key.Key.TheVariants.{Direct, Buchholz, SonnebornBerger}
 use Rattle.tiebreak.specs.Games.{rounds_of, have_met, opponent_score}

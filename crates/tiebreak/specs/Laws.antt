@@ -1,6 +1,6 @@
 -- What holds of all standings.
 use Rattle.std.specs.Prelude.{◌≡◌, List, length, map, Ok, All, IsPermutation}
-use Rattle.trf16.specs.Sheet.{Sheet}
+use Rattle.trf16.specs.Prelude.{Sheet}
 use Rattle.tiebreak.specs.declared.key.Key.{Key}
 use Rattle.tiebreak.specs.Keys.{RowFacts}
 use Rattle.tiebreak.specs.Standings.{standings_of}

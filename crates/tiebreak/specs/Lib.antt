@@ -4,3 +4,4 @@ pub mod Keys
 pub mod Outcomes
 pub mod Standings
 pub mod Laws
+pub mod Prelude

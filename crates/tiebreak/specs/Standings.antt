@@ -5,11 +5,8 @@ use Rattle.std.specs.Cmp.Lexicographic.{slice_cmp}
 use Rattle.std.specs.declared.cmp.Ordering.{Ordering}
 use Rattle.std.specs.Ordering.{nat_cmp, ordering_then, is_lt}
 use Rattle.trf16.specs.declared.kind.LineKind.TheVariants.{Xxs}
-use Rattle.trf16.specs.Sheet.{Entry, Sheet}
+use Rattle.trf16.specs.Prelude.{Entry, Sheet, unfinished, first_of, ranked_by, IsRankedBy}
 use Rattle.trf16.specs.Outcomes.{◌>>=◌}
-use Rattle.trf16.specs.Unfinished.{unfinished}
-use Rattle.trf16.specs.Absence.{first_of}
-use Rattle.trf16.specs.Ranking.{ranked_by, IsRankedBy}
 use Rattle.tiebreak.specs.declared.key.Key.{Key}
 use Rattle.tiebreak.specs.declared.fault.TieFault.{TieFault}
 use Rattle.tiebreak.specs.declared.fault.TieFault.TheVariants.{Unfinished, Unsupported}

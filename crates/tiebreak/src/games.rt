@@ -1,6 +1,6 @@
 // The rounds that were paired, seen from one player: whom they met, and whose score a round counts.
 ghost use Rattle.std.specs.Prelude.{◌≡◌, ◌<◌, ◌≤◌};
-ghost use Rattle.trf16.specs.Sheet.{rounds_played};
+ghost use Rattle.trf16.specs.Prelude.{rounds_played};
 ghost use Rattle.tiebreak.specs.Games.{is_game_with, have_met, virtual_score, opponent_score};
 
 use trf16::{Cell, Report};

@@ -5,18 +5,12 @@ use Rattle.std.specs.List.{list_any}
 use Rattle.std.specs.Option.{option_map_or}
 use Rattle.std.proofs.lemmas.List.{drop_more, drop_all}
 use Rattle.std.proofs.lemmas.Slice.Eq.{bytes_eq-Decides}
-use Rattle.trf16.specs.Lines.{columns, text}
+use Rattle.trf16.specs.Prelude.{columns, text, is_kind, is_word, names_absent, names_both, is_of, first_at, Entry, Sheet, entry_of, all_cells_fit, cell_fits, cells_fit, player_fits, players_fit, is_player, carried_line}
 use Rattle.std.specs.Prelude.{option_copied, option_map}
 use denote.Ref.{Bor}
-use Rattle.trf16.specs.Extensions.{is_kind, is_word, names_absent, names_both}
-use Rattle.trf16.specs.Absence.{is_of, first_at}
 use Rattle.trf16.specs.declared.kind.LineKind.{LineKind}
 use Rattle.trf16.specs.declared.kind.LineKind.TheVariants.{Xxa, Xxs, Rank}
 use Rattle.trf16.specs.declared.player.Player.{Player}
-use Rattle.trf16.specs.Sheet.{Entry, Sheet, entry_of}
-use Rattle.trf16.specs.Summed.{all_cells_fit}
-use Rattle.trf16.specs.Answering.{cell_fits, cells_fit, player_fits, players_fit}
-use Rattle.trf16.specs.Verdict.{is_player, carried_line}
 use Rattle.trf16.specs.declared.cell.Cell.{Cell}
 use Rattle.trf16.specs.declared.cell.Cell.TheVariants.{Blank}
 use Rattle.trf16.specs.declared.fault.Fault.{Fault}

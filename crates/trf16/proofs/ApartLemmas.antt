@@ -3,17 +3,13 @@ use Rattle.std.proofs.Common.{◌≡◌, ℕ, ◌<◌, Bool, true, false, ◌&&�
 use Rattle.std.specs.Prelude.{codes, slice_index_or, vec_len, filter}
 use Rattle.std.specs.List.{list_any}
 use Rattle.std.specs.Option.{option_map_or}
-use Rattle.trf16.specs.Lines.{columns}
-use Rattle.trf16.specs.Extensions.{is_kind, names_both}
-use Rattle.trf16.specs.Absence.{apart, apart_from, some_carried}
-use Rattle.trf16.specs.Sheet.{Entry, Sheet}
-use Rattle.trf16.specs.StartRanks.{starts_of}
+use Rattle.trf16.specs.Prelude.{columns, is_kind, names_both, apart, apart_from, some_carried, Entry, Sheet, starts_of, are_marked, TellsApart}
 use Rattle.std.specs.Prelude.{IfOk, IfSome, Result, Ok, Err, nat_eq}
 use Rattle.std.specs.List.{position}
 use Rattle.std.proofs.lemmas.List.{length-map}
 use Rattle.std.proofs.lemmas.List.Quantifiers.{position-Some}
 use Rattle.std.proofs.lemmas.Bool.{eqb-true, or_parts}
-use Rattle.trf16.specs.Notes.{are_marked, start_at, TellsApart}
+use Rattle.trf16.specs.Notes.{start_at}
 use Rattle.trf16.specs.declared.apart.Apart.{Apart}
 
 -- a mark for each two of one sheet is one of another with the same lines and start ranks

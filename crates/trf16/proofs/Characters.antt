@@ -4,7 +4,7 @@ use Rattle.std.specs.Str.{is_utf8, chars, encode_utf8_all}
 use Rattle.std.specs.Char.{encode_utf8}
 use Rattle.std.proofs.lemmas.Bool.Decides.{nat_tests}
 use Rattle.std.proofs.lemmas.Str.{IsUtf8-from_is_utf8, chars-encodes}
-use Rattle.trf16.specs.Lines.{goes_on, columns}
+use Rattle.trf16.specs.Prelude.{goes_on, columns}
 use Rattle.trf16.proofs.ColumnLemmas.{columns-bytes}
 use Rattle.trf16.proofs.WrittenColumns.{starts, starts-append, columns-append, IsColumn}
 

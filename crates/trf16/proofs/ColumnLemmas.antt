@@ -4,8 +4,7 @@ use Rattle.std.proofs.lemmas.List.{append-nil, length-append, length-drop, drop-
 use Rattle.std.proofs.Math.Seq.{take-add, get_or-append_seam}
 use Rattle.std.proofs.lemmas.Bool.{cases_lt}
 use Rattle.std.proofs.Math.ListN.{get_or-append}
-use Rattle.trf16.specs.Lines.{onto_first, goes_on, columns, joined}
-use Rattle.trf16.specs.Steps.{IsStart, AllStart}
+use Rattle.trf16.specs.Prelude.{onto_first, goes_on, columns, joined, IsStart, AllStart}
 
 pub columns-bytes : (b : ℕ) (rest : List ℕ) → columns false (b ∷ rest) ≡ (b ∷ []) ∷ columns false rest
 columns-bytes b [] = refl

@@ -3,14 +3,11 @@ use Rattle.std.proofs.Common.{◌≡◌, ℕ, Bool, true, false, cond, ◌&&◌,
 use Rattle.std.specs.Char.{to_ascii_lowercase}
 use Rattle.std.proofs.lemmas.Slice.Eq.{bytes_eq-Decides}
 use Rattle.std.proofs.lemmas.Bool.Decides.{nat_tests}
-use Rattle.trf16.specs.Lines.{columns, onto_first, goes_on, text}
-use Rattle.trf16.specs.Extensions.{is_kind, is_word, words_of}
-use Rattle.trf16.specs.Absence.{is_of}
+use Rattle.trf16.specs.Prelude.{columns, onto_first, goes_on, text, is_kind, is_word, words_of, is_of, begins_with_x}
 use Rattle.std.specs.Prelude.{codes}
 use Rattle.std.specs.List.{list_any}
 use Rattle.trf16.specs.declared.kind.LineKind.{LineKind}
 use Rattle.trf16.specs.declared.kind.LineKind.TheVariants.{Xxa, Xxs, Rank}
-use Rattle.trf16.specs.Notes.{begins_with_x}
 
 one_column : (b : ℕ) (t : Bool) (cols : List (List ℕ)) → (w : List ℕ) × (text (cond t (onto_first b cols) ((b ∷ []) ∷ cols)) 1 3 ≡ b ∷ w)
 one_column b true [] = (_, refl)

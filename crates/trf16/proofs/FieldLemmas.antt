@@ -5,7 +5,7 @@ use Rattle.std.proofs.Math.Nat.{pow-le-pow_right}
 use Rattle.std.proofs.lemmas.List.{take_more, drop_more, get_or-drop, length-drop}
 use Rattle.std.proofs.lemmas.Bool.Decides.{eqb_tells}
 use Rattle.std.proofs.lemmas.List.Folds.{list_all-append}
-use Rattle.trf16.specs.Fields.{words, without_last}
+use Rattle.trf16.specs.Prelude.{words, without_last}
 
 pub words-blank : (rest : List ℕ) → words (32 ∷ rest) ≡ words rest
 words-blank [] = refl

@@ -3,8 +3,7 @@ use Rattle.std.proofs.Common.{◌≡◌, ℕ, suc, ◌+◌, ◌<◌, ◌≤◌, 
 use Rattle.std.proofs.lemmas.Grind.{common_steps}
 use Rattle.std.specs.List.{position_or_len}
 use Rattle.std.proofs.lemmas.List.Sums.{position_or_len_is}
-use Rattle.trf16.specs.Lines.{ends_line, onto_first, lines}
-use Rattle.trf16.specs.Steps.{behind_end}
+use Rattle.trf16.specs.Prelude.{ends_line, onto_first, lines, behind_end}
 
 one : (b : ℕ) (ends : Bool) → cond ends ([] ∷ []) ((b ∷ []) ∷ []) ≡ take (cond (not ends) 1 0) (b ∷ []) ∷ lines (behind_end (drop (cond (not ends) 1 0) (b ∷ [])))
 one b true = refl

@@ -2,9 +2,7 @@
 use Rattle.std.proofs.Common.{◌≡◌, ℕ, Bool, true, false, ◌||◌, cond, List, map, refl, subst, Option, Some, Result, Ok, Err}
 use Rattle.std.specs.Prelude.{codes, is_some}
 use Rattle.std.specs.Option.{ok_or}
-use Rattle.trf16.specs.Extensions.{is_kind, words_of, rounds_in, colour_in, are_start_ranks}
-use Rattle.trf16.specs.Sheet.{Entry, Sheet, with_player}
-use Rattle.trf16.specs.Verdict.{player_at, is_player, rounds_onto, colour_onto, start_ranks_onto, player_onto, line_onto}
+use Rattle.trf16.specs.Prelude.{is_kind, words_of, rounds_in, colour_in, are_start_ranks, Entry, Sheet, with_player, player_at, is_player, rounds_onto, colour_onto, start_ranks_onto, player_onto, line_onto}
 use Rattle.trf16.specs.declared.cell.Colour.{Colour}
 use Rattle.trf16.specs.declared.fault.Fault.{Fault}
 use Rattle.trf16.specs.declared.fault.Fault.TheVariants.{BadExtension, Duplicate}

@@ -4,10 +4,7 @@ use Rattle.std.specs.Prelude.{IfSome, ◌==◌, sum_by}
 use Rattle.std.specs.Option.{option_map_or}
 use Rattle.std.proofs.lemmas.Bool.{eqb-true, eqb-false, ltb-true, leb-true, cases_lt, and_parts, or_cases, not-false}
 use Rattle.std.proofs.lemmas.List.{get_or_past}
-use Rattle.trf16.specs.Sheet.{Entry, Sheet, known, cell_in, cells_of, game_points, half_points, opponent_in_cell, colour_in_cell, rounds_played}
-use Rattle.trf16.specs.Answering.{are_opposite, is_forfeit, are_of_one_class, has_other_points, pair_fits, cell_fits, cells_fit, points_fit, player_fits, players_fit}
-use Rattle.trf16.specs.Verdict.{verdict}
-use Rattle.trf16.specs.Meetings.{AnswerEachOther, AreSum, HavePoints}
+use Rattle.trf16.specs.Prelude.{Entry, Sheet, known, cell_in, cells_of, game_points, half_points, opponent_in_cell, colour_in_cell, rounds_played, are_opposite, is_forfeit, are_of_one_class, has_other_points, pair_fits, cell_fits, cells_fit, points_fit, player_fits, players_fit, verdict, AnswerEachOther, AreSum, HavePoints}
 use Rattle.trf16.proofs.StepLemmas.{then_ok}
 use Rattle.trf16.proofs.WrittenReport.{accepted}
 use Rattle.trf16.specs.declared.cell.Cell.{Cell}

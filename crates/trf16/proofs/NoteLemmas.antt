@@ -5,16 +5,10 @@ use Rattle.std.proofs.lemmas.Bool.{le-ltb, ltb-false}
 use Rattle.std.specs.Prelude.{codes}
 use Rattle.std.specs.List.{list_any}
 use Rattle.std.specs.Option.{option_map_or, option_or}
-use Rattle.trf16.specs.Lines.{columns}
-use Rattle.trf16.specs.Extensions.{is_kind, names_absent}
-use Rattle.trf16.specs.Answering.{has_other_points}
+use Rattle.trf16.specs.Prelude.{columns, is_kind, names_absent, has_other_points, is_of, first_at, first_of, carried_line, without_players, Sheet, is_marked, first_noted, noted_first, earlier, Tells}
 use Rattle.std.proofs.lemmas.Bool.Decides.{nat_tests}
 use Rattle.std.proofs.Math.Bool.{or-false, or_assoc}
 use Rattle.trf16.specs.declared.kind.LineKind.TheVariants.{Xxs}
-use Rattle.trf16.specs.Absence.{is_of, first_at, first_of}
-use Rattle.trf16.specs.Verdict.{carried_line, without_players}
-use Rattle.trf16.specs.Sheet.{Sheet}
-use Rattle.trf16.specs.Notes.{is_marked, first_noted, noted_first, earlier, Tells}
 use Rattle.trf16.specs.declared.kind.LineKind.{LineKind}
 use Rattle.trf16.specs.declared.notes.Notes.{Notes}
 use Rattle.trf16.proofs.AnsweringLemmas.{some_of, some_of-cons, not_of_kind, not_of_kinds, not_absent, first_at-cons}

@@ -4,8 +4,7 @@ use Rattle.std.specs.Io.KnownBytes.{Appends, Keeps}
 use Rattle.std.proofs.KnownBytes.{Appends-trans, Appends-nil}
 use Rattle.std.proofs.Math.Seq.{take-add}
 use Rattle.std.proofs.lemmas.List.{take_rest, append-nil, length-append, length-drop}
-use Rattle.trf16.specs.Devices.{CountsOne}
-use Rattle.trf16.specs.Output.{Use, HasText, HasPart, Puts}
+use Rattle.trf16.specs.Prelude.{CountsOne, Use, HasText, HasPart, Puts}
 
 -- a sink before and after, member by member
 abbrev pub used : Option (List ℕ) → Option (List ℕ) → ℕ → ℕ → Use

@@ -12,12 +12,7 @@ use Rattle.std.proofs.lemmas.Bool.{and_parts, and_from, eqb-true, eqb-false, ne_
 use Rattle.std.proofs.lemmas.List.{get_or_past}
 use Rattle.std.proofs.lemmas.List.Elements.{recursion_from_All}
 use Rattle.std.proofs.lemmas.Map.Keys.{IsDistinct-head, IsDistinct-tail}
-use Rattle.trf16.specs.Fields.{without_last}
-use Rattle.trf16.specs.Sheet.{Entry, Sheet, known, cell_in, cells_of, is_paired, last_paired, last_paired_of, rounds_played, half_points, opponent_in_cell}
-use Rattle.trf16.specs.Answering.{has_other_points, pair_fits, cell_fits, cells_fit, points_fit, player_fits, players_fit}
-use Rattle.trf16.specs.Verdict.{is_blank_cell, verdict}
-use Rattle.trf16.specs.Written.{written}
-use Rattle.trf16.specs.Round.{CanBePaired, named_by, cell_by, with_cell, cells_with, entry_with, with_round}
+use Rattle.trf16.specs.Prelude.{without_last, Entry, Sheet, known, cell_in, cells_of, is_paired, last_paired, last_paired_of, rounds_played, half_points, opponent_in_cell, has_other_points, pair_fits, cell_fits, cells_fit, points_fit, player_fits, players_fit, is_blank_cell, verdict, written, CanBePaired, named_by, cell_by, with_cell, cells_with, entry_with, with_round}
 use Rattle.trf16.specs.declared.cell.Colour.TheVariants.{White, Black}
 use Rattle.trf16.specs.declared.cell.Bye.TheVariants.{Allocated}
 use Rattle.trf16.specs.declared.cell.Cell.{Cell}

@@ -9,8 +9,7 @@ use Rattle.std.specs.Prelude.{option_map}
 use Rattle.std.proofs.lemmas.List.{map-append, take_more, length-take-le}
 use Rattle.trf16.specs.declared.player.Player.{Player}
 use Rattle.trf16.specs.declared.cell.Cell.{Cell}
-use Rattle.trf16.specs.Names.{player_of}
-use Rattle.trf16.specs.Sheet.{Entry, entry_of, cells_of, is_paired, last_paired}
+use Rattle.trf16.specs.Prelude.{player_of, Entry, entry_of, cells_of, is_paired, last_paired}
 
 eq-sym : (a b : ℕ) → nat_eq a b ≡ nat_eq b a
 eq-sym a b = grind (arith, nat_tests)

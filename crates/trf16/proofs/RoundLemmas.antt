@@ -7,9 +7,7 @@ use Rattle.std.proofs.lemmas.Map.Keys.{IsDistinct-head, IsDistinct-tail}
 use Rattle.std.proofs.lemmas.Map.Made.{is_some-lookup}
 use Rattle.indexmap.specs.IndexMap.{IndexMap, insert_entry}
 use Rattle.indexmap.proofs.CallerLemmas.{insert_entry-new}
-use Rattle.trf16.specs.Sheet.{Entry, entry_of}
-use Rattle.trf16.specs.StartRanks.{starts_of}
-use Rattle.trf16.specs.Round.{with_cell}
+use Rattle.trf16.specs.Prelude.{Entry, entry_of, starts_of, with_cell}
 use Rattle.trf16.specs.declared.player.Player.{Player}
 use Rattle.trf16.specs.declared.cell.Cell.{Cell}
 use Rattle.trf16.specs.declared.cell.Cell.TheVariants.{Blank}

@@ -7,10 +7,7 @@ use Rattle.std.specs.Str.{is_utf8}
 use Rattle.std.proofs.lemmas.Bool.{or_parts, eqb-false, cases_Bool}
 use Rattle.std.proofs.lemmas.Bool.Decides.{nat_tests}
 use Rattle.std.proofs.lemmas.List.Elements.{All-from_recursion}
-use Rattle.trf16.specs.Lines.{columns, lines, without_marks}
-use Rattle.trf16.specs.Sheet.{Entry, Sheet, with_player}
-use Rattle.trf16.specs.StartRanks.{starts_of, HasOwnStarts}
-use Rattle.trf16.specs.Verdict.{is_player, line_onto, lines_onto, without_players, has_too_many_rounds, verdict}
+use Rattle.trf16.specs.Prelude.{columns, lines, without_marks, Entry, Sheet, with_player, starts_of, HasOwnStarts, is_player, line_onto, lines_onto, without_players, has_too_many_rounds, verdict}
 use Rattle.trf16.proofs.StepLemmas.{same_ok}
 use Rattle.trf16.proofs.WrittenReport.{are_all_sound, were_sound, accepted, sized_is, first_onto}
 use Rattle.trf16.proofs.LineSteps.{line_keeps, line_adds}

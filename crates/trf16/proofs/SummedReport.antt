@@ -7,12 +7,8 @@ use Rattle.std.proofs.Common.{◌≡◌, ◌⊎◌, inl, inr, ℕ, ◌+◌, ◌�
 use Rattle.std.specs.Prelude.{sum_by}
 use Rattle.std.specs.List.{list_any}
 use Rattle.std.specs.Option.{option_map_or}
-use Rattle.trf16.specs.Sheet.{Entry, Sheet, known, cell_at, cell_in, cells_of, half_points, last_paired, last_paired_of, rounds_played}
-use Rattle.trf16.specs.Answering.{has_other_points, cells_fit, points_fit, player_fits, players_fit}
+use Rattle.trf16.specs.Prelude.{Entry, Sheet, known, cell_at, cell_in, cells_of, half_points, last_paired, last_paired_of, rounds_played, has_other_points, cells_fit, points_fit, player_fits, players_fit, IsButForPoints, all_cells_fit, entry_summed, summed, verdict_unsummed, laid_out, verdict, written}
 use Rattle.trf16.specs.Outcomes.{◌>>=◌}
-use Rattle.trf16.specs.Summed.{IsButForPoints, all_cells_fit, entry_summed, summed, verdict_unsummed}
-use Rattle.trf16.specs.Verdict.{laid_out, verdict}
-use Rattle.trf16.specs.Written.{written}
 use Rattle.trf16.specs.declared.cell.Cell.{Cell}
 use Rattle.trf16.specs.declared.fault.Fault.{Fault}
 use Rattle.trf16.specs.declared.fault.Fault.TheVariants.{Points}

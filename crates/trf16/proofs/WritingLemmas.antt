@@ -3,11 +3,7 @@ use Rattle.std.proofs.Common.{◌≡◌, ℕ, ◌+◌, ◌-◌, ◌/◌, ◌%◌
 use Rattle.std.specs.Prelude.{decimal}
 use Rattle.std.specs.List.{flat_map}
 use Rattle.std.proofs.lemmas.List.{length-append}
-use Rattle.trf16.specs.Lines.{lines}
-use Rattle.trf16.specs.Verdict.{carried_line}
-use Rattle.trf16.specs.Sheet.{Entry}
-use Rattle.trf16.specs.Steps.{next_text, players_behind}
-use Rattle.trf16.specs.Written.{right_in_four, left_in, points_text, points_field, round_text, player_text, lines_text}
+use Rattle.trf16.specs.Prelude.{lines, carried_line, Entry, next_text, players_behind, right_in_four, left_in, points_text, points_field, round_text, player_text, lines_text}
 
 -- how many blanks stand in front of points
 pub points_room : (points : ℕ) (whole : List ℕ) (n : ℕ) → whole ≡ decimal (points / 2) → n ≡ 4 - (length whole + 2) → n ≡ 4 - length (points_text points)

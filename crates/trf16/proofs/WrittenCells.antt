@@ -8,11 +8,7 @@ use Rattle.std.specs.Char.{is_ascii, is_ascii_digit, to_ascii_uppercase}
 use Rattle.std.proofs.lemmas.Bool.{and_parts, and_from, ltb-true, ne_eqb}
 use Rattle.std.proofs.lemmas.Bool.Decides.{nat_tests}
 use Rattle.std.proofs.lemmas.List.{length-append, length-replicate, drop-drop}
-use Rattle.trf16.specs.Lines.{joined, text}
-use Rattle.trf16.specs.Fields.{words}
-use Rattle.trf16.specs.Cells.{cell_from, cell_of, opponent_in}
-use Rattle.trf16.specs.Sheet.{opponent_in_cell}
-use Rattle.trf16.specs.Written.{blanks, right_in_four, colour_letter, meeting_text, cell_text}
+use Rattle.trf16.specs.Prelude.{joined, text, words, cell_from, cell_of, opponent_in, opponent_in_cell, blanks, right_in_four, colour_letter, meeting_text, cell_text}
 use Rattle.trf16.specs.declared.cell.Colour.{Colour}
 use Rattle.trf16.specs.declared.cell.Colour.TheVariants.{White, Black}
 use Rattle.trf16.specs.declared.cell.Bye.{Bye as ByeKind}

@@ -6,7 +6,7 @@ use Rattle.std.specs.Char.{is_ascii}
 use Rattle.std.proofs.lemmas.Bool.{and_parts, and_from, true≢false}
 use Rattle.std.proofs.lemmas.Bool.Decides.{nat_tests}
 use Rattle.std.proofs.lemmas.List.{take_at, drop_at}
-use Rattle.trf16.specs.Lines.{onto_first, goes_on, columns, joined}
+use Rattle.trf16.specs.Prelude.{onto_first, goes_on, columns, joined}
 
 -- a column begins in front of this text, or nothing stands there
 abbrev pub starts : Bool → List ℕ → Bool

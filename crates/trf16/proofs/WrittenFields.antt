@@ -9,9 +9,7 @@ use Rattle.std.proofs.lemmas.List.{length-append, length-replicate, length-take,
 use Rattle.std.proofs.lemmas.Option.{none-some}
 use Rattle.std.proofs.lemmas.List.Folds.{list_all-append as all-append}
 use Rattle.std.proofs.Math.Bool.{and-true}
-use Rattle.trf16.specs.Lines.{columns, joined, is_blank}
-use Rattle.trf16.specs.Fields.{words, number_in, half_after, points_after, points_of, points_in, without_last, trimmed}
-use Rattle.trf16.specs.Written.{blanks, left_in, points_field}
+use Rattle.trf16.specs.Prelude.{columns, joined, is_blank, words, number_in, half_after, points_after, points_of, points_in, without_last, trimmed, blanks, left_in, points_field}
 use Rattle.trf16.proofs.ColumnLemmas.{joined-columns, joined-append}
 use Rattle.trf16.proofs.WrittenNumbers.{points_are}
 use Rattle.trf16.proofs.WrittenColumns.{is_plain, each, length-each, starts, starts-append, starts-ascii, starts-joined, columns-append, columns-ascii, columns-joined, columns-fewer, AreColumns, AreColumns-drop, AreColumns-take, columns-are, ascii-plain}

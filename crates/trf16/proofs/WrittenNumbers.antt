@@ -7,8 +7,7 @@ use Rattle.std.proofs.lemmas.Bool.{le-leb, cases_lt, and_parts, eqb-true, trueâ‰
 use Rattle.std.proofs.lemmas.Bool.Decides.{nat_tests}
 use Rattle.std.proofs.lemmas.Str.Parse.{IsNumeralModel, numerals_by_fold, digits_value_short}
 use Rattle.std.proofs.lemmas.Fmt.{digits_decimal, digits_value-decimal, length-decimal-le, decimal_nonempty}
-use Rattle.trf16.specs.Fields.{words, number_after, number_of, number_in, points_in}
-use Rattle.trf16.specs.Written.{blanks, right_in_four, points_text}
+use Rattle.trf16.specs.Prelude.{words, number_after, number_of, number_in, points_in, blanks, right_in_four, points_text}
 use Rattle.trf16.proofs.WrittenColumns.{is_plain}
 use Rattle.trf16.proofs.FieldLemmas.{words-blank, not_blank}
 

@@ -10,13 +10,8 @@ use Rattle.std.proofs.lemmas.Bool.{and_parts, true≢false}
 use Rattle.std.proofs.lemmas.List.{append-nil, length-append, drop-drop, drop_at, drop_all}
 use Rattle.std.proofs.lemmas.Slice.Eq.{bytes_eq-Decides}
 use Rattle.std.proofs.Math.Bool.{and-true}
-use Rattle.trf16.specs.Lines.{columns, joined, text, is_blank}
-use Rattle.trf16.specs.Fields.{words, number_in, points_in, without_last, trimmed}
-use Rattle.trf16.specs.Cells.{cell_from}
-use Rattle.trf16.specs.Sheet.{Entry, Sheet, known}
+use Rattle.trf16.specs.Prelude.{columns, joined, text, is_blank, words, number_in, points_in, without_last, trimmed, cell_from, Entry, Sheet, known, blank_at, blanks_at, start_number_at, start_at, points_at, rounds_at, is_blank_cell, cells_at, player_at, is_player, is_too_long, right_in_four, left_in, points_field, cell_text, round_text, player_text}
 use Rattle.trf16.specs.Outcomes.{◌>>=◌}
-use Rattle.trf16.specs.Verdict.{blank_at, blanks_at, start_number_at, start_at, points_at, rounds_at, is_blank_cell, cells_at, player_at, is_player, is_too_long}
-use Rattle.trf16.specs.Written.{right_in_four, left_in, points_field, cell_text, round_text, player_text}
 use Rattle.trf16.specs.declared.cell.Cell.{Cell}
 use Rattle.trf16.specs.declared.cell.Cell.TheVariants.{Blank}
 use Rattle.trf16.specs.declared.fault.Fault.{Fault}

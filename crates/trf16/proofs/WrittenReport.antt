@@ -16,12 +16,8 @@ use Rattle.std.specs.Str.{is_utf8}
 use Rattle.std.proofs.lemmas.Bool.{and_parts, or_parts, or_cases, eqb-true, ltb-true, le-ltb}
 use Rattle.std.proofs.lemmas.List.{append-nil, map-append, map-id, length-map}
 use Rattle.std.proofs.lemmas.List.Sums.{sum_by-cons, sum_by-take-le}
-use Rattle.trf16.specs.Lines.{columns, lines, without_marks}
-use Rattle.trf16.specs.Sheet.{Entry, Sheet, with_player, known, half_points, rounds_played}
+use Rattle.trf16.specs.Prelude.{columns, lines, without_marks, Entry, Sheet, with_player, known, half_points, rounds_played, cells_fit, points_fit, player_fits, players_fit, has_other_points, player_at, is_player, is_too_long, player_onto, line_onto, lines_onto, carried_line, without_players, has_too_many_rounds, names_too_many_rounds, sized, laid_out, verdict, player_text, lines_text, written}
 use Rattle.trf16.specs.Outcomes.{◌>>=◌}
-use Rattle.trf16.specs.Answering.{cells_fit, points_fit, player_fits, players_fit, has_other_points}
-use Rattle.trf16.specs.Verdict.{player_at, is_player, is_too_long, player_onto, line_onto, lines_onto, carried_line, without_players, has_too_many_rounds, names_too_many_rounds, sized, laid_out, verdict}
-use Rattle.trf16.specs.Written.{player_text, lines_text, written}
 use Rattle.trf16.specs.declared.cell.Bye.TheVariants.{Half, Full, Allocated, Zero}
 use Rattle.trf16.specs.declared.cell.GameOutcome.TheVariants.{Win, Draw, Loss}
 use Rattle.trf16.specs.declared.cell.Cell.{Cell}

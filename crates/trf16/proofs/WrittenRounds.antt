@@ -7,13 +7,8 @@ use Rattle.std.specs.Char.{is_ascii, is_ascii_digit, to_ascii_uppercase}
 use Rattle.std.proofs.lemmas.Bool.{and_parts, and_from, lt-ltb, ltb-false, leb-true, ne_eqb, eqb-true}
 use Rattle.std.proofs.lemmas.Bool.Decides.{nat_tests, eqb_tells}
 use Rattle.std.proofs.lemmas.List.{drop-drop, take-append-drop, map-append}
-use Rattle.trf16.specs.Lines.{joined, text, is_blank, onto_first}
-use Rattle.trf16.specs.Fields.{words, number_of, number_after, is_number}
-use Rattle.trf16.specs.Cells.{cell_from, cell_of, opponent_in, opponent_of, mark_in, bye_cell, game_cell, forfeit_cell, outcome_of, colour_of, is_no_colour}
-use Rattle.trf16.specs.Sheet.{opponent_in_cell}
+use Rattle.trf16.specs.Prelude.{joined, text, is_blank, onto_first, words, number_of, number_after, is_number, cell_from, cell_of, opponent_in, opponent_of, mark_in, bye_cell, game_cell, forfeit_cell, outcome_of, colour_of, is_no_colour, opponent_in_cell, blank_at, blanks_at, round_at, rounds_at, cell_text, round_text}
 use Rattle.trf16.specs.Outcomes.{◌>>=◌}
-use Rattle.trf16.specs.Verdict.{blank_at, blanks_at, round_at, rounds_at}
-use Rattle.trf16.specs.Written.{cell_text, round_text}
 use Rattle.trf16.specs.declared.cell.Colour.{Colour}
 use Rattle.trf16.specs.declared.cell.GameOutcome.{GameOutcome}
 use Rattle.trf16.specs.declared.cell.Cell.{Cell}

@@ -22,3 +22,4 @@ pub mod Points
 pub mod Names
 pub mod Summed
 pub mod Ranking
+pub mod Prelude

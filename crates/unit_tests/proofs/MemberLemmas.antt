@@ -2,8 +2,7 @@
 use Rattle.std.proofs.Common.{◌≡◌, ℕ, zero, suc, ◌+◌, ◌<◌, ◌≤◌, Bool, true, List, [], ◌∷◌, sym, ◌∙◌, ap, arith, inl, inr}
 use Rattle.std.specs.List.{list_any, list_all}
 use Rattle.std.proofs.lemmas.Bool.{or_cases, and_parts, cases_eq, true≢false}
-use Rattle.dutch_order.specs.Choices.{is_same, numbers_from}
-use Rattle.dutch_order.specs.Keys.{IsIn}
+use Rattle.dutch_order.specs.Prelude.{is_same, numbers_from, IsIn}
 use Rattle.dutch_order.proofs.FromOn.{is_same-true}
 
 -- a choice that is the same as one of a list is in it

@@ -1,6 +1,6 @@
 // The listings of small brackets, under limits that rise by one and from every cursor.
 ghost use Rattle.std.specs.Prelude.{◌≡◌, ◌≤◌};
-ghost use Rattle.dutch_order.specs.Arrangements.{Fits};
+ghost use Rattle.dutch_order.specs.Prelude.{Fits};
 
 use crate::barred::{AMPLE, Barred, FREE, raised};
 use dutch_order::{
@@ -298,7 +298,7 @@ impl<'a> Bound for ByDifference<'a> {
     type Room = ();
 
     ghost use Rattle.std.specs.Prelude.{◌==◌};
-    ghost use Rattle.dutch_order.specs.Exchange.{sum_of};
+    ghost use Rattle.dutch_order.specs.Prelude.{sum_of};
 
     ghost frame = { λ b. b.bracket.now };
 

@@ -1,7 +1,7 @@
 // Each call over a small report, whose answers follow from TRF16's columns by hand.
 use std::test::Fail;
 use trf16::{
-    Bye, Cell, Colour, Excess, Fault, LineKind, GameOutcome, Report, cell_at, column_count, front,
+    Bye, Cell, Colour, Excess, Fault, GameOutcome, LineKind, Report, cell_at, column_count, front,
     read, read_with,
 };
 

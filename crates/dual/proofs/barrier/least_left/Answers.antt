@@ -1,7 +1,7 @@
 -- A barrier leaves over what is odd beyond its blockers.
 use Rattle.std.proofs.Common.{rules, arith}
 use Rattle.std.specs.Prelude.{slice_index}
-use Rattle.dual.specs.Barriers.{IsBarrier}
+use Rattle.dual.specs.Prelude.{IsBarrier}
 use Rattle.dual.proofs.Barriers.{left_over}
 use Rattle.dual.proofs.barrier.least_left.Goals as goal
 

@@ -1,7 +1,7 @@
 -- The barrier is too narrow.
 use Rattle.std.proofs.Common.{rules}
 use Rattle.std.specs.Prelude.{slice_index}
-use Rattle.dual.specs.Barriers.{IsTooNarrow}
+use Rattle.dual.specs.Prelude.{IsTooNarrow}
 use Rattle.dual.proofs.Barriers.{not_completable}
 use Rattle.dual.proofs.barrier.tells_incompletable.Goals as goal
 

@@ -1,6 +1,6 @@
 -- It is a witness.
 use Rattle.std.proofs.Common.{rules}
-use Rattle.dual.specs.Matchings.{IsWitness}
+use Rattle.dual.specs.Prelude.{IsWitness}
 use Rattle.dual.proofs.Witnesses.{completable}
 use Rattle.dual.proofs.witness.tells_completable.Goals as goal
 

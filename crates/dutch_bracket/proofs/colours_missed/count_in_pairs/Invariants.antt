@@ -1,6 +1,6 @@
 -- The count so far and that of the pairs to come make the whole count, which a `u16` holds.
 use Rattle.std.proofs.Common.{◌≡◌, ◌+◌, ◌*◌, ◌≤◌, drop}
-use Rattle.dutch_bracket.specs.Quality.{misses, count_in_pairs}
+use Rattle.dutch_bracket.specs.Prelude.{misses, count_in_pairs}
 use Rattle.dutch_bracket.proofs.colours_missed.count_in_pairs.Given as goal
 
 abbrev pub invariant-loop-pair : goal.invariant-loop-pair

@@ -3,8 +3,7 @@ use Rattle.std.proofs.Common.{◌≡◌, ◌∙◌, ℕ, ◌-◌, ◌+◌, ◌&&
 use Rattle.std.specs.Prelude.{if◌then◌else◌}
 use Rattle.std.proofs.lemmas.Bool.{not-true}
 use Rattle.dutch_bracket.specs.declared.completion.Answer.TheVariants.{No}
-use Rattle.dutch_bracket.specs.Completion.{most_of_bye, most_of_one, most_taking}
-use Rattle.dutch_bracket.specs.CompletionSearch.{Searched, can_go, left_over, meets_one, takes_one}
+use Rattle.dutch_bracket.specs.Prelude.{most_of_bye, most_of_one, most_taking, Searched, can_go, left_over, meets_one, takes_one}
 use Rattle.dutch_bracket.proofs.PairSearch.{after_no, all_fail, brought_to, by_pair, by_spare, either, no_step, odd_unpaired, one_more_fails, one_serves, partner_fails, spared, sparing, trials, tried}
 use Rattle.dutch_bracket.proofs.Turned.{turned-more}
 use Rattle.dutch_bracket.proofs.completion.+search.Goals as goal

@@ -1,8 +1,7 @@
 -- No partner tried so far leaves players who can be paired out, and each trial took its steps.
 use Rattle.std.proofs.Common.{◌≡◌, ◌+◌, ◌*◌, ◌-◌, false, take, drop, length, []}
 use Rattle.dutch_bracket.specs.declared.completion.Answer.TheVariants.{No}
-use Rattle.dutch_bracket.specs.Completion.{most_taking}
-use Rattle.dutch_bracket.specs.CompletionSearch.{Searched, can_go, some_partner}
+use Rattle.dutch_bracket.specs.Prelude.{most_taking, Searched, can_go, some_partner}
 use Rattle.dutch_bracket.proofs.Turned.{turned}
 use Rattle.dutch_bracket.proofs.completion.+search.Given as goal
 

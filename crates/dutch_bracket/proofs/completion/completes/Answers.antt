@@ -1,6 +1,7 @@
 -- The list in which the search works holds the players, and what it tells is the answer about a list of pairs.
 use Rattle.std.proofs.Common.{◌≡◌, ◌∙◌, ◌++◌, ℕ, List, [], true, length, ap, subst}
-use Rattle.dutch_bracket.specs.Completion.{Completable, most, IsStopped, MatchAnswer, SpendsAtMost, Takes}
+use Rattle.dutch_bracket.specs.Prelude.{most, IsStopped, MatchAnswer, SpendsAtMost, Takes}
+use Rattle.dutch_bracket.specs.Completion.{Completable}
 use Rattle.dutch_bracket.proofs.Covering.{answer_by_search}
 use Rattle.dutch_bracket.proofs.completion.completes.Goals as goal
 

@@ -1,6 +1,6 @@
 -- Those that were looked at have the score.
 use Rattle.std.proofs.Common.{◌≡◌, ℕ, ◌<◌, slice_index}
-use Rattle.dutch_bracket.specs.Seated.{score_at}
+use Rattle.dutch_bracket.specs.Prelude.{score_at}
 use Rattle.dutch_bracket.proofs.conditions.have_score.Given as goal
 
 abbrev pub invariant-loop-seat : goal.invariant-loop-seat

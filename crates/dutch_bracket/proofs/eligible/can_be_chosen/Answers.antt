@@ -1,7 +1,6 @@
 -- In the penultimate bracket the answer is that about those left over and all lower players.
 use Rattle.std.proofs.Common.{◌≡◌, ap, ◌∙◌}
-use Rattle.dutch_bracket.specs.Reached.{Reached}
-use Rattle.dutch_bracket.specs.Brackets.{is_penultimate}
+use Rattle.dutch_bracket.specs.Prelude.{Reached, is_penultimate}
 use Rattle.dutch_bracket.proofs.TellLemmas.{can_be_chosen_told}
 use Rattle.dutch_bracket.proofs.eligible.can_be_chosen.Goals as goal
 

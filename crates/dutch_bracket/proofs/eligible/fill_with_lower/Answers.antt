@@ -1,7 +1,7 @@
 -- There is room for the lower seats behind those of the numbers.
 use Rattle.std.proofs.Common.{◌++◌, map, ap, ◌∙◌, length, arith}
 use Rattle.std.proofs.lemmas.List.{length-map}
-use Rattle.dutch_bracket.specs.Seated.{seat_of}
+use Rattle.dutch_bracket.specs.Prelude.{seat_of}
 use Rattle.dutch_bracket.proofs.eligible.fill_with_lower.Goals as goal
 
 pub push_all-requires : goal.push_all-requires

@@ -1,7 +1,7 @@
 -- One candidate more that cannot be chosen, one that can, or the end of all candidates.
 use Rattle.std.proofs.Common.{◌≡◌, ap, refl, ◌∙◌, filter}
 use Rattle.dutch_bracket.specs.declared.reached.ByNumber.{ByNumber}
-use Rattle.dutch_bracket.specs.Brackets.{candidates_of}
+use Rattle.dutch_bracket.specs.Prelude.{candidates_of}
 use Rattle.dutch_bracket.specs.Eligible.{can_be_chosen}
 use Rattle.dutch_bracket.proofs.FlatBrackets.{listed_as}
 use Rattle.dutch_bracket.proofs.EligibleLemmas.{eligible_is}

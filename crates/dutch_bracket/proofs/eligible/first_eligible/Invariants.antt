@@ -1,8 +1,8 @@
 -- Those of the candidates to come that can be chosen are all of the shape that can be.
 use Rattle.std.proofs.Common.{◌≡◌, filter, length}
-use Rattle.dutch_bracket.specs.Brackets.{eligible}
-use Rattle.dutch_bracket.specs.Eligible.{Lists, can_be_chosen}
-use Rattle.dutch_order.specs.Steps.{Spends}
+use Rattle.dutch_bracket.specs.Prelude.{eligible, Lists}
+use Rattle.dutch_bracket.specs.Eligible.{can_be_chosen}
+use Rattle.dutch_order.specs.Prelude.{Spends}
 use Rattle.dutch_bracket.proofs.eligible.first_eligible.Given as goal
 
 abbrev pub decreases-loop-left : goal.decreases-loop-left

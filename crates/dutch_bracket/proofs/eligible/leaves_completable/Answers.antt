@@ -1,9 +1,6 @@
 -- The players who are tested are those left over and all lower ones.
 use Rattle.std.proofs.Common.{◌≡◌, ◌++◌, map, ap, ◌∙◌, subst}
-use Rattle.dutch_bracket.specs.Reached.{Reached}
-use Rattle.dutch_bracket.specs.Seated.{seat_of}
-use Rattle.dutch_bracket.specs.Brackets.{completable}
-use Rattle.dutch_bracket.specs.Stops.{Decides}
+use Rattle.dutch_bracket.specs.Prelude.{Reached, seat_of, completable, Decides}
 use Rattle.dutch_bracket.proofs.eligible.leaves_completable.Goals as goal
 
 pub returns-clause-answer : goal.returns-clause-answer

@@ -1,8 +1,7 @@
 -- The answer about a list of pairs is what the test of the seats tells.
 use Rattle.std.proofs.Common.{◌≡◌, length, true, subst}
-use Rattle.dutch_bracket.specs.Completion.{Completable, MatchAnswer, IsStopped, most}
-use Rattle.dutch_bracket.specs.Seats.{seats_meet, seats_may_be_left}
-use Rattle.dutch_bracket.specs.Brackets.{completable}
+use Rattle.dutch_bracket.specs.Prelude.{MatchAnswer, IsStopped, most, seats_meet, seats_may_be_left, completable}
+use Rattle.dutch_bracket.specs.Completion.{Completable}
 use Rattle.dutch_bracket.proofs.TellLemmas.{told}
 use Rattle.dutch_bracket.proofs.eligible.told_by_search.Goals as goal
 

@@ -1,8 +1,7 @@
 -- The differences put so far, and those of the downfloaters to come, make them all.
 use Rattle.std.proofs.Common.{◌≡◌, ◌+◌, ◌≤◌, ℕ, List, drop, map}
 use Rattle.arrayvec.specs.ArrayVec.{array_vec_len}
-use Rattle.dutch_bracket.specs.Quality.{again, placed_all}
-use Rattle.dutch_bracket.specs.Seated.{floats_down}
+use Rattle.dutch_bracket.specs.Prelude.{again, placed_all, floats_down}
 use Rattle.dutch_bracket.proofs.floats.put_down.Given as goal
 
 abbrev pub invariant-loop-seat : goal.invariant-loop-seat

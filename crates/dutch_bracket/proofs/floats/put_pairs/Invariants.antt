@@ -1,8 +1,7 @@
 -- The differences put so far, and those of the pairs to come, make them all.
 use Rattle.std.proofs.Common.{◌≡◌, ◌+◌, ◌≤◌, drop, map, filter}
 use Rattle.arrayvec.specs.ArrayVec.{array_vec_len}
-use Rattle.dutch_bracket.specs.Quality.{again, placed_all}
-use Rattle.dutch_bracket.specs.Seated.{goes, is_uneven}
+use Rattle.dutch_bracket.specs.Prelude.{again, placed_all, goes, is_uneven}
 use Rattle.dutch_bracket.proofs.floats.put_pairs.Given as goal
 
 abbrev pub invariant-loop-pair : goal.invariant-loop-pair

@@ -1,7 +1,7 @@
 -- A number of pairs that has no arrangement that counts is passed, and the first that has one gives the shape.
 use Rattle.std.proofs.Common.{◌∙◌, arith}
 use Rattle.std.proofs.lemmas.Option.{MatchOption-at_some, MatchOption-at_none}
-use Rattle.dutch_bracket.specs.Shapes.{fits}
+use Rattle.dutch_bracket.specs.Prelude.{fits}
 use Rattle.dutch_bracket.proofs.ShapeSearch.{pairs_taken, pairs_passed}
 use Rattle.dutch_order.proofs.Spending.{spends-more}
 use Rattle.dutch_bracket.proofs.greatest.greatest_shape.Goals as goal

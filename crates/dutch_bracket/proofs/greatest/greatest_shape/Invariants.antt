@@ -1,9 +1,9 @@
 -- No number of pairs passed so far has an arrangement that counts.
 use Rattle.std.proofs.Common.{◌≡◌, ◌≤◌, ◌*◌, length}
 use Rattle.std.specs.Prelude.{flat_map}
-use Rattle.dutch_bracket.specs.Shapes.{down_from, fits, shapes_with, greatest_shape}
+use Rattle.dutch_bracket.specs.Prelude.{down_from, fits, shapes_with, greatest_shape}
 use Rattle.dutch_bracket.proofs.ShapeSearch.{found_in}
-use Rattle.dutch_order.specs.Steps.{Spends}
+use Rattle.dutch_order.specs.Prelude.{Spends}
 use Rattle.dutch_bracket.proofs.greatest.greatest_shape.Given as goal
 
 abbrev pub decreases-loop-shape : goal.decreases-loop-shape

@@ -1,8 +1,8 @@
 -- No shape with more moved-down players has an arrangement that counts.
 use Rattle.std.proofs.Common.{◌≡◌, map}
-use Rattle.dutch_bracket.specs.Shapes.{down_from, fits, shapes_with}
+use Rattle.dutch_bracket.specs.Prelude.{down_from, fits, shapes_with}
 use Rattle.dutch_bracket.proofs.ShapeSearch.{found_in, shape_with}
-use Rattle.dutch_order.specs.Steps.{Spends}
+use Rattle.dutch_order.specs.Prelude.{Spends}
 use Rattle.dutch_bracket.proofs.greatest.shape_with.Given as goal
 
 abbrev pub decreases-loop-shape : goal.decreases-loop-shape

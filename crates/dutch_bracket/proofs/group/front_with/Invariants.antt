@@ -1,6 +1,6 @@
 -- All seats passed so far have the score.
 use Rattle.std.proofs.Common.{◌≡◌, ◌+◌, drop}
-use Rattle.dutch_bracket.specs.Groups.{front_with}
+use Rattle.dutch_bracket.specs.Prelude.{front_with}
 use Rattle.dutch_bracket.proofs.group.front_with.Given as goal
 
 abbrev pub invariant-loop-seat : goal.invariant-loop-seat

@@ -1,7 +1,7 @@
 -- The seats behind the first one are seats too.
 use Rattle.std.proofs.Common.{ℕ, suc, List, ◌∷◌, subst, arith}
-use Rattle.dutch_player.specs.Facts.{Facts}
-use Rattle.dutch_bracket.specs.Seated.{AreSeats}
+use Rattle.dutch_player.specs.Prelude.{Facts}
+use Rattle.dutch_bracket.specs.Prelude.{AreSeats}
 use Rattle.dutch_bracket.proofs.group.split_first_group.Goals as goal
 
 later_inside : (facts : Facts) (x : ℕ) (xs : List ℕ) → AreSeats facts (x ∷ xs) → AreSeats facts xs

@@ -1,11 +1,10 @@
 -- The shape that is told is the greatest of all, so the first legal arrangement of it is drawn.
 use Rattle.std.proofs.Common.{◌≡◌, Bool, true, false, Ok, IfSome, Option, Some, subst}
-use Rattle.dutch_order.specs.Steps.{MatchDrawn}
+use Rattle.dutch_order.specs.Prelude.{MatchDrawn}
 use Rattle.dutch_order.specs.declared.bracket.Shape.{Shape}
 use Rattle.dutch_order.specs.declared.steps.Stopped.{Stopped}
-use Rattle.dutch_player.specs.Facts.{Facts}
-use Rattle.dutch_bracket.specs.Joins.{IsAlwaysShape}
-use Rattle.dutch_bracket.specs.Reached.{Reached}
+use Rattle.dutch_player.specs.Prelude.{Facts}
+use Rattle.dutch_bracket.specs.Prelude.{IsAlwaysShape, Reached}
 use Rattle.dutch_bracket.proofs.AlwaysShapes.{always_fits, always_greatest}
 use Rattle.dutch_bracket.proofs.lookahead.greatest_drawn.Goals as goal
 

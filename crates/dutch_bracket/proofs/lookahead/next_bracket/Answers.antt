@@ -1,7 +1,7 @@
 -- There is room for the downfloaters and the next lower scoregroup.
 use Rattle.std.proofs.Common.{ap, length, arith}
 use Rattle.std.proofs.lemmas.List.{length-map}
-use Rattle.dutch_bracket.specs.Seated.{seat_of}
+use Rattle.dutch_bracket.specs.Prelude.{seat_of}
 use Rattle.dutch_bracket.proofs.NextBrackets.{down_short}
 use Rattle.dutch_bracket.proofs.lookahead.next_bracket.Goals as goal
 

@@ -1,6 +1,6 @@
 -- A candidate of a bracket has numbers of its seats.
 use Rattle.std.proofs.Common.{List, ℕ, sym, subst}
-use Rattle.dutch_bracket.specs.Seated.{IsCandidate}
+use Rattle.dutch_bracket.specs.Prelude.{IsCandidate}
 use Rattle.dutch_bracket.proofs.FlatBrackets.{candidate_of}
 use Rattle.dutch_bracket.proofs.lookahead.quality.Goals as goal
 

@@ -1,7 +1,6 @@
 -- The next bracket is one of the field, and its residents have one score.
 use Rattle.std.proofs.Common.{sym, subst}
-use Rattle.dutch_bracket.specs.Reached.{Reached, IsOf}
-use Rattle.dutch_bracket.specs.NextBracket.{IsFlat}
+use Rattle.dutch_bracket.specs.Prelude.{Reached, IsOf, IsFlat}
 use Rattle.dutch_bracket.proofs.NextBrackets.{next_of, next_flat}
 use Rattle.dutch_bracket.proofs.lookahead.value_below.Goals as goal
 

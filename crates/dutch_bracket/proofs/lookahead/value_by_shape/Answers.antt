@@ -1,10 +1,7 @@
 -- The shape has room in the bracket, and all its arrangements have one PSD.
 use Rattle.std.proofs.Common.{◌≡◌, ℕ, ◌+◌, List, refl, sym, ap, ◌∙◌, subst}
-use Rattle.dutch_order.specs.Choices.{numbers_from}
-use Rattle.dutch_bracket.specs.PsdFloors.{psd_with}
-use Rattle.dutch_bracket.specs.Quality.{NextValue}
-use Rattle.dutch_bracket.specs.Reached.{frame_of}
-use Rattle.dutch_bracket.specs.Seated.{AllNumbers, score_at, seat_of}
+use Rattle.dutch_order.specs.Prelude.{numbers_from}
+use Rattle.dutch_bracket.specs.Prelude.{psd_with, NextValue, frame_of, AllNumbers, score_at, seat_of}
 use Rattle.dutch_bracket.proofs.AlwaysShapes.{always_fits}
 use Rattle.dutch_bracket.proofs.ShapeNumbers.{first_length, first_numbers, has_room, small_mdps, small_pairs}
 use Rattle.dutch_bracket.proofs.UniformShapes.{value_of_uniform}

@@ -2,13 +2,9 @@
 use Rattle.std.proofs.Common.{◌≡◌, ℕ, ◌≤◌, Option, None, MatchOption, sym, ap, ◌∙◌, subst, refl}
 use Rattle.std.specs.Prelude.{slice_index}
 use Rattle.std.proofs.lemmas.Option.{MatchOption-at_some}
-use Rattle.dutch_order.specs.Arrangements.{Frame}
+use Rattle.dutch_order.specs.Prelude.{Frame}
 use Rattle.dutch_order.specs.declared.bracket.Shape.{Shape}
-use Rattle.dutch_bracket.specs.Seated.{IsCandidate, Seated, by_seats}
-use Rattle.dutch_bracket.specs.Quality.{psd}
-use Rattle.dutch_bracket.specs.NextBracket.{legal_by, value_of_shape, value_of}
-use Rattle.dutch_bracket.specs.Reached.{frame_of}
-use Rattle.dutch_bracket.specs.Shapes.{greatest_shape}
+use Rattle.dutch_bracket.specs.Prelude.{IsCandidate, Seated, by_seats, psd, legal_by, value_of_shape, value_of, frame_of, greatest_shape}
 use Rattle.dutch_bracket.proofs.FlatBrackets.{candidate_of, greatest_as, in_legal, value_found}
 use Rattle.dutch_bracket.proofs.lookahead.value_drawn.Goals as goal
 

@@ -1,7 +1,7 @@
 -- The scores added so far, and those of the seats to come, make them all.
 use Rattle.std.proofs.Common.{◌≡◌, ◌+◌, ◌++◌, drop, map}
 use Rattle.arrayvec.specs.ArrayVec.{array_vec_len}
-use Rattle.dutch_bracket.specs.Seated.{score_at}
+use Rattle.dutch_bracket.specs.Prelude.{score_at}
 use Rattle.dutch_bracket.proofs.reached.push_scores.Given as goal
 
 abbrev pub invariant-loop-seat : goal.invariant-loop-seat

@@ -1,7 +1,7 @@
 -- The pairs added so far and those of the numbers to come make them all.
 use Rattle.std.proofs.Common.{◌≡◌, ◌+◌, ◌++◌, drop}
 use Rattle.arrayvec.specs.ArrayVec.{array_vec_len}
-use Rattle.dutch_bracket.specs.Seated.{pairs_of}
+use Rattle.dutch_bracket.specs.Prelude.{pairs_of}
 use Rattle.dutch_bracket.proofs.seated.push_pairs.Given as goal
 
 abbrev pub invariant-loop-i : goal.invariant-loop-i

@@ -1,7 +1,7 @@
 -- The seats added so far and those of the numbers to come make them all.
 use Rattle.std.proofs.Common.{◌≡◌, ◌+◌, ◌++◌, drop, map}
 use Rattle.arrayvec.specs.ArrayVec.{array_vec_len}
-use Rattle.dutch_bracket.specs.Seated.{seat_of}
+use Rattle.dutch_bracket.specs.Prelude.{seat_of}
 use Rattle.dutch_bracket.proofs.seated.push_seats.Given as goal
 
 abbrev pub invariant-loop-number : goal.invariant-loop-number

@@ -2,13 +2,9 @@
 use Rattle.std.proofs.Common.{◌≡◌, ℕ, ◌+◌, ◌%◌, ◌==◌, ◌∙◌, ◌++◌, Bool, List, length, ap, subst}
 use Rattle.std.specs.Prelude.{if◌then◌else◌}
 use Rattle.dutch_order.specs.declared.steps.Budget.{Budget}
-use Rattle.dutch_player.specs.Facts.{Facts}
+use Rattle.dutch_player.specs.Prelude.{Facts}
 use Rattle.dutch_bracket.specs.declared.completion.Answer.{Answer}
-use Rattle.dutch_bracket.specs.Completion.{IsStopped, most_taking}
-use Rattle.dutch_bracket.specs.CompletionSearch.{Searched, can_go}
-use Rattle.dutch_bracket.specs.Reached.{Reached}
-use Rattle.dutch_bracket.specs.Seats.{seats_meet, seats_may_be_left}
-use Rattle.dutch_bracket.specs.Takers.{can_go_out}
+use Rattle.dutch_bracket.specs.Prelude.{IsStopped, most_taking, Searched, can_go, Reached, seats_meet, seats_may_be_left, can_go_out}
 use Rattle.dutch_bracket.proofs.TellLemmas.{decided_by}
 use Rattle.dutch_bracket.proofs.takers.can_go_out.Goals as goal
 use Rattle.dutch_bracket.proofs.takers.can_go_out.Goals.{After-decided}

@@ -1,8 +1,7 @@
 -- Each barrier bounds its part of a shape.
 use Rattle.std.proofs.Common.{◌≤◌, length, refl, subst, arith}
 use Rattle.std.proofs.lemmas.List.{length-map}
-use Rattle.dutch_bracket.specs.Joins.{AreAtMost, joins_of_all, joins_of_moved_down}
-use Rattle.dutch_bracket.specs.Seated.{score_at}
+use Rattle.dutch_bracket.specs.Prelude.{AreAtMost, joins_of_all, joins_of_moved_down, score_at}
 use Rattle.dutch_bracket.proofs.JoinedPairs.{most_by_barriers}
 use Rattle.dutch_bracket.proofs.told_shape.most_of.Goals as goal
 

@@ -1,8 +1,7 @@
 -- The matching has the shape that no candidate exceeds, in a bracket whose candidates can all be chosen.
 use Rattle.std.proofs.Common.{rules, ◌≡◌, Some, false, ap, ◌∙◌}
 use Rattle.dutch_order.specs.declared.bracket.Shape.{Shape}
-use Rattle.dutch_bracket.specs.Joins.{matched_shape}
-use Rattle.dutch_bracket.specs.Brackets.{is_penultimate}
+use Rattle.dutch_bracket.specs.Prelude.{matched_shape, is_penultimate}
 use Rattle.dutch_bracket.proofs.JoinedMates.{shape_matched}
 use Rattle.dutch_bracket.proofs.told_shape.shape_by.Goals as goal
 

@@ -1,5 +1,5 @@
 -- All who were put are players of the field, and there was room.
-use Rattle.dutch_bracket.specs.Seated.{HasSeats}
+use Rattle.dutch_bracket.specs.Prelude.{HasSeats}
 use Rattle.dutch_choice.proofs.aiming.put_matched.Given as goal
 
 abbrev pub invariant-loop-pair : goal.invariant-loop-pair

@@ -1,5 +1,5 @@
 -- Where a pass with an aim ends with a candidate, it is the best of all.
-use Rattle.dutch_choice.specs.Aims.{aim_in}
+use Rattle.dutch_choice.specs.Prelude.{aim_in}
 use Rattle.dutch_choice.proofs.AimLemmas.{pass_ends}
 use Rattle.dutch_choice.proofs.choice.best_by_aim.Goals as goal
 

@@ -1,16 +1,12 @@
 -- One candidate more, or the end of all candidates, tells what a pass chooses of the shape.
 use Rattle.std.proofs.Common.{◌≡◌, None, [], inl, inr, refl, sym, ap, ◌∙◌, subst}
-use Rattle.dutch_order.specs.Arrangements.{Frame, down}
-use Rattle.dutch_order.specs.Keys.{IsIn}
-use Rattle.dutch_order.specs.Listings.{Listing}
+use Rattle.dutch_order.specs.Prelude.{Frame, down, IsIn, Listing}
 use Rattle.dutch_order.proofs.Spending.{spends-none, spends-more}
 use Rattle.dutch_bracket.specs.declared.reached.ByNumber.{ByNumber}
-use Rattle.dutch_bracket.specs.Brackets.{candidates_of}
-use Rattle.dutch_bracket.specs.InContext.{candidates_here}
+use Rattle.dutch_bracket.specs.Prelude.{candidates_of, candidates_here}
 use Rattle.dutch_bracket.proofs.FlatBrackets.{listed_as}
 use Rattle.dutch_bracket.proofs.LegalPairs.{legal_of}
-use Rattle.dutch_choice.specs.Aims.{aim_in, best_near, best_yet}
-use Rattle.dutch_choice.specs.Passes.{ListsFor, best_of_pass, near_of}
+use Rattle.dutch_choice.specs.Prelude.{aim_in, best_near, best_yet, ListsFor, best_of_pass, near_of}
 use Rattle.dutch_choice.specs.declared.pass.Pass.{Pass}
 use Rattle.dutch_choice.proofs.AimLemmas.{best_last, handed, skipped_same}
 use Rattle.dutch_choice.proofs.SkippedLemmas.{left_was_there}

@@ -1,12 +1,8 @@
 -- What is chosen of a shape is what is chosen of the candidate that is kept and of those to come.
 use Rattle.std.proofs.Common.{◌≡◌, length}
-use Rattle.dutch_order.specs.Arrangements.{Arrangement}
-use Rattle.dutch_order.specs.Keys.{IsIn}
-use Rattle.dutch_order.specs.Steps.{Spends}
-use Rattle.dutch_bracket.specs.InContext.{candidates_here}
-use Rattle.dutch_choice.specs.Kept.{IsKept}
-use Rattle.dutch_choice.specs.Passes.{ListsFor, best_of_pass, near_of}
-use Rattle.dutch_choice.specs.Remembered.{LooksBelow}
+use Rattle.dutch_order.specs.Prelude.{Arrangement, IsIn, Spends}
+use Rattle.dutch_bracket.specs.Prelude.{candidates_here}
+use Rattle.dutch_choice.specs.Prelude.{IsKept, ListsFor, best_of_pass, near_of, LooksBelow}
 use Rattle.dutch_choice.proofs.choice.best_near.Given as goal
 
 abbrev pub decreases-loop-kept : goal.decreases-loop-kept

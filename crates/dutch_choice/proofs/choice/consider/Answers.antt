@@ -1,9 +1,9 @@
 -- A candidate that is of interest and can be chosen is kept, and the same one is chosen in the end.
 use Rattle.std.proofs.Common.{sym, ap, ◌∙◌}
 use Rattle.std.proofs.lemmas.Bool.{and_from}
-use Rattle.dutch_choice.specs.Aims.{aim_in, is_idle}
-use Rattle.dutch_order.specs.Candidates.{Candidate}
-use Rattle.dutch_bracket.specs.QualityIn.{quality_in}
+use Rattle.dutch_choice.specs.Prelude.{aim_in, is_idle}
+use Rattle.dutch_order.specs.Prelude.{Candidate}
+use Rattle.dutch_bracket.specs.Prelude.{quality_in}
 use Rattle.dutch_choice.proofs.AimLemmas.{winner_kept}
 use Rattle.dutch_choice.proofs.choice.consider.Goals as goal
 

@@ -1,7 +1,7 @@
 -- What the turns before skipped is of no interest either.
 use Rattle.std.proofs.Common.{◌≡◌, true, ap, ◌∙◌}
-use Rattle.dutch_order.specs.Arrangements.{Frame, down}
-use Rattle.dutch_choice.specs.Passes.{is_dull_to}
+use Rattle.dutch_order.specs.Prelude.{Frame, down}
+use Rattle.dutch_choice.specs.Prelude.{is_dull_to}
 use Rattle.dutch_choice.proofs.PassesTwice.{passes_twice}
 use Rattle.dutch_choice.proofs.choice.draw.Goals as goal
 

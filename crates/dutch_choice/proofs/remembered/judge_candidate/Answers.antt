@@ -1,7 +1,6 @@
 -- A candidate of the bracket has numbers of its seats.
 use Rattle.std.proofs.Common.{List, ℕ, sym, ap, ◌∙◌, subst}
-use Rattle.dutch_bracket.specs.Reached.{Reached}
-use Rattle.dutch_bracket.specs.Seated.{IsCandidate}
+use Rattle.dutch_bracket.specs.Prelude.{Reached, IsCandidate}
 use Rattle.dutch_bracket.proofs.FlatBrackets.{candidate_of}
 use Rattle.dutch_choice.proofs.remembered.judge_candidate.Goals as goal
 

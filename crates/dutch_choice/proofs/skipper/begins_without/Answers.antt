@@ -1,7 +1,7 @@
 -- A beginning that rules a wish out has no candidate that grants it.
 use Rattle.std.proofs.Common.{sym, ap, ◌∙◌}
-use Rattle.dutch_bracket.specs.Reached.{Reached, frame_of}
-use Rattle.dutch_choice.specs.RuledOut.{rules_out}
+use Rattle.dutch_bracket.specs.Prelude.{Reached, frame_of}
+use Rattle.dutch_choice.specs.Prelude.{rules_out}
 use Rattle.dutch_bracket.proofs.LegalPairs.{legal_of}
 use Rattle.dutch_choice.proofs.RuledOutLemmas.{ruled_out}
 use Rattle.dutch_choice.proofs.skipper.begins_without.Goals as goal

@@ -1,6 +1,6 @@
 -- The floor of a beginning, where one is known.
 use Rattle.std.proofs.Common.{sym, ◌∙◌}
-use Rattle.dutch_bracket.specs.QualityIn.{quality_in}
+use Rattle.dutch_bracket.specs.Prelude.{quality_in}
 use Rattle.dutch_choice.proofs.FloorOfBeginning.{no_better}
 use Rattle.dutch_choice.proofs.skipper.fill_floor.Goals as goal
 

@@ -1,5 +1,5 @@
 -- The floor of a beginning of which something more is known, where one is known.
-use Rattle.dutch_bracket.specs.QualityIn.{quality_in}
+use Rattle.dutch_bracket.specs.Prelude.{quality_in}
 use Rattle.dutch_choice.proofs.FloorOfKnown.{none_better}
 use Rattle.dutch_choice.proofs.skipper.fill_floor_knowing.Goals as goal
 

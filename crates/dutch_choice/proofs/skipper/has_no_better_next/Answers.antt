@@ -1,5 +1,5 @@
 -- What is awaited behind a beginning holds of each candidate.
-use Rattle.dutch_bracket.specs.QualityIn.{next_in, quality_in}
+use Rattle.dutch_bracket.specs.Prelude.{next_in, quality_in}
 use Rattle.dutch_choice.proofs.BarsBehind.{awaited_by}
 use Rattle.dutch_choice.proofs.skipper.has_no_better_next.Goals as goal
 

@@ -2,9 +2,8 @@
 use Rattle.std.proofs.Common.{◌≡◌, ◌⊎◌, ℕ, sym, ap, ◌∙◌, subst}
 use Rattle.dutch_floors.specs.declared.known.Known.TheVariants.{Meet}
 use Rattle.dutch_floors.specs.KnownBeside.{Holds}
-use Rattle.dutch_bracket.specs.Reached.{Reached}
-use Rattle.dutch_bracket.specs.Seated.{seat_of}
-use Rattle.dutch_choice.specs.Wishes.{grants}
+use Rattle.dutch_bracket.specs.Prelude.{Reached, seat_of}
+use Rattle.dutch_choice.specs.Prelude.{grants}
 use Rattle.dutch_choice.proofs.KnownByWish.{they_meet}
 use Rattle.dutch_choice.proofs.skipper.known_by_wish.Goals as goal
 

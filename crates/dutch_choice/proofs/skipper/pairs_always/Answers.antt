@@ -1,9 +1,7 @@
 -- Where a shape pairs all moved-down players, or all residents, none of them is left over.
 use Rattle.std.proofs.Common.{◌≡◌, sym, ap, ◌∙◌, arith}
 use Rattle.std.proofs.lemmas.List.{length-map}
-use Rattle.dutch_bracket.specs.ColourFloors.{residents_down}
-use Rattle.dutch_bracket.specs.Reached.{Reached, frame_of, is_number}
-use Rattle.dutch_bracket.specs.Seated.{score_at}
+use Rattle.dutch_bracket.specs.Prelude.{residents_down, Reached, frame_of, is_number, score_at}
 use Rattle.dutch_choice.proofs.AllPaired.{equal, moved_down_paired, residents_paired}
 use Rattle.dutch_choice.proofs.KnownByWish.{bounds}
 use Rattle.dutch_bracket.proofs.LegalPairs.{legal_of}

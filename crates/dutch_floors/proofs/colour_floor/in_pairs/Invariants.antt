@@ -1,6 +1,6 @@
 -- The count so far and that of the pairs to come make the whole count.
 use Rattle.std.proofs.Common.{◌≡◌, ◌+◌, ◌*◌, ◌≤◌, drop, sum_by}
-use Rattle.dutch_bracket.specs.Beginnings.{in_both}
+use Rattle.dutch_bracket.specs.Prelude.{in_both}
 use Rattle.dutch_floors.specs.FloorOf.{wanting}
 use Rattle.dutch_floors.proofs.colour_floor.in_pairs.Given as goal
 

@@ -1,7 +1,7 @@
 -- The count so far and that of the pairs to come make the whole count.
 use Rattle.std.proofs.Common.{◌≡◌, ◌+◌, ◌*◌, ◌≤◌, drop}
 use Rattle.dutch_bracket.specs.declared.colours_missed.Miss.TheVariants.{Preference}
-use Rattle.dutch_bracket.specs.Quality.{misses, count_in_pairs}
+use Rattle.dutch_bracket.specs.Prelude.{misses, count_in_pairs}
 use Rattle.dutch_floors.proofs.colour_floor.missed.Given as goal
 
 abbrev pub invariant-loop-pair : goal.invariant-loop-pair

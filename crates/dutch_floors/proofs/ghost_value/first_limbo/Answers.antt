@@ -1,12 +1,10 @@
 -- The Limbo's numbers are the bracket's, and none of them is in an S1 of nobody.
 use Rattle.std.proofs.Common.{◌≡◌, ℕ, ◌+◌, ◌-◌, ◌≤◌, List, [], ◌++◌, length, map, sym, ap, ◌∙◌, subst, arith}
 use Rattle.std.proofs.lemmas.List.{length-map}
-use Rattle.dutch_order.specs.Arrangements.{left_of}
-use Rattle.dutch_order.specs.Choices.{numbers_from}
+use Rattle.dutch_order.specs.Prelude.{left_of, numbers_from}
 use Rattle.dutch_order.proofs.Members.{length-numbers}
-use Rattle.dutch_player.specs.Facts.{Facts}
-use Rattle.dutch_bracket.specs.Reached.{Reached, IsOf, frame_of}
-use Rattle.dutch_bracket.specs.Seated.{seat_of, score_at, AllNumbers}
+use Rattle.dutch_player.specs.Prelude.{Facts}
+use Rattle.dutch_bracket.specs.Prelude.{Reached, IsOf, frame_of, seat_of, score_at, AllNumbers}
 use Rattle.dutch_bracket.proofs.ArrangementParts.{left_none, numbers_within}
 use Rattle.dutch_floors.proofs.ghost_value.first_limbo.Goals as goal
 

@@ -1,9 +1,7 @@
 -- The three parts put one behind another are the floor.
 use Rattle.std.proofs.Common.{◌≡◌, ℕ, ◌+◌, ◌-◌, ◌*◌, ◌≤◌, false, nat_lt, cond, List, [], ◌++◌, map, length, ap, sym, ◌∙◌, arith}
 use Rattle.std.proofs.lemmas.Bool.Decides.{nat_tests}
-use Rattle.dutch_bracket.specs.PsdFloors.{repeated}
-use Rattle.dutch_bracket.specs.Quality.{placed_all}
-use Rattle.dutch_bracket.specs.Ghosts.{ghost_floor}
+use Rattle.dutch_bracket.specs.Prelude.{repeated, placed_all, ghost_floor}
 use Rattle.dutch_floors.specs.GhostValues.{floor_length, floor_held}
 use Rattle.dutch_bracket.proofs.Places.{placed_all_append}
 use Rattle.dutch_order.specs.declared.numbers.TheConstants.{LIMIT}

@@ -1,10 +1,9 @@
 -- The ghosts are a bracket, and its greatest shape gives the value.
 use Rattle.std.proofs.Common.{◌≡◌, ℕ, List, length, ap, ◌∙◌, arith}
 use Rattle.std.proofs.lemmas.Option.{MatchOption-at_some}
-use Rattle.dutch_order.specs.Arrangements.{Frame}
-use Rattle.dutch_bracket.specs.Ghosts.{ghost_frame}
+use Rattle.dutch_order.specs.Prelude.{Frame}
+use Rattle.dutch_bracket.specs.Prelude.{ghost_frame, first_group, scoregroups}
 use Rattle.dutch_floors.specs.GhostValues.{first_ghosts}
-use Rattle.dutch_bracket.specs.Brackets.{first_group, scoregroups}
 use Rattle.dutch_bracket.proofs.C07WeakerRules.{found_few}
 use Rattle.dutch_floors.proofs.ghost_value.ghost_value.Goals as goal
 

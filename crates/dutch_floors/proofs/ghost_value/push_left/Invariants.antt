@@ -1,8 +1,8 @@
 -- The scores added so far, and those of the numbers to come, make them all.
 use Rattle.std.proofs.Common.{◌≡◌, ◌+◌, ◌≤◌, ◌++◌, drop, map}
 use Rattle.arrayvec.specs.ArrayVec.{array_vec_len}
-use Rattle.dutch_order.specs.Arrangements.{left_of}
-use Rattle.dutch_bracket.specs.Seated.{seat_of, score_at}
+use Rattle.dutch_order.specs.Prelude.{left_of}
+use Rattle.dutch_bracket.specs.Prelude.{seat_of, score_at}
 use Rattle.dutch_floors.proofs.ghost_value.push_left.Given as goal
 
 abbrev pub invariant-loop-number : goal.invariant-loop-number

@@ -1,7 +1,7 @@
 -- The differences put so far, and those to come, make them all.
 use Rattle.std.proofs.Common.{◌≡◌, ◌+◌, ◌-◌, drop, map}
 use Rattle.arrayvec.specs.ArrayVec.{array_vec_len}
-use Rattle.dutch_bracket.specs.Quality.{placed_all}
+use Rattle.dutch_bracket.specs.Prelude.{placed_all}
 use Rattle.dutch_floors.proofs.ghost_value.put_above.Given as goal
 
 abbrev pub invariant-loop-score : goal.invariant-loop-score

@@ -1,7 +1,7 @@
 -- What has been read of the lower players passed so far, and what those to come tell, make it all.
 use Rattle.std.proofs.Common.{◌≡◌, ◌++◌, drop, map}
 use Rattle.arrayvec.specs.ArrayVec.{array_vec_len}
-use Rattle.dutch_bracket.specs.Ghosts.{some_meets}
+use Rattle.dutch_bracket.specs.Prelude.{some_meets}
 use Rattle.dutch_floors.proofs.ghosts.read_met.Given as goal
 
 abbrev pub invariant-loop-seat : goal.invariant-loop-seat

@@ -1,7 +1,7 @@
 -- The players to come tell what all of them do.
 use Rattle.std.proofs.Common.{◌≡◌, drop}
 use Rattle.std.specs.List.{list_any}
-use Rattle.dutch_bracket.specs.Ghosts.{may_bye}
+use Rattle.dutch_bracket.specs.Prelude.{may_bye}
 use Rattle.dutch_floors.proofs.ghosts.some_may_bye.Given as goal
 
 abbrev pub invariant-loop-seat : goal.invariant-loop-seat

@@ -1,7 +1,7 @@
 -- The players to come tell what all of them do.
 use Rattle.std.proofs.Common.{◌≡◌, drop}
 use Rattle.std.specs.List.{list_any}
-use Rattle.dutch_player.specs.Meetings.{may_meet}
+use Rattle.dutch_player.specs.Prelude.{may_meet}
 use Rattle.dutch_floors.proofs.ghosts.some_meets.Given as goal
 
 abbrev pub invariant-loop-seat : goal.invariant-loop-seat

@@ -1,7 +1,7 @@
 -- The count so far and that of those to come make the whole count.
 use Rattle.std.proofs.Common.{◌≡◌, ◌+◌, ◌≤◌, not, drop, length, filter}
 use Rattle.std.specs.List.{list_any}
-use Rattle.dutch_bracket.specs.ColourFloors.{suits}
+use Rattle.dutch_bracket.specs.Prelude.{suits}
 use Rattle.dutch_floors.proofs.lonely.lonely_second.Given as goal
 
 abbrev pub invariant-loop-y : goal.invariant-loop-y

@@ -1,11 +1,8 @@
 -- The residents that are not marked: those of the three lists are marked one by one.
 use Rattle.std.proofs.Common.{◌≡◌, ◌∙◌, ◌+◌, ◌≤◌, ◌||◌, Bool, not, filter, length, map, ap, arith}
 use Rattle.std.proofs.lemmas.List.{length-map}
-use Rattle.dutch_order.specs.Arrangements.{Arrangement}
-use Rattle.dutch_order.specs.Choices.{is_member, numbers_from}
-use Rattle.dutch_bracket.specs.BitTables.{has_bit}
-use Rattle.dutch_bracket.specs.Reached.{Reached}
-use Rattle.dutch_bracket.specs.Seated.{score_at}
+use Rattle.dutch_order.specs.Prelude.{Arrangement, is_member, numbers_from}
+use Rattle.dutch_bracket.specs.Prelude.{has_bit, Reached, score_at}
 use Rattle.dutch_bracket.proofs.BitLemmas.{none_set}
 use Rattle.dutch_floors.proofs.LonelyLemmas.{pool_is, pool_numbers}
 use Rattle.dutch_floors.proofs.lonely.put_pool.Goals as goal

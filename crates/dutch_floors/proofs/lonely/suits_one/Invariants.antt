@@ -1,7 +1,7 @@
 -- None of those passed so far suits.
 use Rattle.std.proofs.Common.{◌≡◌, drop}
 use Rattle.std.specs.List.{list_any}
-use Rattle.dutch_bracket.specs.ColourFloors.{suits}
+use Rattle.dutch_bracket.specs.Prelude.{suits}
 use Rattle.dutch_floors.proofs.lonely.suits_one.Given as goal
 
 abbrev pub invariant-loop-other : goal.invariant-loop-other

@@ -1,7 +1,5 @@
 use Rattle.std.proofs.Common.{◌++◌, filter, length}
-use Rattle.dutch_order.specs.Levels.{may_leave}
-use Rattle.dutch_order.specs.Listings.{listed}
-use Rattle.dutch_order.specs.Steps.{Passes, Spends}
+use Rattle.dutch_order.specs.Prelude.{may_leave, listed, Passes, Spends}
 use Rattle.dutch_order.proofs.candidates.draw_legal.Given as goal
 
 abbrev pub invariant-loop-candidate : goal.invariant-loop-candidate

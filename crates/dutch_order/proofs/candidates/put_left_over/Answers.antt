@@ -3,8 +3,7 @@ use Rattle.std.specs.List.{filter}
 use Rattle.std.proofs.lemmas.Bool.{not_from_true, not_from_false}
 use Rattle.std.proofs.lemmas.List.{append-nil}
 use Rattle.std.proofs.lemmas.List.Elements.{filter-append}
-use Rattle.dutch_order.specs.Choices.{is_member, numbers_from}
-use Rattle.dutch_order.specs.Arrangements.{Arrangement, left_of, paired}
+use Rattle.dutch_order.specs.Prelude.{is_member, numbers_from, Arrangement, left_of, paired}
 use Rattle.dutch_order.proofs.Counts.{member-four}
 use Rattle.dutch_order.proofs.Members.{numbers-append}
 use Rattle.dutch_order.proofs.candidates.put_left_over.Goals as goal

@@ -1,7 +1,6 @@
 use Rattle.std.proofs.Common.{◌≡◌, ℕ, ◌+◌, ◌<◌, Bool, true, false, not, ◌&&◌, List, length, drop, get_or, sym, ◌∙◌, ap}
 use Rattle.std.proofs.lemmas.List.{at_drop_more, at_drop_all}
-use Rattle.dutch_order.specs.Choices.{is_member}
-use Rattle.dutch_order.specs.Cursors.{are_different}
+use Rattle.dutch_order.specs.Prelude.{is_member, are_different}
 use Rattle.dutch_order.proofs.cursor.are_different.Goals as goal
 
 -- the next number, where it is known whether it comes once more

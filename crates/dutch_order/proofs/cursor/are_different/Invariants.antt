@@ -1,5 +1,5 @@
 use Rattle.std.proofs.Common.{◌≡◌, drop}
-use Rattle.dutch_order.specs.Cursors.{are_different}
+use Rattle.dutch_order.specs.Prelude.{are_different}
 use Rattle.dutch_order.proofs.cursor.are_different.Given as goal
 
 abbrev pub invariant-loop-i : goal.invariant-loop-i

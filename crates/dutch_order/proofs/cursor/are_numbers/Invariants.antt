@@ -1,6 +1,7 @@
 use Rattle.std.proofs.Common.{◌≡◌, length}
 use Rattle.std.specs.Option.{is_some}
-use Rattle.dutch_order.specs.Cursors.{parts, numbers_of}
+use Rattle.dutch_order.specs.Prelude.{parts}
+use Rattle.dutch_order.specs.Cursors.{numbers_of}
 use Rattle.dutch_order.proofs.cursor.are_numbers.Given as goal
 
 abbrev pub invariant-loop-word : goal.invariant-loop-word

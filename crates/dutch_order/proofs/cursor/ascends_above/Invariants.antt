@@ -1,5 +1,5 @@
 use Rattle.std.proofs.Common.{◌≡◌, drop}
-use Rattle.dutch_order.specs.Cursors.{ascends_above}
+use Rattle.dutch_order.specs.Prelude.{ascends_above}
 use Rattle.dutch_order.proofs.cursor.ascends_above.Given as goal
 
 abbrev pub invariant-loop-number : goal.invariant-loop-number

@@ -1,7 +1,7 @@
 use Rattle.std.proofs.Common.{◌≡◌, ◌^◌, ◌+◌, ◌≤◌, drop, true}
 use Rattle.std.specs.Char.{is_ascii_digit}
 use Rattle.std.specs.List.{list_all}
-use Rattle.dutch_order.specs.Cursors.{number_after}
+use Rattle.dutch_order.specs.Prelude.{number_after}
 use Rattle.dutch_order.proofs.cursor.number_after.Given as goal
 
 abbrev pub invariant-loop-digit : goal.invariant-loop-digit

@@ -1,5 +1,5 @@
 use Rattle.std.proofs.Common.{◌∙◌, ◌∷◌, ap}
-use Rattle.dutch_order.specs.Cursors.{arrangement_of}
+use Rattle.dutch_order.specs.Prelude.{arrangement_of}
 use Rattle.dutch_order.proofs.CursorLemmas.{too_many}
 use Rattle.dutch_order.proofs.cursor.split_lists.Goals as goal
 

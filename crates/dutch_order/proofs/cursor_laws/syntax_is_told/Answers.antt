@@ -1,4 +1,4 @@
-use Rattle.dutch_order.specs.Cursors.{parsed}
+use Rattle.dutch_order.specs.Prelude.{parsed}
 use Rattle.dutch_order.proofs.CursorReads.{told}
 use Rattle.dutch_order.proofs.cursor_laws.syntax_is_told.Goals as goal
 

@@ -1,4 +1,4 @@
-use Rattle.dutch_order.specs.Stages.{IdleAt}
+use Rattle.dutch_order.specs.Prelude.{IdleAt}
 use Rattle.dutch_order.proofs.LeftOut.{drawn-each, passes-more}
 use Rattle.dutch_order.proofs.exchange.climb_stage.Goals as goal
 

@@ -1,5 +1,5 @@
 use Rattle.std.proofs.Common.{rules, ◌<◌, ◌≤◌, length, take, drop, ap, ◌∙◌}
-use Rattle.dutch_order.specs.Stages.{known_exchange, set_of}
+use Rattle.dutch_order.specs.Prelude.{known_exchange, set_of}
 use Rattle.dutch_order.proofs.Asked.{exchange-at, path-known}
 use Rattle.dutch_order.proofs.exchange.cuts_begun.Goals as goal
 

@@ -1,8 +1,7 @@
 use Rattle.std.proofs.Common.{◌≡◌, ◌<◌, ◌-◌, ℕ, Bool, true, false, [], ◌∷◌, ◌++◌, length, sym, ◌∙◌, ap, arith, subst}
 use Rattle.std.specs.List.{AllByRecursion}
-use Rattle.dutch_order.specs.Choices.{is_member}
+use Rattle.dutch_order.specs.Prelude.{is_member, value_of}
 use Rattle.dutch_order.specs.declared.exchange.Side.TheVariants.{In}
-use Rattle.dutch_order.specs.Stages.{value_of}
 use Rattle.dutch_order.proofs.Members.{filter-more, filter-no_more, within-push}
 use Rattle.dutch_order.proofs.exchange.in_places.Goals as goal
 use Rattle.dutch_order.proofs.exchange.in_places.Goals.{then-contains, else-contains}

@@ -1,9 +1,5 @@
 use Rattle.std.proofs.Common.{List, ℕ, subst}
-use Rattle.dutch_order.specs.Hints.{hinted}
-use Rattle.dutch_order.specs.Prefixes.{GoesOn}
-use Rattle.dutch_order.specs.Stages.{IdleAt, exchange_plan}
-use Rattle.dutch_order.specs.Trials.{Plan}
-use Rattle.dutch_order.specs.Descents.{IsSpent}
+use Rattle.dutch_order.specs.Prelude.{hinted, GoesOn, IdleAt, exchange_plan, Plan, IsSpent}
 use Rattle.dutch_order.proofs.LeftOut.{idle-left}
 use Rattle.dutch_order.proofs.exchange.leave_stage.Goals as goal
 

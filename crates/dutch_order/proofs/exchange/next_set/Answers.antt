@@ -1,8 +1,7 @@
 use Rattle.dutch_order.proofs.Skipping.{drawn, drawn-stopped}
 use Rattle.dutch_order.proofs.Spending.{spends-more}
 use Rattle.std.proofs.Common.{◌∙◌, ap, sym, arith}
-use Rattle.dutch_order.specs.Stages.{trials_ahead}
-use Rattle.dutch_order.specs.Trials.{hits}
+use Rattle.dutch_order.specs.Prelude.{trials_ahead, hits}
 use Rattle.dutch_order.proofs.StageMoves.{sets-by_hits, sets-found, trials-after}
 use Rattle.dutch_order.proofs.exchange.next_set.Goals as goal
 

@@ -1,6 +1,5 @@
 use Rattle.std.proofs.Common.{◌≡◌, ◌+◌}
-use Rattle.dutch_order.specs.Stages.{IsPlace, sets_from, trials_from, stages_ahead}
-use Rattle.dutch_order.specs.Steps.{Spends}
+use Rattle.dutch_order.specs.Prelude.{IsPlace, sets_from, trials_from, stages_ahead, Spends}
 use Rattle.dutch_order.proofs.exchange.next_set.Given as goal
 
 abbrev pub invariant-loop-place : goal.invariant-loop-place

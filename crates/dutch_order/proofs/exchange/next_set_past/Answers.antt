@@ -1,5 +1,5 @@
 use Rattle.std.proofs.Common.{◌∙◌, ap, sym}
-use Rattle.dutch_order.specs.Trials.{hits}
+use Rattle.dutch_order.specs.Prelude.{hits}
 use Rattle.dutch_order.proofs.LeftOut.{passes-same}
 use Rattle.dutch_order.proofs.Places.{still-known, passed-found, passed-on}
 use Rattle.dutch_order.proofs.Skipping.{drawn, drawn-stopped, passes-keeps, passes-more}

@@ -1,5 +1,4 @@
-use Rattle.dutch_order.specs.Stages.{IsPlace, sets_from, stages_ahead}
-use Rattle.dutch_order.specs.Steps.{Passes, Spends}
+use Rattle.dutch_order.specs.Prelude.{IsPlace, sets_from, stages_ahead, Passes, Spends}
 use Rattle.dutch_order.proofs.exchange.next_set_past.Given as goal
 
 abbrev pub invariant-loop-place : goal.invariant-loop-place

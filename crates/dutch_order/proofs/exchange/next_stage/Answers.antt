@@ -1,9 +1,6 @@
 use Rattle.std.proofs.Common.{◌≡◌, ◌+◌, ◌<◌, ℕ, suc, [], length, ◌∙◌, ap, subst, sym, arith, rules}
-use Rattle.dutch_order.specs.Stages.{least_difference, stages_ahead}
+use Rattle.dutch_order.specs.Prelude.{least_difference, stages_ahead, hinted, exchange_plan, most_exchanged, Walked}
 use Rattle.dutch_order.proofs.StageMoves.{sets-entered, trials-entered, sets-next, trials-next, sets-larger, trials-larger, stages-larger, sets-none, trials-none}
-use Rattle.dutch_order.specs.Hints.{hinted}
-use Rattle.dutch_order.specs.Stages.{exchange_plan, most_exchanged}
-use Rattle.dutch_order.specs.Descents.{Walked}
 use Rattle.dutch_order.proofs.Places.{new-place}
 use Rattle.dutch_order.proofs.exchange.next_stage.Goals as goal
 

@@ -1,9 +1,8 @@
 use Rattle.std.proofs.Common.{◌≡◌, ◌<◌, ℕ, Bool, true, false, not, [], ◌∷◌, ◌++◌, length, sym, ◌∙◌, ap, arith, subst}
 use Rattle.std.specs.List.{AllByRecursion}
 use Rattle.std.proofs.lemmas.Bool.{not_from_true, not_from_false}
-use Rattle.dutch_order.specs.Choices.{is_member}
+use Rattle.dutch_order.specs.Prelude.{is_member, value_of}
 use Rattle.dutch_order.specs.declared.exchange.Side.TheVariants.{Out}
-use Rattle.dutch_order.specs.Stages.{value_of}
 use Rattle.dutch_order.proofs.Members.{filter-more, filter-no_more, within-push}
 use Rattle.dutch_order.proofs.exchange.out_places.Goals as goal
 use Rattle.dutch_order.proofs.exchange.out_places.Goals.{then-not-contains, else-not-contains}

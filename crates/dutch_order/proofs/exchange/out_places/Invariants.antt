@@ -1,8 +1,7 @@
 use Rattle.std.proofs.Common.{◌≡◌, ◌≤◌, ◌<◌, not, length}
 use Rattle.std.specs.List.{filter, AllByRecursion}
-use Rattle.dutch_order.specs.Choices.{is_member, numbers_from}
+use Rattle.dutch_order.specs.Prelude.{is_member, numbers_from, value_of}
 use Rattle.dutch_order.specs.declared.exchange.Side.TheVariants.{Out}
-use Rattle.dutch_order.specs.Stages.{value_of}
 use Rattle.dutch_order.proofs.exchange.out_places.Given as goal
 
 abbrev pub invariant-loop-place : goal.invariant-loop-place

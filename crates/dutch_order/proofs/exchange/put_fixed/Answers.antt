@@ -1,9 +1,7 @@
 use Rattle.std.proofs.Common.{◌≡◌, ◌++◌, ℕ, Bool, true, false, List, [], ◌∷◌, map, length, length-append, sym, ◌∙◌, ap, append_assoc, arith}
 use Rattle.std.specs.List.{filter}
 use Rattle.std.proofs.lemmas.List.{length-map, map-append}
-use Rattle.dutch_order.specs.Choices.{numbers_from}
-use Rattle.dutch_order.specs.Sides.{count_of}
-use Rattle.dutch_order.specs.Stages.{is_fixed, value_of}
+use Rattle.dutch_order.specs.Prelude.{numbers_from, count_of, is_fixed, value_of}
 use Rattle.dutch_order.proofs.Asked.{filter-room}
 use Rattle.dutch_order.proofs.Members.{filter-more, filter-no_more}
 use Rattle.dutch_order.proofs.exchange.put_fixed.Goals as goal

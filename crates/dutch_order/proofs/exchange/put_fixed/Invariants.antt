@@ -1,7 +1,6 @@
 use Rattle.std.proofs.Common.{◌≡◌, ◌++◌, map}
 use Rattle.std.specs.List.{filter}
-use Rattle.dutch_order.specs.Choices.{numbers_from}
-use Rattle.dutch_order.specs.Stages.{is_fixed, value_of}
+use Rattle.dutch_order.specs.Prelude.{numbers_from, is_fixed, value_of}
 use Rattle.dutch_order.proofs.exchange.put_fixed.Given as goal
 
 abbrev pub invariant-loop-place : goal.invariant-loop-place

@@ -1,7 +1,6 @@
 use Rattle.std.proofs.Common.{rules, ◌≡◌, ◌-◌, ◌+◌, ◌≤◌, ◌++◌, ℕ, List, length, take, drop, true, false, ap, sym, ◌∙◌, append_assoc, arith, length-append}
-use Rattle.dutch_order.specs.Sides.{count_of}
+use Rattle.dutch_order.specs.Prelude.{count_of, out_limit, fixed_numbers}
 use Rattle.dutch_order.specs.declared.exchange.Side.{Side}
-use Rattle.dutch_order.specs.Stages.{out_limit, fixed_numbers}
 use Rattle.dutch_order.specs.declared.exchange.Side.TheVariants.{In, Out}
 use Rattle.dutch_order.specs.declared.numbers.TheConstants.{LIMIT}
 use Rattle.dutch_order.proofs.Asked.{told-room}

@@ -1,10 +1,9 @@
 use Rattle.std.proofs.Common.{◌≡◌, ℕ, suc, ◌+◌, ◌-◌, ◌<◌, Bool, true, false, cond, not, List, [], ◌∷◌, ◌++◌, map, reverse, length, refl, sym, ◌∙◌, ap, arith, slice_index}
 use Rattle.std.specs.List.{filter}
-use Rattle.dutch_order.specs.Choices.{is_member, numbers_from}
+use Rattle.dutch_order.specs.Prelude.{is_member, numbers_from, value_of}
 use Rattle.std.proofs.lemmas.List.{reverse-append}
 use Rattle.std.proofs.lemmas.Bool.{not_from_true, not_from_false}
 use Rattle.dutch_order.specs.declared.exchange.Side.TheVariants.{Out}
-use Rattle.dutch_order.specs.Stages.{value_of}
 use Rattle.dutch_order.proofs.exchange.put_kept.Goals as goal
 use Rattle.dutch_order.proofs.exchange.put_kept.Goals.{then-not-contains, else-not-contains}
 

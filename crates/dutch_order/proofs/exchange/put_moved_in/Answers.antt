@@ -1,6 +1,6 @@
 use Rattle.std.proofs.Common.{◌<◌, ◌-◌, length, refl, arith}
 use Rattle.dutch_order.specs.declared.exchange.Side.TheVariants.{In}
-use Rattle.dutch_order.specs.Stages.{value_of}
+use Rattle.dutch_order.specs.Prelude.{value_of}
 use Rattle.dutch_order.proofs.Turns.{at_index, map-turn, map-end}
 use Rattle.dutch_order.proofs.exchange.put_moved_in.Goals as goal
 

@@ -1,6 +1,6 @@
 use Rattle.std.proofs.Common.{◌≡◌, ◌++◌, ◌+◌, map, take, length}
 use Rattle.dutch_order.specs.declared.exchange.Side.TheVariants.{In}
-use Rattle.dutch_order.specs.Stages.{value_of}
+use Rattle.dutch_order.specs.Prelude.{value_of}
 use Rattle.dutch_order.proofs.exchange.put_moved_in.Given as goal
 
 abbrev pub invariant-loop-place : goal.invariant-loop-place

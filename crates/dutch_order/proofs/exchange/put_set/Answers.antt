@@ -1,6 +1,6 @@
 use Rattle.std.proofs.Common.{◌<◌, ◌-◌, ◌∙◌, ap, sym, subst, length, drop, []}
 use Rattle.std.specs.List.{AllByRecursion}
-use Rattle.dutch_order.specs.Stages.{exchange_plan, within_reach, beyond_reach}
+use Rattle.dutch_order.specs.Prelude.{exchange_plan, within_reach, beyond_reach}
 use Rattle.dutch_order.proofs.HalfWalks.{Walked-halves}
 use Rattle.dutch_order.proofs.Hinted.{Walked-hinted}
 use Rattle.dutch_order.proofs.exchange.put_set.Goals as goal

@@ -1,8 +1,5 @@
 use Rattle.std.proofs.Common.{length}
-use Rattle.dutch_order.specs.Choices.{tuples, subsets, all_meet, numbers_from}
-use Rattle.dutch_order.specs.Keys.{sorted, lower_first}
-use Rattle.dutch_order.specs.Exchange.{exchange_cmp}
-use Rattle.dutch_order.specs.Limbo.{limbo_cmp}
+use Rattle.dutch_order.specs.Prelude.{tuples, subsets, all_meet, numbers_from, sorted, lower_first, exchange_cmp, limbo_cmp}
 use Rattle.dutch_order.proofs.Orders.{IsIn-filter, filter-IsIn}
 use Rattle.dutch_order.proofs.Sets.{sorted-in, in-sorted}
 use Rattle.dutch_order.proofs.laws.choices_are_all.Goals as goal

@@ -1,5 +1,5 @@
 use Rattle.std.proofs.Common.{subst}
-use Rattle.dutch_order.specs.Keys.{HasEachOnce}
+use Rattle.dutch_order.specs.Prelude.{HasEachOnce}
 use Rattle.dutch_order.proofs.Once.{suffix-once, arrangements-once, stands_once, candidates-once, rest-once}
 use Rattle.dutch_order.proofs.laws.each_arrangement_comes_once.Goals as goal
 

@@ -1,7 +1,7 @@
 use Rattle.std.proofs.Common.{◌≡◌, ◌<◌, ℕ, ◌+◌, if◌then◌else◌, List, length, drop, get_or, slice_index, arith, ap, ◌∙◌}
 use Rattle.std.proofs.lemmas.Bool.{eq-eqb, ne_eqb}
 use Rattle.std.proofs.lemmas.List.{at_drop_more, at_drop_all}
-use Rattle.dutch_order.specs.LimboSearch.{front_with}
+use Rattle.dutch_order.specs.Prelude.{front_with}
 use Rattle.dutch_order.proofs.Turns.{at_index}
 use Rattle.dutch_order.proofs.limbo.front_with.Goals as goal
 

@@ -1,5 +1,5 @@
 use Rattle.std.proofs.Common.{◌≡◌, ◌+◌, drop}
-use Rattle.dutch_order.specs.LimboSearch.{front_with}
+use Rattle.dutch_order.specs.Prelude.{front_with}
 use Rattle.dutch_order.proofs.limbo.front_with.Given as goal
 
 abbrev pub invariant-loop-place : goal.invariant-loop-place

@@ -1,5 +1,5 @@
 use Rattle.std.proofs.Common.{◌≡◌, ◌-◌}
-use Rattle.dutch_order.specs.LimboSearch.{leader}
+use Rattle.dutch_order.specs.Prelude.{leader}
 use Rattle.dutch_order.proofs.limbo.leader.Given as goal
 
 abbrev pub invariant-loop-other : goal.invariant-loop-other

@@ -1,5 +1,5 @@
 use Rattle.std.proofs.Common.{◌≡◌, ◌++◌, length, drop}
-use Rattle.dutch_order.specs.LimboSearch.{leaders}
+use Rattle.dutch_order.specs.Prelude.{leaders}
 use Rattle.dutch_order.proofs.limbo.leaders.Given as goal
 
 abbrev pub invariant-loop-place : goal.invariant-loop-place

@@ -1,5 +1,5 @@
 use Rattle.std.proofs.Common.{◌≡◌, take}
-use Rattle.dutch_order.specs.LimboSearch.{places_of}
+use Rattle.dutch_order.specs.Prelude.{places_of}
 use Rattle.dutch_order.proofs.limbo.places_of.Given as goal
 
 abbrev pub invariant-loop-number : goal.invariant-loop-number

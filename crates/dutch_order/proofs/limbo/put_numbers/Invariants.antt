@@ -1,5 +1,5 @@
 use Rattle.std.proofs.Common.{◌≡◌, take}
-use Rattle.dutch_order.specs.LimboSearch.{numbers_of}
+use Rattle.dutch_order.specs.Prelude.{numbers_of}
 use Rattle.dutch_order.proofs.limbo.put_numbers.Given as goal
 
 abbrev pub invariant-loop-place : goal.invariant-loop-place

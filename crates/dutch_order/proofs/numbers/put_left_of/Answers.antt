@@ -5,8 +5,7 @@ use Rattle.std.proofs.lemmas.Bool.{not_from_true, not_from_false}
 use Rattle.std.proofs.lemmas.List.{take_all, take_more, append-nil}
 use Rattle.std.proofs.lemmas.List.Elements.{filter-append}
 use Rattle.std.proofs.lemmas.List.Kept.{IsStrictlyIncreasing-filter}
-use Rattle.dutch_order.specs.Choices.{is_member}
-use Rattle.dutch_order.specs.Arrangements.{left_of}
+use Rattle.dutch_order.specs.Prelude.{is_member, left_of}
 use Rattle.dutch_order.proofs.numbers.put_left_of.Goals as goal
 use Rattle.dutch_order.proofs.numbers.put_left_of.Goals.{then-not-contains, else-not-contains}
 

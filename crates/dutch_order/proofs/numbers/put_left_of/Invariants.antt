@@ -1,5 +1,5 @@
 use Rattle.std.proofs.Common.{◌≡◌, ◌≤◌, take, length}
-use Rattle.dutch_order.specs.Arrangements.{left_of}
+use Rattle.dutch_order.specs.Prelude.{left_of}
 use Rattle.dutch_order.proofs.numbers.put_left_of.Given as goal
 
 abbrev pub invariant-loop-number : goal.invariant-loop-number

@@ -1,5 +1,5 @@
 use Rattle.std.proofs.Common.{◌≡◌}
-use Rattle.dutch_order.specs.Choices.{numbers_from}
+use Rattle.dutch_order.specs.Prelude.{numbers_from}
 use Rattle.dutch_order.proofs.numbers.put_numbered.Given as goal
 
 abbrev pub invariant-loop-place : goal.invariant-loop-place

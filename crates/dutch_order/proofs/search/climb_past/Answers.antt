@@ -1,8 +1,8 @@
 use Rattle.dutch_order.proofs.Skipping.{passes-none}
 use Rattle.dutch_order.proofs.Spending.{spends-none, spends-step}
 use Rattle.std.proofs.Common.{◌∙◌, ◌∷◌, sym, ap, arith, inr, refl, rules, subst}
-use Rattle.dutch_order.specs.Trials.{Tried, ahead, hits, trials, lower, lowest}
-use Rattle.dutch_order.specs.Descents.{Stands}
+use Rattle.dutch_order.specs.Prelude.{ahead, hits, trials, lower, lowest, Stands}
+use Rattle.dutch_order.specs.Trials.{Tried}
 use Rattle.dutch_order.proofs.LeftOut.{passes-more, passes-same}
 use Rattle.dutch_order.proofs.Moves.{ahead-same, beyond-tried, beyond-same, keeps-more, leave-keeps, ahead-whole, trials-positive, spent-place, spent-whole}
 use Rattle.dutch_order.proofs.search.climb_past.Goals as goal

@@ -1,7 +1,5 @@
 use Rattle.std.proofs.Common.{◌≡◌, ◌+◌, ◌-◌, ◌*◌, length}
-use Rattle.dutch_order.specs.Steps.{Passes, Spends}
-use Rattle.dutch_order.specs.Trials.{ahead, hits, trials, lower, lowest}
-use Rattle.dutch_order.specs.Descents.{KeepsBeyond, Stands, NoneIdle}
+use Rattle.dutch_order.specs.Prelude.{Passes, Spends, ahead, hits, trials, lower, lowest, KeepsBeyond, Stands, NoneIdle}
 use Rattle.dutch_order.proofs.search.climb_past.Given as goal
 
 abbrev pub invariant-loop-descent : goal.invariant-loop-descent

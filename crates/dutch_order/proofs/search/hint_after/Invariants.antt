@@ -1,5 +1,5 @@
 use Rattle.std.proofs.Common.{◌≡◌, drop}
-use Rattle.dutch_order.specs.Hints.{hint_after}
+use Rattle.dutch_order.specs.Prelude.{hint_after}
 use Rattle.dutch_order.proofs.search.hint_after.Given as goal
 
 abbrev pub invariant-loop-place : goal.invariant-loop-place

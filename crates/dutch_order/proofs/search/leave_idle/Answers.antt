@@ -1,7 +1,6 @@
 use Rattle.std.proofs.Common.{List, ℕ, sym, subst, []}
 use Rattle.std.proofs.lemmas.List.{append-nil}
-use Rattle.dutch_order.specs.Prefixes.{GoesOn}
-use Rattle.dutch_order.specs.Descents.{IsSpent}
+use Rattle.dutch_order.specs.Prelude.{GoesOn, IsSpent}
 use Rattle.dutch_order.proofs.LeftOut.{idle-left}
 use Rattle.dutch_order.proofs.search.leave_idle.Goals as goal
 

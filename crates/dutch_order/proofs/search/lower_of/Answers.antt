@@ -1,5 +1,5 @@
 use Rattle.std.proofs.Common.{Some, None, ap, sym, ◌∙◌}
-use Rattle.dutch_order.specs.Trials.{lower}
+use Rattle.dutch_order.specs.Prelude.{lower}
 use Rattle.dutch_order.proofs.search.lower_of.Goals as goal
 
 pub returns-in-None-default : goal.returns-in-None-default

@@ -1,5 +1,5 @@
 use Rattle.std.proofs.Common.{sym, arith, rules, length, subst, ◌≤◌}
-use Rattle.dutch_order.specs.Descents.{Stands}
+use Rattle.dutch_order.specs.Prelude.{Stands}
 use Rattle.dutch_order.proofs.Moves.{ahead-taken, ahead-pass, Walked-longer}
 use Rattle.dutch_order.proofs.search.try_number.Goals as goal
 

@@ -1,6 +1,6 @@
 use Rattle.std.proofs.Common.{length, ◌-◌, ◌<◌, subst, arith}
 use Rattle.std.specs.List.{AllByRecursion}
-use Rattle.dutch_order.specs.Stages.{within_reach, beyond_reach}
+use Rattle.dutch_order.specs.Prelude.{within_reach, beyond_reach}
 use Rattle.dutch_order.proofs.HalfWalks.{Walked-halves, take_short}
 use Rattle.dutch_order.proofs.stage.reach_of.Goals as goal
 

@@ -1,5 +1,5 @@
 use Rattle.std.proofs.Common.{◌+◌, arith}
-use Rattle.dutch_order.specs.Stages.{value_of}
+use Rattle.dutch_order.specs.Prelude.{value_of}
 use Rattle.dutch_order.proofs.Totals.{total-step}
 use Rattle.dutch_order.proofs.sums.run_of.Goals as goal
 

@@ -1,5 +1,5 @@
 use Rattle.std.proofs.Common.{◌≡◌, ◌+◌, ◌-◌, ◌*◌, ◌≤◌}
-use Rattle.dutch_order.specs.Stages.{run}
+use Rattle.dutch_order.specs.Prelude.{run}
 use Rattle.dutch_order.proofs.sums.run_of.Given as goal
 
 abbrev pub invariant-loop-place : goal.invariant-loop-place

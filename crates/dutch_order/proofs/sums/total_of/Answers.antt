@@ -1,7 +1,6 @@
 use Rattle.std.proofs.Common.{◌<◌, arith}
 use Rattle.std.proofs.lemmas.List.{at_drop_more, at_drop_all}
-use Rattle.dutch_order.specs.Sides.{count_of}
-use Rattle.dutch_order.specs.Stages.{total, value_of}
+use Rattle.dutch_order.specs.Prelude.{count_of, total, value_of}
 use Rattle.dutch_order.proofs.Turns.{at_index}
 use Rattle.dutch_order.proofs.sums.total_of.Goals as goal
 

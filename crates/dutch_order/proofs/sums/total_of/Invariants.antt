@@ -1,5 +1,5 @@
 use Rattle.std.proofs.Common.{◌≡◌, ◌+◌, ◌*◌, ◌≤◌, drop}
-use Rattle.dutch_order.specs.Stages.{total, value_of}
+use Rattle.dutch_order.specs.Prelude.{total, value_of}
 use Rattle.dutch_order.proofs.sums.total_of.Given as goal
 
 abbrev pub invariant-loop-place : goal.invariant-loop-place

@@ -1,5 +1,5 @@
 use Rattle.std.proofs.Common.{◌≡◌, take}
-use Rattle.dutch_order.specs.TranspositionSearch.{numbers_at}
+use Rattle.dutch_order.specs.Prelude.{numbers_at}
 use Rattle.dutch_order.proofs.transposition.pick.Given as goal
 
 abbrev pub invariant-loop-place : goal.invariant-loop-place

@@ -1,7 +1,7 @@
 use Rattle.std.proofs.Common.{◌≡◌, ◌<◌, ℕ, ◌+◌, if◌then◌else◌, List, length, drop, get_or, arith, ap, ◌∙◌}
 use Rattle.std.proofs.lemmas.Bool.{eq-eqb, ne_eqb}
 use Rattle.std.proofs.lemmas.List.{at_drop_more, at_drop_all}
-use Rattle.dutch_order.specs.TranspositionSearch.{place_in}
+use Rattle.dutch_order.specs.Prelude.{place_in}
 use Rattle.dutch_order.proofs.transposition.place_in.Goals as goal
 
 -- the number is the next of the pool

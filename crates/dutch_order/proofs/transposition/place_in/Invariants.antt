@@ -1,5 +1,5 @@
 use Rattle.std.proofs.Common.{◌≡◌, ◌+◌, drop}
-use Rattle.dutch_order.specs.TranspositionSearch.{place_in}
+use Rattle.dutch_order.specs.Prelude.{place_in}
 use Rattle.dutch_order.proofs.transposition.place_in.Given as goal
 
 abbrev pub invariant-loop-other : goal.invariant-loop-other

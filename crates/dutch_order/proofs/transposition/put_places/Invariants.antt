@@ -1,5 +1,5 @@
 use Rattle.std.proofs.Common.{◌≡◌, take}
-use Rattle.dutch_order.specs.TranspositionSearch.{places_in}
+use Rattle.dutch_order.specs.Prelude.{places_in}
 use Rattle.dutch_order.proofs.transposition.put_places.Given as goal
 
 abbrev pub invariant-loop-number : goal.invariant-loop-number

@@ -1,9 +1,9 @@
 -- Some candidate grants the wish where some of those to come does.
 use Rattle.std.proofs.Common.{◌≡◌, length}
 use Rattle.std.specs.List.{list_any}
-use Rattle.dutch_order.specs.Steps.{Spends}
-use Rattle.dutch_bracket.specs.InContext.{candidates_here, frame_here}
-use Rattle.dutch_choice.specs.Wishes.{grants}
+use Rattle.dutch_order.specs.Prelude.{Spends}
+use Rattle.dutch_bracket.specs.Prelude.{candidates_here, frame_here}
+use Rattle.dutch_choice.specs.Prelude.{grants}
 use Rattle.dutch_pair.proofs.instead.is_granted.Given as goal
 
 abbrev pub decreases-loop-candidate : goal.decreases-loop-candidate

@@ -1,7 +1,7 @@
 -- With none of the numbers of moved-down players tried so far a candidate grants the wish.
 use Rattle.std.proofs.Common.{◌≤◌}
-use Rattle.dutch_order.specs.Steps.{Spends}
-use Rattle.dutch_choice.specs.Wishes.{NoneGrants}
+use Rattle.dutch_order.specs.Prelude.{Spends}
+use Rattle.dutch_choice.specs.Prelude.{NoneGrants}
 use Rattle.dutch_pair.proofs.instead.is_granted_within.Given as goal
 
 abbrev pub decreases-loop-mdps : goal.decreases-loop-mdps

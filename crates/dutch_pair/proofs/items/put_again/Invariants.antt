@@ -1,9 +1,7 @@
 -- The seats put so far, and those of the pairs to come, make them all.
 use Rattle.std.proofs.Common.{◌≡◌, ◌+◌, ◌≤◌, ℕ, List, drop, map, filter}
 use Rattle.arrayvec.specs.ArrayVec.{array_vec_len}
-use Rattle.dutch_bracket.specs.Items.{seats_of}
-use Rattle.dutch_bracket.specs.Quality.{again, placed_all}
-use Rattle.dutch_bracket.specs.Seated.{goes, is_uneven}
+use Rattle.dutch_bracket.specs.Prelude.{seats_of, again, placed_all, goes, is_uneven}
 use Rattle.dutch_pair.proofs.items.put_again.Given as goal
 
 abbrev pub invariant-loop-pair : goal.invariant-loop-pair

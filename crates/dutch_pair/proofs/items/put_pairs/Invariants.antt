@@ -1,8 +1,7 @@
 -- The seats put so far, and those of the pairs to come, make them all.
 use Rattle.std.proofs.Common.{◌≡◌, ◌+◌, ◌*◌, ◌≤◌, drop}
 use Rattle.arrayvec.specs.ArrayVec.{array_vec_len}
-use Rattle.dutch_bracket.specs.Items.{those_in_pairs}
-use Rattle.dutch_bracket.specs.Quality.{misses, placed_all}
+use Rattle.dutch_bracket.specs.Prelude.{those_in_pairs, misses, placed_all}
 use Rattle.dutch_pair.proofs.items.put_pairs.Given as goal
 
 abbrev pub invariant-loop-pair : goal.invariant-loop-pair

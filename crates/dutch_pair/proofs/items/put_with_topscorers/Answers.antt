@@ -1,6 +1,6 @@
 -- The players of one pair more are put.
 use Rattle.std.proofs.Common.{◌<◌, length, sym, ◌∙◌, arith}
-use Rattle.dutch_bracket.specs.Quality.{misses}
+use Rattle.dutch_bracket.specs.Prelude.{misses}
 use Rattle.dutch_pair.proofs.ItemSeats.{topscorers_put}
 use Rattle.dutch_pair.proofs.items.put_with_topscorers.Goals as goal
 

@@ -1,7 +1,7 @@
 -- Those kept so far, and those to come that are below, are all who are below.
 use Rattle.std.proofs.Common.{◌≡◌, ◌≤◌, drop, filter}
 use Rattle.arrayvec.specs.ArrayVec.{array_vec_len}
-use Rattle.dutch_pair.specs.Lower.{is_below}
+use Rattle.dutch_pair.specs.Prelude.{is_below}
 use Rattle.dutch_pair.proofs.LowerLemmas.{kept_along}
 use Rattle.dutch_pair.proofs.lower.those_below.Given as goal
 

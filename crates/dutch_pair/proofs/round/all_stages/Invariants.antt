@@ -1,8 +1,7 @@
 -- The stages so far and the brackets of the rest of the round are those of the whole round.
 use Rattle.std.proofs.Common.{◌≡◌, ◌++◌, length, map}
 use Rattle.std.specs.List.{AllByRecursion}
-use Rattle.dutch_pair.specs.Outcomes.{IsStage, visit}
-use Rattle.dutch_pair.specs.Round.{round}
+use Rattle.dutch_pair.specs.Prelude.{IsStage, visit, round}
 use Rattle.dutch_pair.proofs.RoundEnds.{bye_in}
 use Rattle.dutch_pair.proofs.round.all_stages.Given as goal
 

@@ -1,9 +1,8 @@
 -- At the end of the walk all brackets are passed.
 use Rattle.std.proofs.Common.{◌≡◌, ◌+◌, true, false, Option, Some, None, is_some, length, refl, subst, arith}
-use Rattle.dutch_player.specs.Facts.{Facts}
+use Rattle.dutch_player.specs.Prelude.{Facts}
 use Rattle.dutch_pair.specs.declared.stage.Stage.{Stage}
-use Rattle.dutch_pair.specs.Round.{round}
-use Rattle.dutch_pair.specs.Stages.{GoesOn}
+use Rattle.dutch_pair.specs.Prelude.{round, GoesOn}
 use Rattle.dutch_pair.proofs.RoundEnds.{none_past}
 use Rattle.dutch_pair.proofs.round.found.Goals as goal
 

@@ -1,9 +1,8 @@
 -- The pairs so far in front of those of the rest of the round are those of the whole round.
 use Rattle.std.proofs.Common.{◌≡◌, length, option_map}
 use Rattle.std.specs.List.{AllByRecursion}
-use Rattle.dutch_bracket.specs.Seated.{IsPair}
-use Rattle.dutch_pair.specs.Round.{round}
-use Rattle.dutch_pair.specs.Stages.{in_front}
+use Rattle.dutch_bracket.specs.Prelude.{IsPair}
+use Rattle.dutch_pair.specs.Prelude.{round, in_front}
 use Rattle.dutch_pair.proofs.round.paired.Given as goal
 
 abbrev pub invariant-loop-pairs : goal.invariant-loop-pairs

@@ -1,11 +1,8 @@
 -- What comes next behind a stage that is settled.
 use Rattle.std.proofs.Common.{◌+◌, ◌≤◌, ℕ, List, [], length, ap, sym, ◌∙◌, subst, arith}
 use Rattle.dutch_bracket.specs.declared.reached.BracketKind.TheVariants.{Collapsed}
-use Rattle.dutch_bracket.specs.Reached.{Reached}
-use Rattle.dutch_bracket.specs.Brackets.{bracket}
-use Rattle.dutch_pair.specs.Stages.{choice_of}
-use Rattle.dutch_pair.specs.Walk.{Goes}
-use Rattle.dutch_pair.specs.WaysOut.{GoesOut, StandsBefore}
+use Rattle.dutch_bracket.specs.Prelude.{Reached, bracket}
+use Rattle.dutch_pair.specs.Prelude.{choice_of, Goes, GoesOut, StandsBefore}
 use Rattle.dutch_pair.proofs.NoDeadEnd.{ordinary_out}
 use Rattle.dutch_order.specs.declared.numbers.TheConstants.{LIMIT}
 use Rattle.dutch_pair.proofs.WalkEnds.{down_seats, few_left, left_few, left_is, numbers_left}

@@ -1,9 +1,7 @@
 -- The bracket of the first scoregroup comes next, and the round from it on is that of the seats that are left.
 use Rattle.std.proofs.Common.{◌≡◌, ◌+◌, ◌≤◌, List, ℕ, length, ap, sym, ◌∙◌, subst}
-use Rattle.dutch_bracket.specs.Reached.{Reached}
-use Rattle.dutch_bracket.specs.Brackets.{bracket}
-use Rattle.dutch_pair.specs.Stages.{group_kind, round_by}
-use Rattle.dutch_pair.specs.WaysOut.{StandsBefore}
+use Rattle.dutch_bracket.specs.Prelude.{Reached, bracket}
+use Rattle.dutch_pair.specs.Prelude.{group_kind, round_by, StandsBefore}
 use Rattle.dutch_order.specs.declared.numbers.TheConstants.{LIMIT}
 use Rattle.dutch_pair.proofs.GroupWalk.{IsParted, group_round, moved_inside, parted_by, parted_few, rest_inside, some_by_test}
 use Rattle.dutch_pair.proofs.WalkSteps.{stands_group}

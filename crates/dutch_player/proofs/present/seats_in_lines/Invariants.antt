@@ -1,7 +1,6 @@
 use Rattle.std.proofs.Common.{◌≡◌, ◌≤◌, ◌+◌, ◌++◌, map, length, vec_len}
-use Rattle.trf16.specs.Sheet.{entry_of}
-use Rattle.dutch_player.specs.SeatOf.{facts_in}
-use Rattle.dutch_player.specs.Facts.{seats_of}
+use Rattle.trf16.specs.Prelude.{entry_of}
+use Rattle.dutch_player.specs.Prelude.{facts_in, seats_of}
 use Rattle.dutch_player.proofs.present.seats_in_lines.Given as goal
 use Rattle.trf16.specs.declared.limits.TheConstants.{MOST_PLAYERS}
 

@@ -1,7 +1,6 @@
 use Rattle.std.proofs.Common.{◌≡◌, map, drop}
 use Rattle.std.specs.List.{position_from}
-use Rattle.dutch_player.specs.SeatOf.{facts_in}
-use Rattle.dutch_player.specs.StartRanks.{has_start}
+use Rattle.dutch_player.specs.Prelude.{facts_in, has_start}
 use Rattle.dutch_player.proofs.start_rank.place_of.Given as goal
 
 abbrev pub invariant-loop-i : goal.invariant-loop-i

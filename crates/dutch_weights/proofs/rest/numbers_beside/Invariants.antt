@@ -1,6 +1,6 @@
 -- The numbers that were put are those of players, and no more than were looked at.
 use Rattle.std.proofs.Common.{◌≤◌, All, length}
-use Rattle.dutch_weights.specs.ScopedCosts.{IsReached}
+use Rattle.dutch_weights.specs.Prelude.{IsReached}
 use Rattle.dutch_weights.proofs.rest.numbers_beside.Given as goal
 
 abbrev pub invariant-loop-above : goal.invariant-loop-above

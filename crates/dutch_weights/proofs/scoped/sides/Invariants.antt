@@ -1,6 +1,6 @@
 -- The sides so far are told, one for each number.
 use Rattle.std.proofs.Common.{◌≡◌, length}
-use Rattle.dutch_weights.specs.ScopedCosts.{TellsSides}
+use Rattle.dutch_weights.specs.Prelude.{TellsSides}
 use Rattle.dutch_weights.proofs.scoped.sides.Given as goal
 
 abbrev pub invariant-loop-place : goal.invariant-loop-place

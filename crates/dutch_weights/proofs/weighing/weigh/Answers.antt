@@ -1,9 +1,6 @@
 -- What is said of the next bracket has no part in a weight without it.
 use Rattle.std.proofs.Common.{[], ◌^◌, ◌∙◌, ap}
-use Rattle.dutch_bracket.specs.NextBracket.{no_value}
-use Rattle.dutch_bracket.specs.Quality.{quality_with}
-use Rattle.dutch_bracket.specs.QualityIn.{next_in, quality_in}
-use Rattle.dutch_bracket.specs.Weights.{weight_with}
+use Rattle.dutch_bracket.specs.Prelude.{no_value, quality_with, next_in, quality_in, weight_with}
 use Rattle.dutch_weights.proofs.ScaleLemmas.{some_of_same}
 use Rattle.dutch_weights.proofs.WeighingLemmas.{next_is_idle}
 use Rattle.dutch_weights.proofs.weighing.weigh.Goals as goal

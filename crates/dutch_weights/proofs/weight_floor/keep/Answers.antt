@@ -1,7 +1,7 @@
 -- One floor more is behind those that hold.
 use Rattle.std.proofs.Common.{List, All, sym, subst}
 use Rattle.std.proofs.lemmas.List.Elements.{All-push}
-use Rattle.dutch_weights.specs.WeightFloors.{IsWeightFloor, ScopedFloor}
+use Rattle.dutch_weights.specs.Prelude.{IsWeightFloor, ScopedFloor}
 use Rattle.dutch_weights.proofs.weight_floor.keep.Goals as goal
 
 pub returns-in_err-push : goal.returns-in_err-push

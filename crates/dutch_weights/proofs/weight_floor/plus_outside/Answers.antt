@@ -1,7 +1,7 @@
 -- One more is met, or passed over and added.
 use Rattle.std.proofs.Common.{◌+◌, ◌-◌, drop, sum_by, ap, arith}
-use Rattle.dual.specs.Floors.{extra_left_in}
-use Rattle.dutch_weights.specs.WeightFloors.{passed_over}
+use Rattle.dual.specs.Prelude.{extra_left_in}
+use Rattle.dutch_weights.specs.Prelude.{passed_over}
 use Rattle.dutch_weights.proofs.BoundSums.{at_most_one, one_more}
 use Rattle.dutch_weights.proofs.weight_floor.plus_outside.Goals as goal
 

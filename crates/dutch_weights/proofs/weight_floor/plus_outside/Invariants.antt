@@ -1,7 +1,7 @@
 -- The sum so far and what those to come add whom S1 passes over are the sum of all.
 use Rattle.std.proofs.Common.{◌≡◌, ◌+◌, ◌-◌, ◌≤◌, drop, sum_by}
-use Rattle.dual.specs.Floors.{extra_left_in}
-use Rattle.dutch_weights.specs.WeightFloors.{passed_over}
+use Rattle.dual.specs.Prelude.{extra_left_in}
+use Rattle.dutch_weights.specs.Prelude.{passed_over}
 use Rattle.dutch_weights.proofs.weight_floor.plus_outside.Given as goal
 
 abbrev pub invariant-loop-above : goal.invariant-loop-above

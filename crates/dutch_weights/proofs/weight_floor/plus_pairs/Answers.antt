@@ -1,6 +1,6 @@
 -- No pair is to come at the end of the shorter list.
 use Rattle.std.proofs.Common.{◌≤◌, length, min, subst, arith}
-use Rattle.dual.specs.Floors.{extra_in}
+use Rattle.dual.specs.Prelude.{extra_in}
 use Rattle.dutch_weights.proofs.BoundSums.{no_pair}
 use Rattle.dutch_weights.proofs.weight_floor.plus_pairs.Goals as goal
 

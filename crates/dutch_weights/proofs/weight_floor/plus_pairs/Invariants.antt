@@ -1,7 +1,7 @@
 -- The sum so far and what the pairs to come add are the sum of all.
 use Rattle.std.proofs.Common.{◌≡◌, ◌+◌, drop, sum_by}
 use Rattle.std.specs.List.{zip}
-use Rattle.dual.specs.Floors.{extra_in}
+use Rattle.dual.specs.Prelude.{extra_in}
 use Rattle.dutch_weights.proofs.weight_floor.plus_pairs.Given as goal
 
 abbrev pub invariant-loop-i : goal.invariant-loop-i

@@ -1,6 +1,6 @@
 -- Those left over are numbers of the bracket, and players of the field.
 use Rattle.std.proofs.Common.{◌∙◌, ap}
-use Rattle.dutch_order.specs.Candidates.{Candidate}
+use Rattle.dutch_order.specs.Prelude.{Candidate}
 use Rattle.explained.proofs.StageLemmas.{left_is_number, left_is_seat}
 use Rattle.explained.proofs.bracket_lines.put_byes.Goals as goal
 

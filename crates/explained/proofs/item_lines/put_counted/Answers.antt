@@ -1,8 +1,7 @@
 -- The count, who counts, and the end of the line.
 use Rattle.std.proofs.Common.{◌≡◌, ◌∙◌, ◌==◌, false, ap, arith, string_bytes}
 use Rattle.std.proofs.lemmas.Bool.Decides.{nat_tests}
-use Rattle.dutch_bracket.specs.Items.{players_counted}
-use Rattle.dutch_bracket.specs.QualityIn.{quality_in}
+use Rattle.dutch_bracket.specs.Prelude.{players_counted, quality_in}
 use Rattle.dutch_bracket.specs.declared.quality.Quality.{Quality}
 use Rattle.explained.proofs.JoinedTexts.{counted_joined}
 use Rattle.explained.proofs.item_lines.put_counted.Goals as goal

@@ -1,6 +1,6 @@
 -- Each candidate that is handed out is the first of those to come.
 use Rattle.std.proofs.Common.{◌∙◌, inl, inr, refl, subst, sym}
-use Rattle.dutch_order.specs.Keys.{IsIn}
+use Rattle.dutch_order.specs.Prelude.{IsIn}
 use Rattle.pairing_tests.proofs.quality_tests.qualities.Goals as goal
 
 pub candidates_are_of_the_bracket-requires-clause-listed : goal.candidates_are_of_the_bracket-requires-clause-listed

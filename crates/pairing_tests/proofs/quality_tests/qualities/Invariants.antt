@@ -1,9 +1,7 @@
 -- What is to come are candidates of the bracket and the shape.
 use Rattle.std.proofs.Common.{◌≡◌, length}
-use Rattle.dutch_order.specs.Arrangements.{Arrangement}
-use Rattle.dutch_order.specs.Keys.{IsIn}
-use Rattle.dutch_bracket.specs.Reached.{frame_of}
-use Rattle.dutch_bracket.specs.Brackets.{candidates_of}
+use Rattle.dutch_order.specs.Prelude.{Arrangement, IsIn}
+use Rattle.dutch_bracket.specs.Prelude.{frame_of, candidates_of}
 use Rattle.pairing_tests.proofs.quality_tests.qualities.Given as goal
 
 abbrev pub decreases-loop-candidate : goal.decreases-loop-candidate

@@ -1,6 +1,6 @@
 use Rattle.std.proofs.Common.{◌∷◌, ◌∙◌, ap, arith, get_or, sym}
 use Rattle.std.proofs.lemmas.List.{take_rest}
-use Rattle.replies.specs.Controls.{without_controls}
+use Rattle.replies.specs.Prelude.{without_controls}
 use Rattle.replies.proofs.ControlLemmas.{free_at_end, shown_more}
 use Rattle.replies.proofs.controls.without_controls.Goals as goal
 

@@ -1,5 +1,5 @@
 use Rattle.std.proofs.Common.{◌≡◌, ◌++◌, length}
-use Rattle.replies.specs.Controls.{without_controls}
+use Rattle.replies.specs.Prelude.{without_controls}
 use Rattle.replies.proofs.controls.without_controls.Given as goal
 
 abbrev pub invariant-loop-rest : goal.invariant-loop-rest

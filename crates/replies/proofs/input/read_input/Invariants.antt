@@ -1,5 +1,5 @@
 use Rattle.std.proofs.Common.{◌-◌, vec_len}
-use Rattle.replies.specs.Input.{most_read}
+use Rattle.replies.specs.Prelude.{most_read}
 use Rattle.replies.proofs.InputLemmas.{HasRead}
 use Rattle.replies.proofs.input.read_input.Given as goal
 

@@ -1,7 +1,7 @@
 use Rattle.std.proofs.Common.{◌≡◌, IfOk, string_bytes, subst, sym}
 use Rattle.report_notes.specs.NoteOf.{noted}
 use Rattle.report_notes.specs.declared.note.Note.{Note}
-use Rattle.replies.specs.NoteTexts.{front_text}
+use Rattle.replies.specs.Prelude.{front_text}
 use Rattle.replies.proofs.notes.front.Goals as goal
 
 pub returns-in-NoPlayer : goal.returns-in-NoPlayer

@@ -1,7 +1,7 @@
 use Rattle.std.proofs.Common.{◌≡◌, ◌++◌, length}
 use Rattle.report_notes.specs.Notes.{notes_of}
 use Rattle.report_notes.specs.Places.{coming}
-use Rattle.replies.specs.NoteTexts.{notes_text}
+use Rattle.replies.specs.Prelude.{notes_text}
 use Rattle.replies.proofs.notes.put_notes.Given as goal
 
 abbrev pub invariant-loop-note : goal.invariant-loop-note

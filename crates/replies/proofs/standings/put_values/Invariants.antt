@@ -1,5 +1,5 @@
 use Rattle.std.proofs.Common.{◌≡◌, ◌++◌, drop, string_bytes}
-use Rattle.replies.specs.StandingsTexts.{values_text}
+use Rattle.replies.specs.Prelude.{values_text}
 use Rattle.replies.proofs.standings.put_values.Given as goal
 
 abbrev pub invariant-loop-i : goal.invariant-loop-i

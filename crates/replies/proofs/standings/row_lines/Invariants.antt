@@ -1,5 +1,5 @@
 use Rattle.std.proofs.Common.{◌≡◌, ◌+◌, ◌++◌, drop, string_bytes}
-use Rattle.replies.specs.StandingsTexts.{rows_text}
+use Rattle.replies.specs.Prelude.{rows_text}
 use Rattle.replies.proofs.standings.row_lines.Given as goal
 
 abbrev pub invariant-loop-i : goal.invariant-loop-i

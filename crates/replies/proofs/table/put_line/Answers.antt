@@ -1,6 +1,6 @@
 use Rattle.std.proofs.Common.{List, ◌++◌, ap, ◌∙◌}
 use Rattle.std.specs.Prelude.{slice_index_or}
-use Rattle.replies.specs.Tables.{LabelFacts, gap, padded}
+use Rattle.replies.specs.Prelude.{LabelFacts, gap, padded}
 use Rattle.replies.proofs.TableLemmas.{label_more}
 use Rattle.replies.proofs.table.put_line.Goals as goal
 

@@ -1,5 +1,5 @@
 use Rattle.std.proofs.Common.{◌≡◌, ◌++◌, drop}
-use Rattle.replies.specs.Tables.{labels_text}
+use Rattle.replies.specs.Prelude.{labels_text}
 use Rattle.replies.proofs.table.put_line.Given as goal
 
 abbrev pub invariant-loop-i : goal.invariant-loop-i

@@ -1,5 +1,5 @@
 use Rattle.std.proofs.Common.{◌≡◌, take, flat_map}
-use Rattle.replies.specs.Tables.{labels_text, widths}
+use Rattle.replies.specs.Prelude.{labels_text, widths}
 use Rattle.replies.proofs.table.table.Given as goal
 
 abbrev pub invariant-loop-line : goal.invariant-loop-line

@@ -1,5 +1,5 @@
 use Rattle.std.proofs.Common.{◌≡◌, max, drop}
-use Rattle.replies.specs.Tables.{widest}
+use Rattle.replies.specs.Prelude.{widest}
 use Rattle.replies.proofs.table.widest.Given as goal
 
 abbrev pub invariant-loop-line : goal.invariant-loop-line

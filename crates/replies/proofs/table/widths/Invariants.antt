@@ -1,5 +1,5 @@
 use Rattle.std.proofs.Common.{◌≡◌}
-use Rattle.replies.specs.Tables.{widths}
+use Rattle.replies.specs.Prelude.{widths}
 use Rattle.replies.proofs.table.widths.Given as goal
 
 abbrev pub invariant-loop-column : goal.invariant-loop-column

@@ -1,5 +1,5 @@
 use Rattle.std.proofs.Common.{◌≡◌, ◌+◌, ◌++◌, drop}
-use Rattle.replies.specs.WallTexts.{boards_labels}
+use Rattle.replies.specs.Prelude.{boards_labels}
 use Rattle.replies.proofs.wall.boards.Given as goal
 
 abbrev pub invariant-loop-i : goal.invariant-loop-i

@@ -1,5 +1,5 @@
 use Rattle.std.proofs.Common.{◌≡◌, ◌++◌, drop}
-use Rattle.replies.specs.WallTexts.{values_labels}
+use Rattle.replies.specs.Prelude.{values_labels}
 use Rattle.replies.proofs.wall.push_values.Given as goal
 
 abbrev pub invariant-loop-i : goal.invariant-loop-i

@@ -1,5 +1,5 @@
 use Rattle.std.proofs.Common.{◌≡◌, ◌+◌, ◌++◌, drop}
-use Rattle.replies.specs.WallTexts.{rows_labels}
+use Rattle.replies.specs.Prelude.{rows_labels}
 use Rattle.replies.proofs.wall.standings.Given as goal
 
 abbrev pub invariant-loop-i : goal.invariant-loop-i

@@ -1,6 +1,5 @@
 use Rattle.std.proofs.Common.{◌≡◌, ℕ, ◌<◌, ◌+◌, true, false, sym, subst, ◌∙◌}
-use Rattle.trf16.specs.Sheet.{cell_in, rounds_played}
-use Rattle.trf16.specs.Unfinished.{is_unfinished}
+use Rattle.trf16.specs.Prelude.{cell_in, rounds_played, is_unfinished}
 use Rattle.report_notes.proofs.GameLemmas.{here, further}
 use Rattle.report_notes.proofs.games.next_unfinished.Goals as goal
 

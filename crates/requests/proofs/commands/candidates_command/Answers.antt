@@ -1,6 +1,6 @@
 use Rattle.std.proofs.Common.{◌≡◌, ◌∙◌, IfOk, ap, subst}
 use Rattle.clap.specs.Words.{App, app_of}
-use Rattle.requests.specs.CommandLine.{bye_rule, candidates_app, with_bracket_rules, with_option, with_round_rules}
+use Rattle.requests.specs.Prelude.{bye_rule, candidates_app, with_bracket_rules, with_option, with_round_rules}
 use Rattle.requests.proofs.commands.candidates_command.Goals as goal
 
 pub returns-clause-app : goal.returns-clause-app

@@ -1,6 +1,6 @@
 use Rattle.std.proofs.Common.{◌≡◌, ◌∙◌, IfOk, ap, subst}
 use Rattle.clap.specs.Words.{App, app_of}
-use Rattle.requests.specs.CommandLine.{bye_rule, standings_app, with_option, with_table_rules}
+use Rattle.requests.specs.Prelude.{bye_rule, standings_app, with_option, with_table_rules}
 use Rattle.requests.proofs.commands.standings_command.Goals as goal
 
 pub returns-clause-app : goal.returns-clause-app

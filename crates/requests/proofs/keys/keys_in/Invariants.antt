@@ -1,7 +1,6 @@
 use Rattle.std.proofs.Common.{◌≡◌, ◌+◌, length, option_map}
 use Rattle.std.specs.Option.{option_map_or}
-use Rattle.requests.specs.KeySteps.{names_left}
-use Rattle.requests.specs.Keys.{keys_in}
+use Rattle.requests.specs.Prelude.{names_left, keys_in}
 use Rattle.requests.proofs.KeyRule.{keys_onto}
 use Rattle.requests.proofs.keys.keys_in.Given as goal
 

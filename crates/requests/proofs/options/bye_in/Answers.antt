@@ -1,7 +1,7 @@
 use Rattle.std.proofs.Common.{◌∙◌, ap, arith, codes, rules}
 use Rattle.std.specs.Prelude.{unwrap_or}
 use Rattle.clap.specs.Words.{found_of, rows_of}
-use Rattle.requests.specs.Options.{u16_max}
+use Rattle.requests.specs.Prelude.{u16_max}
 use Rattle.requests.proofs.OptionLemmas.{number_kept}
 use Rattle.requests.proofs.options.bye_in.Goals as goal
 

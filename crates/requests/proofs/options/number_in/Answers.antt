@@ -1,7 +1,7 @@
 use Rattle.std.proofs.Common.{lit<, refl}
 use Rattle.std.specs.Str.Parse.{ExplainsUnsignedError, HasUnsignedDigitsIfOk, ParsesUnsigned}
 use Rattle.clap.specs.Words.{found_of}
-use Rattle.requests.specs.Options.{u16_max}
+use Rattle.requests.specs.Prelude.{u16_max}
 use Rattle.requests.proofs.OptionLemmas.{number_read}
 use Rattle.requests.proofs.options.number_in.Goals as goal
 

@@ -2,7 +2,7 @@ use Rattle.std.proofs.Common.{◌∙◌, ap, lit<, refl, codes}
 use Rattle.std.specs.Prelude.{unwrap_or}
 use Rattle.std.specs.Str.Parse.{ExplainsUnsignedError, HasUnsignedDigitsIfOk, ParsesUnsigned}
 use Rattle.clap.specs.Words.{found_of}
-use Rattle.requests.specs.Options.{u64_max}
+use Rattle.requests.specs.Prelude.{u64_max}
 use Rattle.requests.proofs.OptionLemmas.{number_read}
 use Rattle.requests.proofs.options.steps_in.Goals as goal
 

@@ -2,7 +2,7 @@ use Rattle.std.proofs.Common.{ap, sym, ◌∙◌, subst, map}
 use Rattle.std.proofs.lemmas.Result.{IfOk-weaker}
 use Rattle.clap.specs.Words.{App, HasKind, fault_of, is_simple_and_free}
 use Rattle.clap.proofs.WalkLemmas.{both}
-use Rattle.requests.specs.Words.{ComesTo}
+use Rattle.requests.specs.Prelude.{ComesTo}
 use Rattle.requests.proofs.RequestLemmas.{no_words_without}
 use Rattle.requests.proofs.WordLemmas.{accepted_words, simple_and_free, told_of_words}
 use Rattle.requests.proofs.words.read_words.Goals as goal

@@ -1,5 +1,5 @@
 use Rattle.std.proofs.Common.{◌∙◌, ap, sym, Some, None}
-use Rattle.requests.specs.Words.{task_by}
+use Rattle.requests.specs.Prelude.{task_by}
 use Rattle.requests.proofs.WordLemmas.{entered_rows}
 use Rattle.requests.proofs.words.task_in.Goals as goal
 

@@ -1,6 +1,6 @@
 use Rattle.std.proofs.Common.{◌≡◌, ◌≤◌, ◌-◌, string_bytes}
-use Rattle.dutch_order.specs.Steps.{Spends}
-use Rattle.dutch_bracket.specs.Reached.{frame_of}
+use Rattle.dutch_order.specs.Prelude.{Spends}
+use Rattle.dutch_bracket.specs.Prelude.{frame_of}
 use Rattle.round_lines.specs.CandidateTexts.{line_text}
 use Rattle.round_lines.proofs.ListingLemmas.{IsUnderway}
 use Rattle.round_lines.proofs.listing.lines.Given as goal

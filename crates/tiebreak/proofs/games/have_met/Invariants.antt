@@ -1,7 +1,7 @@
 use Rattle.std.proofs.Common.{◌≡◌}
 use Rattle.std.specs.List.{list_any}
-use Rattle.trf16.specs.Sheet.{cell_in}
-use Rattle.tiebreak.specs.Games.{is_game_with, have_met}
+use Rattle.trf16.specs.Prelude.{cell_in}
+use Rattle.tiebreak.specs.Prelude.{is_game_with, have_met}
 use Rattle.tiebreak.proofs.RoundLemmas.{rounds_from}
 use Rattle.tiebreak.proofs.games.have_met.Given as goal
 

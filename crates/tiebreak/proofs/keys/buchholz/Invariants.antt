@@ -1,7 +1,6 @@
 use Rattle.std.proofs.Common.{◌≡◌, ◌+◌, ◌*◌, ◌≤◌}
 use Rattle.std.specs.Prelude.{sum_by}
-use Rattle.tiebreak.specs.Games.{opponent_score}
-use Rattle.tiebreak.specs.Keys.{buchholz}
+use Rattle.tiebreak.specs.Prelude.{opponent_score, buchholz}
 use Rattle.tiebreak.proofs.RoundLemmas.{rounds_from}
 use Rattle.tiebreak.proofs.keys.buchholz.Given as goal
 

@@ -1,7 +1,7 @@
 use Rattle.std.proofs.Common.{◌≡◌, ◌+◌, ◌*◌, ◌≤◌}
 use Rattle.std.specs.Prelude.{sum_by}
-use Rattle.trf16.specs.Sheet.{cell_in}
-use Rattle.tiebreak.specs.Keys.{points_against, points_among}
+use Rattle.trf16.specs.Prelude.{cell_in}
+use Rattle.tiebreak.specs.Prelude.{points_against, points_among}
 use Rattle.tiebreak.proofs.RoundLemmas.{rounds_from}
 use Rattle.tiebreak.proofs.keys.points_among.Given as goal
 

@@ -1,8 +1,7 @@
 use Rattle.std.proofs.Common.{◌≡◌, ◌+◌, ◌*◌, ◌≤◌}
 use Rattle.std.specs.Prelude.{sum_by}
-use Rattle.trf16.specs.Sheet.{cell_in, half_points}
-use Rattle.tiebreak.specs.Games.{opponent_score}
-use Rattle.tiebreak.specs.Keys.{sonneborn_berger}
+use Rattle.trf16.specs.Prelude.{cell_in, half_points}
+use Rattle.tiebreak.specs.Prelude.{opponent_score, sonneborn_berger}
 use Rattle.tiebreak.proofs.RoundLemmas.{rounds_from}
 use Rattle.tiebreak.proofs.keys.sonneborn_berger.Given as goal
 

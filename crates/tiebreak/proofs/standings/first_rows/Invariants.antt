@@ -1,6 +1,6 @@
 use Rattle.std.proofs.Common.{◌≡◌, ◌++◌, map}
-use Rattle.trf16.specs.Sheet.{entry_of}
-use Rattle.tiebreak.specs.Standings.{row_of}
+use Rattle.trf16.specs.Prelude.{entry_of}
+use Rattle.tiebreak.specs.Prelude.{row_of}
 use Rattle.tiebreak.proofs.standings.first_rows.Given as goal
 
 abbrev pub invariant-loop-player : goal.invariant-loop-player

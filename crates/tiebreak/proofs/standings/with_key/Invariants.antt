@@ -1,6 +1,5 @@
 use Rattle.std.proofs.Common.{◌≡◌, map, take}
-use Rattle.tiebreak.specs.Keys.{value_of}
-use Rattle.tiebreak.specs.Standings.{with_value}
+use Rattle.tiebreak.specs.Prelude.{value_of, with_value}
 use Rattle.tiebreak.proofs.standings.with_key.Given as goal
 
 abbrev pub invariant-loop-row : goal.invariant-loop-row

@@ -1,5 +1,5 @@
 use Rattle.std.proofs.Common.{◌≡◌, drop, map}
-use Rattle.tiebreak.specs.Standings.{row_of, with_keys}
+use Rattle.tiebreak.specs.Prelude.{row_of, with_keys}
 use Rattle.tiebreak.proofs.standings.with_keys.Given as goal
 
 abbrev pub invariant-loop-key : goal.invariant-loop-key

@@ -1,8 +1,6 @@
 use Rattle.std.proofs.Common.{◌≡◌, Ok, map, ap, sym, ◌∙◌}
 use Rattle.std.proofs.lemmas.Result.{err_from_is_err_and}
-use Rattle.trf16.specs.Sheet.{entry_of}
-use Rattle.trf16.specs.Answering.{cells_fit}
-use Rattle.trf16.specs.Summed.{all_cells_fit}
+use Rattle.trf16.specs.Prelude.{entry_of, cells_fit, all_cells_fit}
 use Rattle.trf16.proofs.ReadingLemmas.{Fails-on}
 use Rattle.trf16.proofs.AnsweringLemmas.{all_cells-more, all_cells-fail, all_cells-end}
 use Rattle.trf16.proofs.answering.all_cells_fit.Goals as goal

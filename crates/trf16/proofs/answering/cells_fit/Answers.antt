@@ -1,7 +1,7 @@
 use Rattle.std.proofs.Common.{◌+◌, sym, ◌∙◌, get_or}
 use Rattle.std.proofs.lemmas.Result.{err_from_is_err_and}
 use Rattle.trf16.specs.declared.cell.Cell.TheVariants.{Blank}
-use Rattle.trf16.specs.Answering.{cell_fits, cells_fit}
+use Rattle.trf16.specs.Prelude.{cell_fits, cells_fit}
 use Rattle.trf16.proofs.ReadingLemmas.{Fails-on}
 use Rattle.trf16.proofs.AnsweringLemmas.{cells-more, cells-fail, cells-end}
 use Rattle.trf16.proofs.answering.cells_fit.Goals as goal

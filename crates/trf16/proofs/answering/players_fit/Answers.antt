@@ -1,7 +1,6 @@
 use Rattle.std.proofs.Common.{map, ap, sym, ◌∙◌}
 use Rattle.std.proofs.lemmas.Result.{err_from_is_err_and}
-use Rattle.trf16.specs.Sheet.{entry_of}
-use Rattle.trf16.specs.Answering.{player_fits, players_fit}
+use Rattle.trf16.specs.Prelude.{entry_of, player_fits, players_fit}
 use Rattle.trf16.proofs.ReadingLemmas.{Fails-on}
 use Rattle.trf16.proofs.AnsweringLemmas.{players-more, players-fail, players-end}
 use Rattle.trf16.proofs.answering.players_fit.Goals as goal

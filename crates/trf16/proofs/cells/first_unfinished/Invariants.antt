@@ -1,5 +1,5 @@
 use Rattle.std.proofs.Common.{◌≡◌, ◌+◌, drop}
-use Rattle.trf16.specs.Unfinished.{first_unfinished}
+use Rattle.trf16.specs.Prelude.{first_unfinished}
 use Rattle.trf16.proofs.cells.first_unfinished.Given as goal
 
 abbrev pub invariant-loop-i : goal.invariant-loop-i

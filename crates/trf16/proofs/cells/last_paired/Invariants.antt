@@ -1,5 +1,5 @@
 use Rattle.std.proofs.Common.{◌≡◌, ◌≤◌, take}
-use Rattle.trf16.specs.Sheet.{last_paired}
+use Rattle.trf16.specs.Prelude.{last_paired}
 use Rattle.trf16.proofs.cells.last_paired.Given as goal
 
 abbrev pub invariant-loop-i : goal.invariant-loop-i

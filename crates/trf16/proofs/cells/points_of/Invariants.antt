@@ -1,6 +1,6 @@
 use Rattle.std.proofs.Common.{◌≡◌, ◌≤◌, ◌*◌, take}
 use Rattle.std.specs.Prelude.{sum_by}
-use Rattle.trf16.specs.Sheet.{half_points}
+use Rattle.trf16.specs.Prelude.{half_points}
 use Rattle.trf16.proofs.cells.points_of.Given as goal
 
 abbrev pub invariant-loop-cell : goal.invariant-loop-cell

@@ -1,5 +1,5 @@
 use Rattle.std.proofs.Common.{rules, ap, ◌∙◌, arith}
-use Rattle.trf16.specs.Lines.{columns}
+use Rattle.trf16.specs.Prelude.{columns}
 use Rattle.trf16.proofs.ColumnLemmas.{columns-less, columns-few}
 use Rattle.trf16.proofs.columns.column_count.Goals as goal
 

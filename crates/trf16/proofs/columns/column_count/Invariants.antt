@@ -1,5 +1,5 @@
 use Rattle.std.proofs.Common.{◌≡◌, ◌+◌, length}
-use Rattle.trf16.specs.Lines.{columns}
+use Rattle.trf16.specs.Prelude.{columns}
 use Rattle.trf16.proofs.columns.column_count.Given as goal
 
 abbrev pub invariant-loop-rest : goal.invariant-loop-rest

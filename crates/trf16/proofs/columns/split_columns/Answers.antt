@@ -1,6 +1,5 @@
 use Rattle.std.proofs.Common.{◌≡◌, ◌≤◌, length, drop, subst, ap, ◌∙◌, arith}
-use Rattle.trf16.specs.Lines.{columns}
-use Rattle.trf16.specs.Steps.{IsStart}
+use Rattle.trf16.specs.Prelude.{columns, IsStart}
 use Rattle.trf16.proofs.ColumnLemmas.{IsFirst, IsStart-next, joined-behind}
 use Rattle.trf16.proofs.columns.split_columns.Goals as goal
 

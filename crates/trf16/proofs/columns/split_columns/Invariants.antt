@@ -1,4 +1,4 @@
-use Rattle.trf16.specs.Steps.{IsStart}
+use Rattle.trf16.specs.Prelude.{IsStart}
 use Rattle.trf16.proofs.columns.split_columns.Given as goal
 
 abbrev pub invariant-loop : goal.invariant-loop

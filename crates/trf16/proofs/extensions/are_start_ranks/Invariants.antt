@@ -1,6 +1,5 @@
 use Rattle.std.proofs.Common.{◌≡◌, length}
-use Rattle.trf16.specs.Fields.{words}
-use Rattle.trf16.specs.Extensions.{are_start_ranks}
+use Rattle.trf16.specs.Prelude.{words, are_start_ranks}
 use Rattle.trf16.proofs.extensions.are_start_ranks.Given as goal
 
 abbrev pub invariant-loop-word : goal.invariant-loop-word

@@ -1,6 +1,5 @@
 use Rattle.std.proofs.Common.{◌≡◌, length}
-use Rattle.trf16.specs.Fields.{words}
-use Rattle.trf16.specs.Extensions.{colour_behind_all}
+use Rattle.trf16.specs.Prelude.{words, colour_behind_all}
 use Rattle.trf16.proofs.extensions.colour_behind_all.Given as goal
 
 abbrev pub invariant-loop-word : goal.invariant-loop-word

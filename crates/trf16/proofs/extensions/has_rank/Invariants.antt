@@ -1,8 +1,7 @@
 use Rattle.std.proofs.Common.{◌≡◌, length}
 use Rattle.std.specs.Prelude.{codes}
 use Rattle.std.specs.List.{list_any}
-use Rattle.trf16.specs.Fields.{words}
-use Rattle.trf16.specs.Extensions.{is_word}
+use Rattle.trf16.specs.Prelude.{words, is_word}
 use Rattle.trf16.proofs.extensions.has_rank.Given as goal
 
 abbrev pub invariant-loop-word : goal.invariant-loop-word

@@ -1,6 +1,5 @@
 use Rattle.std.proofs.Common.{◌≡◌, length}
-use Rattle.trf16.specs.Fields.{words}
-use Rattle.trf16.specs.Extensions.{is_named}
+use Rattle.trf16.specs.Prelude.{words, is_named}
 use Rattle.trf16.proofs.extensions.is_named.Given as goal
 
 abbrev pub invariant-loop-word : goal.invariant-loop-word

@@ -1,5 +1,5 @@
 use Rattle.std.proofs.Common.{◌≡◌, drop}
-use Rattle.trf16.specs.Fields.{words}
+use Rattle.trf16.specs.Prelude.{words}
 use Rattle.trf16.proofs.fields.blank_len.Given as goal
 
 abbrev pub invariant-loop-i : goal.invariant-loop-i

@@ -1,7 +1,7 @@
 use Rattle.std.proofs.Common.{◌≡◌, ◌^◌, ◌+◌, ◌≤◌, drop, true}
 use Rattle.std.specs.Char.{is_ascii_digit}
 use Rattle.std.specs.List.{list_all}
-use Rattle.trf16.specs.Fields.{number_after}
+use Rattle.trf16.specs.Prelude.{number_after}
 use Rattle.trf16.proofs.fields.number_after.Given as goal
 
 abbrev pub invariant-loop-digit : goal.invariant-loop-digit

@@ -1,5 +1,5 @@
 use Rattle.std.proofs.Common.{◌≡◌, ◌^◌, ◌+◌, ◌≤◌, drop}
-use Rattle.trf16.specs.Fields.{points_after}
+use Rattle.trf16.specs.Prelude.{points_after}
 use Rattle.trf16.proofs.fields.points_after.Given as goal
 
 abbrev pub invariant-loop-i : goal.invariant-loop-i

@@ -1,5 +1,5 @@
 use Rattle.std.proofs.Common.{◌≡◌, ◌≤◌, take}
-use Rattle.trf16.specs.Fields.{trimmed}
+use Rattle.trf16.specs.Prelude.{trimmed}
 use Rattle.trf16.proofs.fields.trimmed.Given as goal
 
 abbrev pub invariant-loop-i : goal.invariant-loop-i

@@ -1,5 +1,5 @@
 use Rattle.std.proofs.Common.{◌≡◌, drop}
-use Rattle.trf16.specs.Fields.{without_blanks}
+use Rattle.trf16.specs.Prelude.{without_blanks}
 use Rattle.trf16.proofs.fields.without_blanks.Given as goal
 
 abbrev pub invariant-loop-i : goal.invariant-loop-i

@@ -1,5 +1,5 @@
 use Rattle.std.proofs.Common.{◌≡◌, length}
-use Rattle.trf16.specs.Lines.{without_marks}
+use Rattle.trf16.specs.Prelude.{without_marks}
 use Rattle.trf16.proofs.lines.skip_marks.Given as goal
 
 abbrev pub invariant-loop-rest : goal.invariant-loop-rest

@@ -2,7 +2,7 @@ use Rattle.std.proofs.Common.{◌≡◌, ℕ, ◌==◌, false, length, slice_ind
 use Rattle.std.specs.Map.{keys_of}
 use Rattle.std.specs.Option.{option_map_or}
 use Rattle.std.proofs.lemmas.Map.Entries.{length-keys_of}
-use Rattle.trf16.specs.Fields.{number_of}
+use Rattle.trf16.specs.Prelude.{number_of}
 use Rattle.trf16.proofs.MarkLemmas.{place_tells}
 use Rattle.trf16.proofs.named.place_of.Goals as goal
 

@@ -1,7 +1,7 @@
 -- The marks so far: those at the places in front are away.
 use Rattle.std.proofs.Common.{◌≡◌, ℕ, ◌&&◌, not, false, slice_index_or}
 use Rattle.std.specs.Prelude.{take}
-use Rattle.trf16.specs.Places.{is_place}
+use Rattle.trf16.specs.Prelude.{is_place}
 use Rattle.trf16.proofs.named.unmark.Given as goal
 
 abbrev pub invariant-loop-place : goal.invariant-loop-place

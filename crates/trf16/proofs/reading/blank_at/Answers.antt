@@ -1,6 +1,5 @@
 use Rattle.std.proofs.Common.{◌∙◌, ap, refl, sym}
-use Rattle.trf16.specs.Lines.{is_blank}
-use Rattle.trf16.specs.Verdict.{blank_at}
+use Rattle.trf16.specs.Prelude.{is_blank, blank_at}
 use Rattle.trf16.proofs.reading.blank_at.Goals as goal
 
 pub returns-then-is_blank : goal.returns-then-is_blank

@@ -1,6 +1,5 @@
 use Rattle.std.proofs.Common.{◌≡◌, ◌-◌, ◌++◌, List, Ok, replicate, take, vec_len, ap, sym}
-use Rattle.trf16.specs.Fields.{without_last}
-use Rattle.trf16.specs.Verdict.{cells_at, rounds_at, is_blank_cell}
+use Rattle.trf16.specs.Prelude.{without_last, cells_at, rounds_at, is_blank_cell}
 use Rattle.trf16.specs.declared.cell.Cell.{Cell}
 use Rattle.trf16.specs.declared.cell.Cell.TheVariants.{Blank}
 use Rattle.trf16.specs.declared.limits.TheConstants.{MOST_ROUNDS}

@@ -2,9 +2,7 @@ use Rattle.std.proofs.Common.{◌≡◌, ℕ, ◌<◌, nat_lt, true, length, ref
 use Rattle.std.proofs.lemmas.Bool.{le-ltb}
 use Rattle.std.proofs.lemmas.Bool.Decides.{nat_tests}
 use Rattle.std.proofs.lemmas.Result.{err_from_is_err_and}
-use Rattle.trf16.specs.Verdict.{has_too_many_rounds, laid_out, lines_onto, without_players}
-use Rattle.trf16.specs.Lines.{lines}
-use Rattle.trf16.specs.Sheet.{Sheet}
+use Rattle.trf16.specs.Prelude.{has_too_many_rounds, laid_out, lines_onto, without_players, lines, Sheet}
 use Rattle.trf16.proofs.NoteLemmas.{tells_same}
 use Rattle.trf16.proofs.ReadingLemmas.{Fails-on, laid-goes_on, laid-fails}
 use Rattle.trf16.proofs.reading.laid_out.Goals as goal

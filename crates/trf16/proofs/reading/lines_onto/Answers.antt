@@ -2,13 +2,9 @@ use Rattle.std.proofs.Common.{◌≡◌, ℕ, List, [], ◌∷◌, subst, ◌&&�
 use Rattle.std.proofs.lemmas.Bool.{eqb-true}
 use Rattle.std.proofs.lemmas.Result.{err_from_is_err_and}
 use Rattle.std.specs.Prelude.{codes}
-use Rattle.trf16.specs.Lines.{lines, columns}
-use Rattle.trf16.specs.Verdict.{is_player, is_too_long, line_onto, lines_onto, has_too_many_rounds}
+use Rattle.trf16.specs.Prelude.{lines, columns, is_player, is_too_long, line_onto, lines_onto, has_too_many_rounds, is_kind, names_absent, is_of, is_marked, first_noted, noted_first}
 use Rattle.trf16.proofs.ReadingLemmas.{Fails-on, SameText, line_onto-text, lines-go_on, lines-fail, lines-end, stays_long, becomes_long, nil_from_length}
-use Rattle.trf16.specs.Extensions.{is_kind, names_absent}
-use Rattle.trf16.specs.Absence.{is_of}
 use Rattle.trf16.specs.declared.kind.LineKind.{LineKind}
-use Rattle.trf16.specs.Notes.{is_marked, first_noted, noted_first}
 use Rattle.trf16.proofs.NoteLemmas.{AreNoted, noted-none, noted-more, noted-all}
 use Rattle.std.proofs.Math.Bool.{or-false}
 use Rattle.trf16.proofs.reading.lines_onto.Goals as goal

@@ -1,6 +1,5 @@
 use Rattle.std.proofs.Common.{◌≡◌, ◌+◌, ◌≤◌, ◌||◌, length}
-use Rattle.trf16.specs.Lines.{lines}
-use Rattle.trf16.specs.Verdict.{lines_onto, has_too_many_rounds}
+use Rattle.trf16.specs.Prelude.{lines, lines_onto, has_too_many_rounds}
 use Rattle.trf16.proofs.ReadingLemmas.{SameText}
 use Rattle.trf16.proofs.NoteLemmas.{AreNoted}
 use Rattle.trf16.proofs.reading.lines_onto.Given as goal

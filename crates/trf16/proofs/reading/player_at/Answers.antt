@@ -1,6 +1,5 @@
 use Rattle.std.proofs.Common.{refl, [], ◌∷◌}
-use Rattle.trf16.specs.Sheet.{entry_of}
-use Rattle.trf16.specs.Verdict.{blanks_at, start_at, points_at, cells_at, player_at}
+use Rattle.trf16.specs.Prelude.{entry_of, blanks_at, start_at, points_at, cells_at, player_at}
 use Rattle.trf16.proofs.ReadingLemmas.{exits}
 use Rattle.trf16.proofs.reading.player_at.Goals as goal
 

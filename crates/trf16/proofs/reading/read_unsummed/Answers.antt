@@ -1,5 +1,5 @@
 use Rattle.std.proofs.Common.{refl}
-use Rattle.trf16.specs.Summed.{all_cells_fit, verdict_unsummed}
+use Rattle.trf16.specs.Prelude.{all_cells_fit, verdict_unsummed}
 use Rattle.trf16.proofs.ReadingLemmas.{accepted-gives}
 use Rattle.trf16.proofs.reading.read_unsummed.Goals as goal
 

@@ -1,6 +1,5 @@
 use Rattle.std.proofs.Common.{refl}
-use Rattle.trf16.specs.Answering.{players_fit}
-use Rattle.trf16.specs.Verdict.{verdict}
+use Rattle.trf16.specs.Prelude.{players_fit, verdict}
 use Rattle.trf16.proofs.ReadingLemmas.{accepted-gives}
 use Rattle.trf16.proofs.reading.read_with.Goals as goal
 

@@ -1,6 +1,6 @@
 use Rattle.std.proofs.Common.{◌≡◌, ◌+◌, ◌*◌, ◌-◌, ◌<◌, drop, replicate, Ok, ap, refl, sym, ◌∙◌, vec_len, arith}
 use Rattle.std.proofs.lemmas.Result.{err_from_is_err_and}
-use Rattle.trf16.specs.Verdict.{round_at, rounds_at}
+use Rattle.trf16.specs.Prelude.{round_at, rounds_at}
 use Rattle.trf16.specs.declared.cell.Cell.TheVariants.{Blank}
 use Rattle.trf16.specs.declared.limits.TheConstants.{MOST_ROUNDS}
 use Rattle.trf16.proofs.ReadingLemmas.{behind, Fails-on, rounds-go_on, rounds-fail}

@@ -1,5 +1,5 @@
 use Rattle.std.proofs.Common.{◌≡◌, ◌≤◌, ◌-◌, vec_len}
-use Rattle.trf16.specs.Verdict.{rounds_at}
+use Rattle.trf16.specs.Prelude.{rounds_at}
 use Rattle.trf16.specs.declared.limits.TheConstants.{MOST_ROUNDS}
 use Rattle.trf16.proofs.ReadingLemmas.{behind}
 use Rattle.trf16.proofs.reading.rounds_at.Given as goal

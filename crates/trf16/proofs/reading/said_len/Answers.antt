@@ -1,6 +1,6 @@
 use Rattle.std.proofs.Common.{refl, arith}
 use Rattle.trf16.specs.declared.cell.Cell.TheVariants.{Blank}
-use Rattle.trf16.specs.Verdict.{is_blank_cell}
+use Rattle.trf16.specs.Prelude.{is_blank_cell}
 use Rattle.trf16.proofs.FieldLemmas.{without_last-more}
 use Rattle.trf16.proofs.reading.said_len.Goals as goal
 use Rattle.trf16.proofs.reading.said_len.Goals.{then-not-is_blank_cell, else-not-is_blank_cell}

@@ -1,6 +1,5 @@
 use Rattle.std.proofs.Common.{◌≡◌, ◌≤◌, take}
-use Rattle.trf16.specs.Fields.{without_last}
-use Rattle.trf16.specs.Verdict.{is_blank_cell}
+use Rattle.trf16.specs.Prelude.{without_last, is_blank_cell}
 use Rattle.trf16.proofs.reading.said_len.Given as goal
 
 abbrev pub invariant-loop-i : goal.invariant-loop-i

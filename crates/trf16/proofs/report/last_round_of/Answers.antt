@@ -1,5 +1,5 @@
 use Rattle.std.proofs.Common.{◌≡◌, ℕ, max, ◌∙◌, ap, map, List, arith}
-use Rattle.trf16.specs.Sheet.{entry_of, last_paired_of}
+use Rattle.trf16.specs.Prelude.{entry_of, last_paired_of}
 use Rattle.trf16.specs.declared.player.Player.{Player}
 use Rattle.trf16.proofs.ReportLemmas.{entries-values}
 use Rattle.trf16.proofs.report.last_round_of.Goals as goal

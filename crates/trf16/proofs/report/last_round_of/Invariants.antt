@@ -1,5 +1,5 @@
 use Rattle.std.proofs.Common.{◌≡◌, ◌≤◌, max, map}
-use Rattle.trf16.specs.Sheet.{entry_of, last_paired_of}
+use Rattle.trf16.specs.Prelude.{entry_of, last_paired_of}
 use Rattle.trf16.proofs.report.last_round_of.Given as goal
 use Rattle.trf16.specs.declared.limits.TheConstants.{MOST_ROUNDS}
 

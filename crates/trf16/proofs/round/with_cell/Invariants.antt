@@ -1,5 +1,5 @@
 use Rattle.std.proofs.Common.{◌≡◌, ◌+◌, ◌-◌, ◌≤◌, length}
-use Rattle.trf16.specs.Round.{with_cell}
+use Rattle.trf16.specs.Prelude.{with_cell}
 use Rattle.trf16.proofs.round.with_cell.Given as goal
 use Rattle.trf16.specs.declared.limits.TheConstants.{MOST_ROUNDS}
 

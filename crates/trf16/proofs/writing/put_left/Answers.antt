@@ -1,7 +1,6 @@
 use Rattle.std.proofs.Common.{ℕ, ◌≡◌, ◌-◌, ◌∙◌, ap, length}
 use Rattle.std.proofs.lemmas.Result.{err_from_is_err_and}
-use Rattle.trf16.specs.Lines.{columns}
-use Rattle.trf16.specs.Written.{blanks}
+use Rattle.trf16.specs.Prelude.{columns, blanks}
 use Rattle.trf16.proofs.OutputLemmas.{put_both, put_neither}
 use Rattle.trf16.proofs.writing.put_left.Goals as goal
 

@@ -1,7 +1,7 @@
 use Rattle.std.proofs.Common.{[], ◌∷◌}
 use Rattle.std.specs.Prelude.{decimal}
 use Rattle.std.proofs.lemmas.Result.{err_from_is_err_and}
-use Rattle.trf16.specs.Written.{right_in_four, colour_letter}
+use Rattle.trf16.specs.Prelude.{right_in_four, colour_letter}
 use Rattle.trf16.proofs.OutputLemmas.{put_both, put_neither}
 use Rattle.trf16.proofs.writing.put_meeting.Goals as goal
 

@@ -1,9 +1,7 @@
 use Rattle.std.proofs.Common.{subst}
 use Rattle.std.specs.List.{flat_map}
 use Rattle.std.proofs.lemmas.Result.{err_from_is_err_and}
-use Rattle.trf16.specs.Output.{use_of, Puts}
-use Rattle.trf16.specs.Sheet.{entry_of}
-use Rattle.trf16.specs.Written.{round_text}
+use Rattle.trf16.specs.Prelude.{use_of, Puts, entry_of, round_text}
 use Rattle.trf16.proofs.OutputLemmas.{fails_behind, put_neither, put_both}
 use Rattle.trf16.proofs.WritingLemmas.{from_right, from_points, from_left, from_number}
 use Rattle.trf16.proofs.writing.put_player.Goals as goal

@@ -1,7 +1,6 @@
 use Rattle.std.proofs.Common.{◌∷◌, []}
 use Rattle.std.proofs.lemmas.Result.{err_from_is_err_and}
-use Rattle.trf16.specs.Sheet.{entry_of}
-use Rattle.trf16.specs.Written.{player_text}
+use Rattle.trf16.specs.Prelude.{entry_of, player_text}
 use Rattle.trf16.proofs.OutputLemmas.{put_both, put_neither}
 use Rattle.trf16.proofs.writing.put_player_line.Goals as goal
 

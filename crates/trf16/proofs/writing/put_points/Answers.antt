@@ -1,6 +1,6 @@
 use Rattle.std.proofs.Common.{◌∙◌}
 use Rattle.std.proofs.lemmas.Result.{err_from_is_err_and}
-use Rattle.trf16.specs.Written.{blanks, points_text}
+use Rattle.trf16.specs.Prelude.{blanks, points_text}
 use Rattle.trf16.proofs.OutputLemmas.{put_both, put_neither}
 use Rattle.trf16.proofs.WritingLemmas.{points_room}
 use Rattle.trf16.proofs.writing.put_points.Goals as goal

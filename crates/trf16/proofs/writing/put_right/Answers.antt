@@ -1,5 +1,5 @@
 use Rattle.std.proofs.lemmas.Result.{err_from_is_err_and}
-use Rattle.trf16.specs.Written.{blanks}
+use Rattle.trf16.specs.Prelude.{blanks}
 use Rattle.trf16.proofs.OutputLemmas.{put_both, put_neither}
 use Rattle.trf16.proofs.writing.put_right.Goals as goal
 

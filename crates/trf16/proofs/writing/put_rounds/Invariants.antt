@@ -1,7 +1,6 @@
 use Rattle.std.proofs.Common.{drop}
 use Rattle.std.specs.List.{flat_map}
-use Rattle.trf16.specs.Output.{use_of}
-use Rattle.trf16.specs.Written.{round_text}
+use Rattle.trf16.specs.Prelude.{use_of, round_text}
 use Rattle.trf16.proofs.OutputLemmas.{IsPutUpTo}
 use Rattle.trf16.proofs.writing.put_rounds.Given as goal
 

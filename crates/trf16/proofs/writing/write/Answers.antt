@@ -1,12 +1,7 @@
 use Rattle.std.proofs.Common.{refl, ap, ◌∙◌, subst, map}
 use Rattle.std.specs.Prelude.{option_copied}
 use Rattle.std.proofs.lemmas.Result.{err_from_is_err_and}
-use Rattle.trf16.specs.Lines.{lines}
-use Rattle.trf16.specs.Verdict.{carried_line}
-use Rattle.trf16.specs.Sheet.{Sheet, entry_of}
-use Rattle.trf16.specs.Output.{use_of, HasText, HasPart}
-use Rattle.trf16.specs.Steps.{next_text, players_behind}
-use Rattle.trf16.specs.Written.{lines_text, written}
+use Rattle.trf16.specs.Prelude.{lines, carried_line, Sheet, entry_of, use_of, HasText, HasPart, next_text, players_behind, lines_text, written}
 use Rattle.trf16.proofs.OutputLemmas.{put_next, put_fails}
 use Rattle.trf16.proofs.WritingLemmas.{lines_next}
 use Rattle.trf16.proofs.writing.write.Goals as goal

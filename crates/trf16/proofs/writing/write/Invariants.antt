@@ -1,9 +1,5 @@
 use Rattle.std.proofs.Common.{map, length}
-use Rattle.trf16.specs.Lines.{lines}
-use Rattle.trf16.specs.Verdict.{carried_line}
-use Rattle.trf16.specs.Sheet.{entry_of}
-use Rattle.trf16.specs.Output.{use_of}
-use Rattle.trf16.specs.Written.{lines_text, written}
+use Rattle.trf16.specs.Prelude.{lines, carried_line, entry_of, use_of, lines_text, written}
 use Rattle.trf16.proofs.OutputLemmas.{IsPutUpTo}
 use Rattle.trf16.proofs.writing.write.Given as goal
 

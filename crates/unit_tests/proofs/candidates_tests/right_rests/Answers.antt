@@ -1,7 +1,6 @@
 use Rattle.std.proofs.Common.{Bool, true, false, cond, List, [], ◌∷◌, sym, subst}
 use Rattle.std.specs.List.{filter, AllByRecursion}
-use Rattle.dutch_order.specs.Arrangements.{arrangements}
-use Rattle.dutch_order.specs.Keys.{IsIn}
+use Rattle.dutch_order.specs.Prelude.{arrangements, IsIn}
 use Rattle.dutch_order.proofs.Orders.{all_members}
 use Rattle.unit_tests.proofs.candidates_tests.right_rests.Goals as goal
 

@@ -1,6 +1,6 @@
 use Rattle.std.proofs.Common.{◌+◌, ◌-◌, ◌*◌, ℕ, Bool, List, [], ◌∷◌, take, drop, refl, arith}
 use Rattle.std.specs.List.{list_any}
-use Rattle.dutch_order.specs.Choices.{subsets, is_same}
+use Rattle.dutch_order.specs.Prelude.{subsets, is_same}
 use Rattle.unit_tests.proofs.MemberLemmas.{any-in, each-at}
 use Rattle.unit_tests.proofs.order_tests.exchanges_from_each_set.Goals as goal
 

@@ -1,6 +1,6 @@
 -- The tolls so far and those to come make them all.
 use Rattle.std.proofs.Common.{◌≡◌, ◌+◌, ◌<◌, ◌^◌, drop, sum_by}
-use Rattle.dual.specs.Tables.{toll_of}
+use Rattle.dual.specs.Prelude.{toll_of}
 use Rattle.dual.proofs.check.Row.tolls.Given as goal
 
 abbrev pub invariant-loop-set : goal.invariant-loop-set

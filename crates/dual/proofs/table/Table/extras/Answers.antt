@@ -2,10 +2,7 @@
 use Rattle.std.proofs.Common.{◌≡◌, ℕ, ◌+◌, ◌*◌, ◌<◌, ◌^◌, List, ◌++◌, All, length, drop, take, get_or, refl, sym, ap, subst, ◌∙◌, arith}
 use Rattle.std.proofs.lemmas.List.{take_all, take_at}
 use Rattle.std.proofs.lemmas.List.Elements.{All-more}
-use Rattle.dual.specs.Checks.{AllBear, HasSlacks}
-use Rattle.dual.specs.Duals.{Certificate}
-use Rattle.dual.specs.Matchings.{Costs}
-use Rattle.dual.specs.Tables.{certificate_in}
+use Rattle.dual.specs.Prelude.{AllBear, HasSlacks, Certificate, Costs, certificate_in}
 use Rattle.dual.proofs.FloorLemmas.{inside_square, rows_more}
 use Rattle.dual.proofs.table.Table.extras.Goals as goal
 

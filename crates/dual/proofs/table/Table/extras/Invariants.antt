@@ -1,7 +1,6 @@
 -- The rows so far are written.
 use Rattle.std.proofs.Common.{◌≡◌, ◌*◌, ◌^◌, All, length, take}
-use Rattle.dual.specs.Checks.{AllBear, HasSlacks}
-use Rattle.dual.specs.Tables.{certificate_in}
+use Rattle.dual.specs.Prelude.{AllBear, HasSlacks, certificate_in}
 use Rattle.dual.proofs.table.Table.extras.Given as goal
 
 abbrev pub invariant-loop-a : goal.invariant-loop-a

@@ -1,8 +1,6 @@
 -- The players so far can bear their potentials, and their slacks are written.
 use Rattle.std.proofs.Common.{◌≡◌, ◌<◌, ◌^◌, ℕ, true, length, get_or}
-use Rattle.dual.specs.Checks.{CanBearLeft}
-use Rattle.dual.specs.Duals.{slack_left}
-use Rattle.dual.specs.Tables.{certificate_in}
+use Rattle.dual.specs.Prelude.{CanBearLeft, slack_left, certificate_in}
 use Rattle.dual.proofs.table.Table.extras_left.Given as goal
 
 abbrev pub invariant-loop-v : goal.invariant-loop-v

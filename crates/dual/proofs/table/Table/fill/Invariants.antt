@@ -1,8 +1,6 @@
 -- The pairs so far can bear their potentials, and their slacks are written; nothing else is.
 use Rattle.std.proofs.Common.{◌≡◌, ◌+◌, ◌<◌, ◌^◌, ℕ, true, All, get_or}
-use Rattle.dual.specs.Checks.{CanBear}
-use Rattle.dual.specs.Duals.{slack}
-use Rattle.dual.specs.Tables.{certificate_in}
+use Rattle.dual.specs.Prelude.{CanBear, slack, certificate_in}
 use Rattle.dual.proofs.table.Table.fill.Given as goal
 
 abbrev pub invariant-loop-v : goal.invariant-loop-v

@@ -1,9 +1,6 @@
 -- Each matching costs the floor at least, by weak duality.
 use Rattle.std.proofs.Common.{ℕ, List, refl}
-use Rattle.dual.specs.Duals.{Certificate, IsFeasible}
-use Rattle.dual.specs.Floors.{FloorTable, IsFloorOf}
-use Rattle.dual.specs.Matchings.{Costs}
-use Rattle.dual.specs.Tables.{certificate_in}
+use Rattle.dual.specs.Prelude.{Certificate, IsFeasible, FloorTable, IsFloorOf, Costs, certificate_in}
 use Rattle.dual.proofs.FloorLemmas.{floor_least, rows_tell}
 use Rattle.dual.proofs.table.Table.floor.Goals as goal
 

@@ -1,7 +1,5 @@
 use Rattle.std.proofs.Common.{rules, ◌%◌, ◌^◌, length}
-use Rattle.dual.specs.Duals.{GivesEvenly}
-use Rattle.dual.specs.Floors.{IsBelow}
-use Rattle.dual.specs.Tables.{certificate_in}
+use Rattle.dual.specs.Prelude.{GivesEvenly, IsBelow, certificate_in}
 use Rattle.dual.proofs.FloorLemmas.{for_each_left}
 use Rattle.dual.proofs.table.Table.floor_for_any.Goals as goal
 

@@ -1,11 +1,8 @@
 -- One of a pair misses where both want one colour.
 use Rattle.std.proofs.Common.{ℕ, ◌∙◌, ap, sym, Option}
-use Rattle.dutch_bracket.specs.Quality.{one_if}
-use Rattle.dutch_player.specs.Facts.{seat_at}
-use Rattle.dutch_player.specs.Preferences.{preference}
+use Rattle.dutch_bracket.specs.Prelude.{one_if, Context, collide}
+use Rattle.dutch_player.specs.Prelude.{seat_at, preference}
 use Rattle.dutch_player.specs.declared.preference.Pref.{Pref}
-use Rattle.dutch_bracket.specs.Context.{Context}
-use Rattle.dutch_bracket.specs.ColourFloors.{collide}
 use Rattle.dutch_bracket.proofs.PairMisses.{pair_misses}
 use Rattle.dutch_bracket.proofs.context.Context.has_miss.Goals as goal
 

@@ -1,6 +1,6 @@
 -- Whoever is left over at least is in no pair.
 use Rattle.std.proofs.Common.{◌/◌, length, sym, ap, ◌∙◌, subst}
-use Rattle.dutch_bracket.specs.Joins.{Joins, AreAtMost}
+use Rattle.dutch_bracket.specs.Prelude.{Joins, AreAtMost}
 use Rattle.dutch_bracket.proofs.JoinedPairs.{few_matched}
 use Rattle.dutch_bracket.proofs.joins.Joins.most_pairs.Goals as goal
 

@@ -1,8 +1,7 @@
 -- The differences put so far, and those of the numbers to come, make them all.
 use Rattle.std.proofs.Common.{◌≡◌, ◌+◌, ◌-◌, drop, map}
 use Rattle.arrayvec.specs.ArrayVec.{array_vec_len}
-use Rattle.dutch_bracket.specs.Seated.{seat_of, score_at}
-use Rattle.dutch_bracket.specs.Quality.{placed_all}
+use Rattle.dutch_bracket.specs.Prelude.{seat_of, score_at, placed_all}
 use Rattle.dutch_bracket.proofs.psd_floor.FlatShape.put_paired.Given as goal
 
 abbrev pub invariant-loop-number : goal.invariant-loop-number

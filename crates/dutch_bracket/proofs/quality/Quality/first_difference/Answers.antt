@@ -1,8 +1,7 @@
 -- One item more differs, or is passed.
 use Rattle.std.proofs.Common.{◌<◌, length, ap, sym, ◌∙◌, arith}
 use Rattle.std.specs.Ordering.{is_ne}
-use Rattle.dutch_bracket.specs.Quality.{all_items}
-use Rattle.dutch_bracket.specs.QualityIn.{quality_in}
+use Rattle.dutch_bracket.specs.Prelude.{all_items, quality_in}
 use Rattle.dutch_bracket.proofs.ItemOrder.{differs_here, differs_later}
 use Rattle.dutch_bracket.proofs.quality.Quality.first_difference.Goals as goal
 

@@ -1,7 +1,6 @@
 -- The items so far do not differ, so those to come decide.
 use Rattle.std.proofs.Common.{◌≡◌, drop}
-use Rattle.dutch_bracket.specs.Quality.{first_difference, first_that_differs}
-use Rattle.dutch_bracket.specs.QualityIn.{quality_in}
+use Rattle.dutch_bracket.specs.Prelude.{first_difference, first_that_differs, quality_in}
 use Rattle.dutch_bracket.proofs.quality.Quality.first_difference.Given as goal
 
 abbrev pub invariant-loop-item : goal.invariant-loop-item

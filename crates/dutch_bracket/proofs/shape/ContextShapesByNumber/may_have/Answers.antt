@@ -1,10 +1,7 @@
 -- Where so many downfloaters cannot be paired out with the lower players, there is no shape with so many pairs.
 use Rattle.std.proofs.Common.{◌≡◌, ◌-◌, ◌*◌, Ok, length, sym, ap, ◌∙◌, arith}
 use Rattle.std.proofs.lemmas.List.{length-map}
-use Rattle.dutch_bracket.specs.Reached.{Reached, frame_of}
-use Rattle.dutch_bracket.specs.Brackets.{is_penultimate}
-use Rattle.dutch_bracket.specs.Seated.{score_at}
-use Rattle.dutch_bracket.specs.Takers.{can_go_out}
+use Rattle.dutch_bracket.specs.Prelude.{Reached, frame_of, is_penultimate, score_at, can_go_out}
 use Rattle.dutch_bracket.proofs.C04Takers.{no_shape_with}
 use Rattle.dutch_bracket.proofs.TellLemmas.{no_by_test}
 use Rattle.dutch_bracket.proofs.shape.ContextShapesByNumber.may_have.Goals as goal

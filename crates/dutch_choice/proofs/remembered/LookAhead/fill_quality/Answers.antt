@@ -1,7 +1,6 @@
 -- A candidate of the bracket has numbers of its seats.
 use Rattle.std.proofs.Common.{List, ℕ, sym, subst}
-use Rattle.dutch_bracket.specs.Seated.{IsCandidate}
-use Rattle.dutch_bracket.specs.NextBracket.{IsOfBracket}
+use Rattle.dutch_bracket.specs.Prelude.{IsCandidate, IsOfBracket}
 use Rattle.dutch_bracket.proofs.FlatBrackets.{candidate_of}
 use Rattle.dutch_choice.proofs.remembered.LookAhead.fill_quality.Goals as goal
 

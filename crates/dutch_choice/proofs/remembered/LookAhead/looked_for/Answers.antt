@@ -1,7 +1,7 @@
 -- A value that was looked for is kept, or memory was refused.
 use Rattle.std.proofs.Common.{sym, ap, ◌∙◌, subst}
-use Rattle.dutch_bracket.specs.NextBracket.{AreLeft}
-use Rattle.dutch_choice.specs.Remembered.{value_below}
+use Rattle.dutch_bracket.specs.Prelude.{AreLeft}
+use Rattle.dutch_choice.specs.Prelude.{value_below}
 use Rattle.dutch_choice.proofs.KeptValues.{few_left, list_used, values_after}
 use Rattle.dutch_choice.proofs.remembered.LookAhead.looked_for.Goals as goal
 

@@ -1,8 +1,7 @@
 -- A value that is kept is that of the downfloaters.
 use Rattle.std.proofs.Common.{sym, subst}
-use Rattle.dutch_bracket.specs.NextBracket.{AreLeft}
-use Rattle.dutch_bracket.specs.QualityIn.{quality_in, next_in}
-use Rattle.dutch_choice.specs.Remembered.{AreValues}
+use Rattle.dutch_bracket.specs.Prelude.{AreLeft, quality_in, next_in}
+use Rattle.dutch_choice.specs.Prelude.{AreValues}
 use Rattle.dutch_choice.proofs.KeptValues.{few_left, promoted_values, recalls}
 use Rattle.dutch_choice.proofs.remembered.LookAhead.put_kept.Goals as goal
 

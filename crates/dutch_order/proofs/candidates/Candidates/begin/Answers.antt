@@ -1,9 +1,6 @@
 use Rattle.std.proofs.Common.{◌∙◌, ◌++◌, filter, ap, sym, subst, length, ◌-◌, ◌*◌, nat_lt, option_copied}
 use Rattle.std.proofs.lemmas.Bool.{and_parts, ltb-true}
-use Rattle.dutch_order.specs.Arrangements.{Fits, arrangements}
-use Rattle.dutch_order.specs.Keys.{IsIn}
-use Rattle.dutch_order.specs.Levels.{Of, may_leave}
-use Rattle.dutch_order.specs.Listings.{AreCandidates, Listing, candidates_from, listed}
+use Rattle.dutch_order.specs.Prelude.{Fits, arrangements, IsIn, Of, may_leave, AreCandidates, Listing, candidates_from, listed}
 use Rattle.dutch_order.proofs.Behind.{candidates-all, levels-begun, none-from}
 use Rattle.dutch_order.proofs.Hopeless.{none-legal}
 use Rattle.dutch_order.proofs.candidates.Candidates.begin.Goals as goal

@@ -1,9 +1,6 @@
 use Rattle.std.proofs.Common.{◌≡◌, ◌∙◌, ◌++◌, ap, sym, subst, refl, filter, List}
 use Rattle.std.proofs.lemmas.Bool.{true≢false}
-use Rattle.dutch_order.specs.Arrangements.{Arrangement}
-use Rattle.dutch_order.specs.Levels.{may_leave}
-use Rattle.dutch_order.specs.Listings.{AreCandidates, Listing, listed, still_coming}
-use Rattle.dutch_order.specs.Prefixes.{BeginsAt}
+use Rattle.dutch_order.specs.Prelude.{Arrangement, may_leave, AreCandidates, Listing, listed, still_coming, BeginsAt}
 use Rattle.dutch_order.proofs.Behind.{no-candidates, still-candidates, later-candidates}
 use Rattle.dutch_order.proofs.Skipping.{passes-none, passes-all, all-of, drawn}
 use Rattle.dutch_order.proofs.candidates.Candidates.go_on.Goals as goal

@@ -1,6 +1,5 @@
 use Rattle.std.proofs.Common.{◌≡◌, true, subst}
-use Rattle.dutch_order.specs.Listings.{GivesPast, EndsPast, StopsPast}
-use Rattle.dutch_order.specs.Steps.{MatchStep}
+use Rattle.dutch_order.specs.Prelude.{GivesPast, EndsPast, StopsPast, MatchStep}
 use Rattle.dutch_order.proofs.Nexts.{step-holding}
 use Rattle.dutch_order.proofs.candidates.Candidates.next_within.Goals as goal
 

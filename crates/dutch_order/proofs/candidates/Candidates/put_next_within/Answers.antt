@@ -1,9 +1,6 @@
 use Rattle.std.proofs.Common.{◌≡◌, ℕ, Bool, true, List, subst, sym}
 use Rattle.std.specs.List.{AllByRecursion}
-use Rattle.dutch_order.specs.Arrangements.{Arrangement, Frame, candidates}
-use Rattle.dutch_order.specs.Keys.{IsIn}
-use Rattle.dutch_order.specs.Listings.{AreCandidates}
-use Rattle.dutch_order.specs.Steps.{Passes}
+use Rattle.dutch_order.specs.Prelude.{Arrangement, Frame, candidates, IsIn, AreCandidates, Passes}
 use Rattle.dutch_order.specs.declared.bracket.Shape.{Shape}
 use Rattle.dutch_order.proofs.Skipping.{passes-weaker}
 use Rattle.dutch_order.proofs.Nexts.{step-each}

@@ -1,10 +1,6 @@
 use Rattle.std.proofs.Common.{◌≡◌, ◌∙◌, ap, sym, subst, length, take, arith, ◌-◌, ◌+◌, ◌≤◌, ℕ, List, option_copied}
 use Rattle.std.specs.List.{AllByRecursion}
-use Rattle.dutch_order.specs.Arrangements.{Arrangement, arrangements, residents_of}
-use Rattle.dutch_order.specs.Choices.{from_on, subsets, numbers_from}
-use Rattle.dutch_order.specs.Keys.{IsIn}
-use Rattle.dutch_order.specs.Levels.{HasS2, Of, choices_from, in_bracket, joined, s1_blocks}
-use Rattle.dutch_order.specs.Limbo.{limbo_exchanges}
+use Rattle.dutch_order.specs.Prelude.{Arrangement, arrangements, residents_of, from_on, subsets, numbers_from, IsIn, HasS2, Of, choices_from, in_bracket, joined, s1_blocks, limbo_exchanges}
 use Rattle.dutch_order.specs.contracts.cursor.Cursor.{the_view}
 use Rattle.dutch_order.proofs.Behind.{cursor-s1, cursor-s2}
 use Rattle.dutch_order.proofs.Counts.{sets-fit, from_on-all}

@@ -1,8 +1,5 @@
 use Rattle.std.proofs.Common.{◌≡◌, ◌∙◌, ap, sym, ℕ, Bool, List, Option, option_copied}
-use Rattle.dutch_order.specs.Arrangements.{Arrangement, left_of}
-use Rattle.dutch_order.specs.Choices.{from_on}
-use Rattle.dutch_order.specs.Exchange.{exchanges}
-use Rattle.dutch_order.specs.Levels.{choices_from, in_s2, joined, s1r_blocks}
+use Rattle.dutch_order.specs.Prelude.{Arrangement, left_of, from_on, exchanges, choices_from, in_s2, joined, s1r_blocks}
 use Rattle.dutch_order.specs.contracts.cursor.Cursor.{the_view}
 use Rattle.dutch_order.proofs.choices.ByS1r.start.Goals as goal
 

@@ -1,8 +1,5 @@
 use Rattle.std.proofs.Common.{◌≡◌, ◌∙◌, ap, sym, length, map, filter, List, ℕ, Option, option_copied}
-use Rattle.dutch_order.specs.Arrangements.{Arrangement, left_of}
-use Rattle.dutch_order.specs.Choices.{all_meet, from_on}
-use Rattle.dutch_order.specs.Levels.{arranged, choices_from, in_s1r, without_own}
-use Rattle.dutch_order.specs.Transposition.{all_tuples}
+use Rattle.dutch_order.specs.Prelude.{Arrangement, left_of, all_meet, from_on, arranged, choices_from, in_s1r, without_own, all_tuples}
 use Rattle.dutch_order.specs.contracts.cursor.Cursor.{the_view}
 use Rattle.dutch_order.proofs.choices.ByS2r.start.Goals as goal
 

@@ -1,5 +1,5 @@
 use Rattle.std.proofs.Common.{sym, ap, refl, [], ◌∷◌, map, option_copied}
-use Rattle.dutch_order.specs.Levels.{arranged, without_own}
+use Rattle.dutch_order.specs.Prelude.{arranged, without_own}
 use Rattle.dutch_order.proofs.Blocks.{passes-arranged, same-lists}
 use Rattle.dutch_order.proofs.Skipping.{passes-none, passes-more, drawn, drawn-stopped}
 use Rattle.dutch_order.proofs.choices.ByS2rArranges.next.Goals as goal

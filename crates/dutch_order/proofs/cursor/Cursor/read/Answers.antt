@@ -1,6 +1,6 @@
 use Rattle.std.proofs.Common.{◌∙◌, ◌∷◌, [], List, ℕ, ap, sym, arith}
 use Rattle.std.specs.Option.{is_some}
-use Rattle.dutch_order.specs.Cursors.{parts, arrangement_of, of_bracket}
+use Rattle.dutch_order.specs.Prelude.{parts, arrangement_of, of_bracket}
 use Rattle.dutch_order.proofs.CursorSets.{not_of}
 use Rattle.dutch_order.proofs.cursor.Cursor.read.Goals as goal
 

@@ -1,10 +1,7 @@
 use Rattle.std.proofs.Common.{◌≡◌, [], refl, None, length, ap, arith, subst, sym}
 use Rattle.std.specs.List.{AllByRecursion}
-use Rattle.dutch_order.specs.Hints.{hinted}
-use Rattle.dutch_order.specs.Descents.{Walked}
+use Rattle.dutch_order.specs.Prelude.{hinted, Walked, ahead, below, after, IsOfStage, exchange_plan, sets_ahead, stage_left, sets_of_stages, sets_of_sizes}
 use Rattle.dutch_order.proofs.Places.{ended-hits, ended-known}
-use Rattle.dutch_order.specs.Trials.{ahead, below, after}
-use Rattle.dutch_order.specs.Stages.{IsOfStage, exchange_plan, sets_ahead, stage_left, sets_of_stages, sets_of_sizes}
 use Rattle.dutch_order.proofs.exchange.Exchanges.ended.Goals as goal
 
 pub returns : goal.returns

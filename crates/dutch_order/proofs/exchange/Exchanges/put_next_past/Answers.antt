@@ -1,6 +1,5 @@
 use Rattle.std.proofs.Common.{◌≡◌, [], ◌∷◌, ◌∙◌, ap, sym, subst}
-use Rattle.dutch_order.specs.Stages.{sets_from, set_of}
-use Rattle.dutch_order.specs.Steps.{Passes}
+use Rattle.dutch_order.specs.Prelude.{sets_from, set_of, Passes}
 use Rattle.dutch_order.proofs.LeftOut.{passes-same}
 use Rattle.dutch_order.proofs.Skipping.{drawn, drawn-stopped}
 use Rattle.dutch_order.proofs.exchange.Exchanges.put_next_past.Goals as goal

@@ -1,9 +1,7 @@
 use Rattle.std.proofs.Common.{◌≡◌, ap, refl, sym, subst, arith, ◌-◌, [], None, length}
 use Rattle.std.specs.List.Sorted.{IsStrictlyIncreasing}
-use Rattle.dutch_order.specs.Hints.{hinted}
-use Rattle.dutch_order.specs.Descents.{Walked}
+use Rattle.dutch_order.specs.Prelude.{hinted, Walked, exchange_plan, trials_ahead, trials_of_stages, trials_of_sizes, most_exchanged}
 use Rattle.dutch_order.proofs.Places.{new-place}
-use Rattle.dutch_order.specs.Stages.{exchange_plan, trials_ahead, trials_of_stages, trials_of_sizes, most_exchanged}
 use Rattle.dutch_order.proofs.StageSets.{exchanges-found}
 use Rattle.dutch_order.proofs.Moves.{trials-nothing}
 use Rattle.dutch_order.proofs.exchange.Exchanges.start.Goals as goal

@@ -1,7 +1,5 @@
 use Rattle.std.proofs.Common.{[], length, ap, arith, subst, sym}
-use Rattle.dutch_order.specs.Hints.{hinted}
-use Rattle.dutch_order.specs.Descents.{Walked}
-use Rattle.dutch_order.specs.Stages.{exchange_plan}
+use Rattle.dutch_order.specs.Prelude.{hinted, Walked, exchange_plan}
 use Rattle.dutch_order.proofs.LateSets.{exchange-room, exchanges-from}
 use Rattle.std.specs.List.Sorted.{IsStrictlyIncreasing}
 use Rattle.dutch_order.proofs.Places.{late-place}

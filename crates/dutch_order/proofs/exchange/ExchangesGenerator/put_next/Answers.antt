@@ -1,6 +1,6 @@
 use Rattle.std.proofs.Common.{ℕ, List, ◌+◌, ◌≡◌, [], ◌∷◌, ◌∙◌, ap, sym, subst}
 use Rattle.dutch_order.specs.declared.exchange.Place.{Place}
-use Rattle.dutch_order.specs.Stages.{sets_from, trials_from, set_of}
+use Rattle.dutch_order.specs.Prelude.{sets_from, trials_from, set_of}
 use Rattle.dutch_order.proofs.Skipping.{drawn}
 use Rattle.dutch_order.proofs.exchange.ExchangesGenerator.put_next.Goals as goal
 

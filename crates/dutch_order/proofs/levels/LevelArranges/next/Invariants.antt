@@ -1,6 +1,5 @@
 use Rattle.std.proofs.Common.{length, ◌++◌}
-use Rattle.dutch_order.specs.Levels.{within, joined}
-use Rattle.dutch_order.specs.Steps.{Passes, Spends}
+use Rattle.dutch_order.specs.Prelude.{within, joined, Passes, Spends}
 use Rattle.dutch_order.proofs.levels.LevelArranges.next.Given as goal
 
 abbrev pub invariant-loop-self : goal.invariant-loop-self

@@ -1,5 +1,5 @@
 use Rattle.std.proofs.Common.{◌∙◌, [], refl}
-use Rattle.dutch_order.specs.Trials.{ahead, below, after}
+use Rattle.dutch_order.specs.Prelude.{ahead, below, after}
 use Rattle.dutch_order.proofs.LimboSets.{limbo-at}
 use Rattle.dutch_order.proofs.limbo.LimboExchanges.ended.Goals as goal
 

@@ -1,5 +1,5 @@
 use Rattle.std.proofs.Common.{◌∙◌, arith, []}
-use Rattle.dutch_order.specs.LimboSearch.{limbo_plan}
+use Rattle.dutch_order.specs.Prelude.{limbo_plan}
 use Rattle.dutch_order.proofs.LimboSets.{limbo-found, limbo-at, limbo-trials-at}
 use Rattle.dutch_order.proofs.Moves.{trials-nothing}
 use Rattle.dutch_order.proofs.limbo.LimboExchanges.start.Goals as goal

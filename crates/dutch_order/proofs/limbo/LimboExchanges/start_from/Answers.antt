@@ -1,8 +1,7 @@
 use Rattle.std.proofs.Common.{◌<◌, ◌-◌, ◌++◌, ◌∙◌, ap, sym, subst, arith, length}
 use Rattle.std.specs.List.{AllByRecursion}
 use Rattle.std.proofs.lemmas.List.{length-map}
-use Rattle.dutch_order.specs.Hints.{first_hint}
-use Rattle.dutch_order.specs.LimboSearch.{places_of, leaders, limbo_path}
+use Rattle.dutch_order.specs.Prelude.{first_hint, places_of, leaders, limbo_path}
 use Rattle.dutch_order.proofs.LimboSets.{set-places, limbo-from, limbo-at, leaders-length, climbs-within}
 use Rattle.dutch_order.proofs.limbo.LimboExchanges.start_from.Goals as goal
 

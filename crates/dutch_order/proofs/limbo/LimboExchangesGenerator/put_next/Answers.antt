@@ -1,7 +1,7 @@
 use Rattle.std.proofs.Common.{◌<◌, ◌-◌, sym, subst, arith, length, [], drop}
 use Rattle.std.specs.List.{AllByRecursion}
 use Rattle.dutch_order.specs.declared.numbers.TheConstants.{LIMIT}
-use Rattle.dutch_order.specs.LimboSearch.{limbo_plan}
+use Rattle.dutch_order.specs.Prelude.{limbo_plan}
 use Rattle.dutch_order.proofs.HalfWalks.{half_stop-one}
 use Rattle.dutch_order.proofs.Moves.{Walked-below, AllByRecursion-take, AllByRecursion-drop}
 use Rattle.dutch_order.proofs.limbo.LimboExchangesGenerator.put_next.Goals as goal

@@ -1,5 +1,5 @@
 use Rattle.std.proofs.Common.{length, []}
-use Rattle.dutch_order.specs.LimboSearch.{limbo_plan}
+use Rattle.dutch_order.specs.Prelude.{limbo_plan}
 use Rattle.dutch_order.proofs.HalfWalks.{half_stop-one}
 use Rattle.dutch_order.proofs.Moves.{Walked-below}
 use Rattle.dutch_order.proofs.limbo.RankedTree.admits.Goals as goal

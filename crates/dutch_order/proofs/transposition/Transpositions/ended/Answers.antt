@@ -1,5 +1,5 @@
 use Rattle.std.proofs.Common.{◌∙◌, [], refl}
-use Rattle.dutch_order.specs.Trials.{ahead, below, after}
+use Rattle.dutch_order.specs.Prelude.{ahead, below, after}
 use Rattle.dutch_order.proofs.TupleSearch.{tuples-at}
 use Rattle.dutch_order.proofs.transposition.Transpositions.ended.Goals as goal
 

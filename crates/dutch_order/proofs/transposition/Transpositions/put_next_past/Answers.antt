@@ -1,8 +1,6 @@
 use Rattle.std.proofs.Common.{◌≡◌, ◌∙◌, ◌<◌, sym, ap, subst, refl, arith, length, map, ◌∷◌}
 use Rattle.std.specs.List.{AllByRecursion}
-use Rattle.dutch_order.specs.Trials.{hits, ahead}
-use Rattle.dutch_order.specs.Hints.{hinted}
-use Rattle.dutch_order.specs.TranspositionSearch.{transposition_plan, numbers_at}
+use Rattle.dutch_order.specs.Prelude.{hits, ahead, hinted, transposition_plan, numbers_at}
 use Rattle.dutch_order.proofs.LeftOut.{passes-same, drawn, drawn-stopped}
 use Rattle.dutch_order.proofs.TupleSearch.{stands-within, tuples-passed, plan-at}
 use Rattle.dutch_order.proofs.transposition.Transpositions.put_next_past.Goals as goal

@@ -1,6 +1,5 @@
 use Rattle.std.proofs.Common.{◌∙◌, ap, arith, length}
-use Rattle.dutch_order.specs.Hints.{first_hint}
-use Rattle.dutch_order.specs.TranspositionSearch.{places_in}
+use Rattle.dutch_order.specs.Prelude.{first_hint, places_in}
 use Rattle.dutch_order.proofs.TupleSearch.{transpositions-from, tuple-members, tuples-at}
 use Rattle.dutch_order.proofs.transposition.Transpositions.start_from.Goals as goal
 

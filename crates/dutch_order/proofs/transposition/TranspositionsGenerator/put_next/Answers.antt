@@ -1,8 +1,6 @@
 use Rattle.std.proofs.Common.{◌≡◌, ◌<◌, ◌+◌, ◌∙◌, ap, sym, subst, arith, length, map, [], ◌∷◌}
 use Rattle.std.specs.List.{AllByRecursion}
-use Rattle.dutch_order.specs.Hints.{hinted}
-use Rattle.dutch_order.specs.Trials.{ahead, hits, trials}
-use Rattle.dutch_order.specs.TranspositionSearch.{transposition_plan, numbers_at}
+use Rattle.dutch_order.specs.Prelude.{hinted, ahead, hits, trials, transposition_plan, numbers_at}
 use Rattle.dutch_order.proofs.Moves.{Walked-below}
 use Rattle.dutch_order.proofs.Skipping.{drawn, drawn-stopped}
 use Rattle.dutch_order.proofs.transposition.TranspositionsGenerator.put_next.Goals as goal

@@ -1,15 +1,9 @@
 -- The bracket that comes next has a candidate, and it is the one of its number.
 use Rattle.std.proofs.Common.{◌≡◌, Some, None, ap, sym, ◌∙◌, subst}
-use Rattle.dutch_order.specs.Arrangements.{Fits}
-use Rattle.dutch_bracket.specs.Context.{Context}
-use Rattle.dutch_bracket.specs.Eligible.{HasCandidate}
-use Rattle.dutch_bracket.specs.Brackets.{shape_of}
-use Rattle.dutch_bracket.specs.Reached.{Reached, frame_of}
+use Rattle.dutch_order.specs.Prelude.{Fits}
+use Rattle.dutch_bracket.specs.Prelude.{Context, HasCandidate, shape_of, Reached, frame_of}
 use Rattle.dutch_pair.specs.declared.walk.Next.{Next}
-use Rattle.dutch_pair.specs.Outcomes.{shown, visit_at, visit_of}
-use Rattle.dutch_pair.specs.Round.{round}
-use Rattle.dutch_pair.specs.Stages.{IsFound, StandsAt, Walk, round_from}
-use Rattle.dutch_pair.specs.WaysOut.{StandsBefore}
+use Rattle.dutch_pair.specs.Prelude.{shown, visit_at, visit_of, round, IsFound, StandsAt, Walk, round_from, StandsBefore}
 use Rattle.dutch_pair.proofs.NoDeadEnd.{stands_has}
 use Rattle.dutch_pair.proofs.RoundEnds.{visit_here}
 use Rattle.dutch_pair.proofs.WalkSteps.{stands_above, stands_number, stands_shown}

@@ -2,13 +2,8 @@
 use Rattle.std.proofs.Common.{◌≡◌, ℕ, ◌+◌, [], ◌∷◌, ◌++◌, length, refl, ap, sym, ◌∙◌, subst, arith}
 use Rattle.std.proofs.lemmas.List.{length-append}
 use Rattle.std.proofs.lemmas.Option.{MatchOption-at_some}
-use Rattle.dutch_bracket.specs.Context.{Context}
-use Rattle.dutch_bracket.specs.Eligible.{HasCandidate}
-use Rattle.dutch_bracket.specs.Reached.{Reached}
-use Rattle.dutch_pair.specs.Outcomes.{IsStage, visit}
-use Rattle.dutch_pair.specs.Round.{round}
-use Rattle.dutch_pair.specs.Stages.{IsBehind, IsSettled, StandsAt, Walk, bye_at, round_by, round_from, stage_first}
-use Rattle.dutch_pair.specs.WaysOut.{StandsBefore}
+use Rattle.dutch_bracket.specs.Prelude.{Context, HasCandidate, Reached}
+use Rattle.dutch_pair.specs.Prelude.{IsStage, visit, round, IsBehind, IsSettled, StandsAt, Walk, bye_at, round_by, round_from, stage_first, StandsBefore}
 use Rattle.dutch_pair.proofs.NoDeadEnd.{stands_has}
 use Rattle.dutch_pair.proofs.RoundEnds.{passed_more}
 use Rattle.dutch_pair.proofs.WalkSteps.{stage_is, stands_above, stands_number}

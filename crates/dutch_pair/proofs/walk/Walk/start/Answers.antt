@@ -1,6 +1,6 @@
 -- At first all seats are to come, and they can be paired out.
 use Rattle.std.proofs.Common.{List, ℕ, sym, ◌∙◌, subst}
-use Rattle.dutch_pair.specs.WaysOut.{GoesOut}
+use Rattle.dutch_pair.specs.Prelude.{GoesOut}
 use Rattle.dutch_pair.proofs.GroupWalk.{everybody_goes}
 use Rattle.dutch_pair.proofs.NoDeadEnd.{everybody_out}
 use Rattle.dutch_pair.proofs.walk.Walk.start.Goals as goal

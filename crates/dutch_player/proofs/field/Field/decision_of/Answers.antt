@@ -1,7 +1,5 @@
 use Rattle.std.proofs.Common.{ap, ◌∙◌}
-use Rattle.dutch_player.specs.Facts.{Facts, seat_at}
-use Rattle.dutch_player.specs.Colours.{decided}
-use Rattle.dutch_player.specs.SeatOf.{facts_in}
+use Rattle.dutch_player.specs.Prelude.{Facts, seat_at, decided, facts_in}
 use Rattle.dutch_player.proofs.field.Field.decision_of.Goals as goal
 
 -- src/field.rt:168:5

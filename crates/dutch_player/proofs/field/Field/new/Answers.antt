@@ -1,6 +1,5 @@
 use Rattle.std.proofs.Common.{map, arith}
-use Rattle.dutch_player.specs.SeatOf.{facts_in}
-use Rattle.dutch_player.specs.Facts.{seats_of}
+use Rattle.dutch_player.specs.Prelude.{facts_in, seats_of}
 use Rattle.dutch_player.proofs.RankLemmas.{ranked_IsRanked}
 use Rattle.dutch_player.proofs.field.Field.new.Goals as goal
 

@@ -1,6 +1,6 @@
 -- What is summed so far, and what those to come add, is what all add.
 use Rattle.std.proofs.Common.{◌≡◌, ◌+◌, drop, sum_by}
-use Rattle.dutch_weights.specs.Orders.{kept}
+use Rattle.dutch_weights.specs.Prelude.{kept}
 use Rattle.dutch_weights.proofs.order.Order.all_kept.Given as goal
 
 abbrev pub invariant-loop-number : goal.invariant-loop-number

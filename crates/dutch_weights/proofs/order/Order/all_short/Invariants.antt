@@ -1,6 +1,6 @@
 -- What is summed so far, and what those to come have less, is what all have less.
 use Rattle.std.proofs.Common.{◌≡◌, ◌+◌, drop, sum_by}
-use Rattle.dutch_weights.specs.Orders.{short_of}
+use Rattle.dutch_weights.specs.Prelude.{short_of}
 use Rattle.dutch_weights.proofs.order.Order.all_short.Given as goal
 
 abbrev pub invariant-loop-number : goal.invariant-loop-number

@@ -1,8 +1,7 @@
 -- The sum of what is known is no less than what the members of each such S1R add.
 use Rattle.std.proofs.Common.{ℕ, ◌*◌, List, ap, subst, sum_by, arith}
-use Rattle.dutch_order.specs.Exchanged.{KnownExchange}
-use Rattle.dutch_order.specs.Keys.{IsIn}
-use Rattle.dutch_weights.specs.Orders.{Order, kept, short_of}
+use Rattle.dutch_order.specs.Prelude.{KnownExchange, IsIn}
+use Rattle.dutch_weights.specs.Prelude.{Order, kept, short_of}
 use Rattle.dutch_weights.proofs.OrderLemmas.{most_added, under_rest}
 use Rattle.dutch_weights.proofs.order.Order.most.Goals as goal
 

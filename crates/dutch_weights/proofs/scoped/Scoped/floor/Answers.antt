@@ -1,8 +1,8 @@
 -- Where the matchings go over the bracket alone, they leave over no more than it has; the floor for any number is that of the next bracket.
 use Rattle.std.proofs.Common.{◌≡◌, ℕ, ◌∙◌, List, length, IfOk, IfSome, sym, ap, subst, arith}
-use Rattle.dual.specs.Floors.{IsFloor}
+use Rattle.dual.specs.Prelude.{IsFloor}
 use Rattle.dutch_order.proofs.Members.{length-numbers}
-use Rattle.dutch_weights.specs.ScopedCosts.{IsFloorBy, Scoped, all_numbers, costs_in, size_by}
+use Rattle.dutch_weights.specs.Prelude.{IsFloorBy, Scoped, all_numbers, costs_in, size_by}
 use Rattle.dutch_weights.specs.declared.scoped.Reach.{Reach}
 use Rattle.dutch_weights.specs.declared.scoped.Reach.TheVariants.{Bracket, Next}
 use Rattle.dutch_weights.proofs.scoped.Scoped.floor.Goals as goal

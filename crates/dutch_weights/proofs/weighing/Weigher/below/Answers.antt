@@ -1,6 +1,7 @@
 -- A number that weighs too much one way or the other is too heavy.
 use Rattle.std.proofs.Common.{◌^◌}
-use Rattle.dutch_weights.specs.WeightTables.{alone, alone_weight, met, met_weight}
+use Rattle.dutch_weights.specs.Prelude.{alone_weight, met_weight}
+use Rattle.dutch_weights.specs.WeightTables.{alone, met}
 use Rattle.dutch_weights.proofs.WeighingLemmas.{at_least}
 use Rattle.dutch_weights.proofs.weighing.Weigher.below.Goals as goal
 

@@ -1,7 +1,8 @@
 -- The number is one that weighs too much.
 use Rattle.std.proofs.Common.{◌≡◌, ◌+◌, ◌<◌, ◌≤◌, ◌^◌, ◌∙◌, length, ap, arith}
-use Rattle.dutch_weights.specs.WeightTables.{down_weight, one_down}
-use Rattle.dutch_bracket.specs.Weights.{Weighing}
+use Rattle.dutch_weights.specs.Prelude.{down_weight}
+use Rattle.dutch_weights.specs.WeightTables.{one_down}
+use Rattle.dutch_bracket.specs.Prelude.{Weighing}
 use Rattle.dutch_weights.proofs.WeighingLemmas.{at_least}
 use Rattle.dutch_weights.proofs.weighing.Weigher.put_down.Goals as goal
 

@@ -1,6 +1,6 @@
 -- The numbers passed so far are told of.
 use Rattle.std.proofs.Common.{◌≡◌, ◌≤◌, length}
-use Rattle.dutch_weights.specs.WeightTables.{TellsDownUpto}
+use Rattle.dutch_weights.specs.Prelude.{TellsDownUpto}
 use Rattle.dutch_weights.proofs.weighing.Weigher.put_down.Given as goal
 
 abbrev pub invariant-loop-a : goal.invariant-loop-a

@@ -1,9 +1,9 @@
 -- The place that is written is that of the pair.
 use Rattle.std.proofs.Common.{◌≡◌, ℕ, ◌+◌, ◌^◌, ◌∙◌, length, set, ap, subst, sym}
-use Rattle.dutch_weights.specs.WeightTables.{place_of}
-use Rattle.dutch_weights.specs.WeightTables.{TellsPairsUpto, pair, pair_of, pair_weight, place_in}
+use Rattle.dutch_weights.specs.Prelude.{place_of, TellsPairsUpto, pair_of, pair_weight, place_in}
+use Rattle.dutch_weights.specs.WeightTables.{pair}
 use Rattle.dutch_weights.specs.declared.weighing.PairWeight.{PairWeight}
-use Rattle.dutch_bracket.specs.Weights.{Weighing}
+use Rattle.dutch_bracket.specs.Prelude.{Weighing}
 use Rattle.dutch_weights.proofs.WeighingLemmas.{at_least, told_more, told_pair}
 use Rattle.dutch_weights.proofs.weighing.Weigher.put_pair.Goals as goal
 

@@ -1,6 +1,6 @@
 -- The rows passed so far are told of.
 use Rattle.std.proofs.Common.{◌≡◌, ◌*◌, ◌≤◌, length}
-use Rattle.dutch_weights.specs.WeightTables.{TellsPairsUpto}
+use Rattle.dutch_weights.specs.Prelude.{TellsPairsUpto}
 use Rattle.dutch_weights.proofs.weighing.Weigher.put_pairs.Given as goal
 
 abbrev pub invariant-loop-a : goal.invariant-loop-a

@@ -1,7 +1,7 @@
 -- The places of a row follow one another, and those of the next row follow them.
 use Rattle.std.proofs.Common.{◌≡◌, ◌+◌, ◌*◌, ◌∙◌, length, ap, arith}
-use Rattle.dutch_weights.specs.WeightTables.{place_in}
-use Rattle.dutch_bracket.specs.Weights.{Weighing}
+use Rattle.dutch_weights.specs.Prelude.{place_in}
+use Rattle.dutch_bracket.specs.Prelude.{Weighing}
 use Rattle.dutch_weights.proofs.PairPlaces.{next_row}
 use Rattle.dutch_weights.proofs.WeighingLemmas.{told_same}
 use Rattle.dutch_weights.proofs.weighing.Weigher.put_row.Goals as goal

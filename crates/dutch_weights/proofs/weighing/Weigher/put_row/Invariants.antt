@@ -1,6 +1,6 @@
 -- The numbers passed so far are told of.
 use Rattle.std.proofs.Common.{◌≡◌, ◌+◌, ◌≤◌, length}
-use Rattle.dutch_weights.specs.WeightTables.{TellsPairsUpto, place_in}
+use Rattle.dutch_weights.specs.Prelude.{TellsPairsUpto, place_in}
 use Rattle.dutch_weights.proofs.weighing.Weigher.put_row.Given as goal
 
 abbrev pub invariant-loop-b : goal.invariant-loop-b

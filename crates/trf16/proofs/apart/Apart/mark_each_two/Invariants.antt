@@ -1,8 +1,7 @@
 -- What is marked so far: each one in front with all.
 use Rattle.std.proofs.Common.{◌≡◌, ℕ, ◌*◌, ◌<◌, ◌||◌, ◌&&◌, false}
 use Rattle.std.specs.Prelude.{slice_index_or, take, vec_len}
-use Rattle.trf16.specs.Notes.{are_marked}
-use Rattle.trf16.specs.Places.{is_place}
+use Rattle.trf16.specs.Prelude.{are_marked, is_place}
 use Rattle.trf16.proofs.apart.Apart.mark_each_two.Given as goal
 
 abbrev pub invariant-loop-place : goal.invariant-loop-place

@@ -1,8 +1,7 @@
 use Rattle.std.proofs.Common.{◌≡◌, ℕ, ◌<◌, ◌||◌, List, ap, sym, refl, ◌∙◌, subst}
 use Rattle.std.specs.Prelude.{slice_index_or, vec_len}
-use Rattle.trf16.specs.Lines.{columns, lines}
-use Rattle.trf16.specs.Extensions.{names_both}
-use Rattle.trf16.specs.Notes.{are_marked, start_at}
+use Rattle.trf16.specs.Prelude.{columns, lines, names_both, are_marked}
+use Rattle.trf16.specs.Notes.{start_at}
 use Rattle.trf16.proofs.AnsweringLemmas.{some_of, some_of-cons, not_together}
 use Rattle.std.proofs.Math.Bool.{or_assoc}
 use Rattle.trf16.proofs.apart.Apart.read.Goals as goal

@@ -2,9 +2,8 @@
 use Rattle.std.proofs.Common.{◌≡◌, ℕ, ◌*◌, ◌<◌, ◌||◌, [], length}
 use Rattle.std.specs.Prelude.{vec_len}
 use Rattle.std.specs.Map.{keys_of}
-use Rattle.trf16.specs.Lines.{lines}
-use Rattle.trf16.specs.Extensions.{names_both}
-use Rattle.trf16.specs.Notes.{are_marked, start_at}
+use Rattle.trf16.specs.Prelude.{lines, names_both, are_marked}
+use Rattle.trf16.specs.Notes.{start_at}
 use Rattle.trf16.proofs.AnsweringLemmas.{some_of}
 use Rattle.trf16.proofs.apart.Apart.read.Given as goal
 

@@ -1,5 +1,5 @@
 use Rattle.std.proofs.Common.{ap, not, arith}
-use Rattle.trf16.specs.Lines.{is_blank}
+use Rattle.trf16.specs.Prelude.{is_blank}
 use Rattle.trf16.specs.declared.limits.TheConstants.{LAST_COLUMN}
 use Rattle.trf16.proofs.ColumnLemmas.{joined-behind}
 use Rattle.trf16.proofs.columns.Line.is_too_long.Goals as goal

@@ -1,5 +1,5 @@
 use Rattle.std.proofs.Common.{◌≡◌, ◌+◌, ◌≤◌, ◌++◌, ◌∷◌, [], ℕ, List, length, drop, subst, sym, arith}
-use Rattle.trf16.specs.Steps.{IsStart, AllStart}
+use Rattle.trf16.specs.Prelude.{IsStart, AllStart}
 use Rattle.trf16.specs.declared.limits.TheConstants.{LAST_COLUMN}
 use Rattle.trf16.proofs.ColumnLemmas.{IsFirst, IsStart-next, AllStart-push, AllStart-whole}
 use Rattle.trf16.proofs.columns.Line.new.Goals.{then-loop-at-test+else-len-le-LAST_COLUMN, else-loop-at-test}

@@ -1,5 +1,5 @@
 use Rattle.std.proofs.Common.{◌+◌, ◌-◌, length}
-use Rattle.trf16.specs.Steps.{IsStart, AllStart}
+use Rattle.trf16.specs.Prelude.{IsStart, AllStart}
 use Rattle.trf16.specs.declared.limits.TheConstants.{LAST_COLUMN}
 use Rattle.trf16.proofs.columns.Line.new.Given as goal
 

@@ -1,11 +1,7 @@
 use Rattle.std.proofs.Common.{◌≡◌, ℕ, List, length, map, sym, ap, ◌∙◌, arith}
 use Rattle.std.specs.Map.{keys_of}
 use Rattle.std.proofs.lemmas.List.{length-map}
-use Rattle.trf16.specs.Lines.{lines}
-use Rattle.trf16.specs.Absence.{some_carried}
-use Rattle.trf16.specs.Sheet.{Entry, Sheet, entry_of}
-use Rattle.trf16.specs.StartRanks.{starts_of}
-use Rattle.trf16.specs.Verdict.{without_players}
+use Rattle.trf16.specs.Prelude.{lines, some_carried, Entry, Sheet, entry_of, starts_of, without_players}
 use Rattle.trf16.specs.declared.player.Player.{Player}
 use Rattle.trf16.proofs.ApartLemmas.{told, told_none}
 use Rattle.trf16.proofs.RoundLemmas.{starts-entries}

@@ -5,9 +5,7 @@ use Rattle.std.proofs.lemmas.List.{map-append}
 use Rattle.indexmap.proofs.CallerLemmas.{insert_entry-new}
 use Rattle.trf16.specs.declared.fault.Fault.{Fault}
 use Rattle.trf16.specs.declared.player.Player.{Player}
-use Rattle.trf16.specs.Lines.{lines}
-use Rattle.trf16.specs.Sheet.{Entry, Sheet, known, entry_of, with_player}
-use Rattle.trf16.specs.Verdict.{carried_line}
+use Rattle.trf16.specs.Prelude.{lines, Entry, Sheet, known, entry_of, with_player, carried_line}
 use Rattle.trf16.proofs.ReportLemmas.{known-lookup, none_from, keyed-push}
 use Rattle.trf16.proofs.draft.Draft.enter.Goals as goal
 

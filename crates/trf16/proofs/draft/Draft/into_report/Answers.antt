@@ -1,12 +1,9 @@
 use Rattle.std.proofs.Common.{rules, ◌≡◌, ℕ, ◌≤◌, map, length, ap, sym, ◌∙◌, arith}
 use Rattle.std.proofs.lemmas.List.{length-map}
-use Rattle.trf16.specs.Lines.{lines}
+use Rattle.trf16.specs.Prelude.{lines, Sheet, entry_of, without_players, starts_of}
 use Rattle.trf16.specs.declared.player.Player.{Player}
-use Rattle.trf16.specs.Sheet.{Sheet, entry_of}
-use Rattle.trf16.specs.Verdict.{without_players}
 use Rattle.trf16.proofs.NoteLemmas.{tells_same}
 use Rattle.trf16.proofs.ApartLemmas.{apart_same}
-use Rattle.trf16.specs.StartRanks.{starts_of}
 use Rattle.trf16.proofs.draft.Draft.into_report.Goals as goal
 use Rattle.trf16.specs.declared.limits.TheConstants.{MOST_PLAYERS}
 

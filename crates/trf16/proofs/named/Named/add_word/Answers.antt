@@ -1,6 +1,6 @@
 use Rattle.std.proofs.Common.{◌||◌, sym, ap, ◌∙◌}
 use Rattle.std.proofs.Math.Bool.{or-false}
-use Rattle.trf16.specs.Places.{is_place}
+use Rattle.trf16.specs.Prelude.{is_place}
 use Rattle.trf16.proofs.named.Named.add_word.Goals as goal
 
 pub returns-in-None-clause-more : goal.returns-in-None-clause-more

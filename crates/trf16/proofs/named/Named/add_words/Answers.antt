@@ -2,9 +2,7 @@ use Rattle.std.proofs.Common.{◌||◌, ◌==◌, ℕ, List, false, ap, sym, ◌
 use Rattle.std.specs.Map.{keys_of}
 use Rattle.std.specs.Option.{option_map_or}
 use Rattle.std.specs.Prelude.{slice_index_or}
-use Rattle.trf16.specs.Fields.{words, number_of}
-use Rattle.trf16.specs.Extensions.{is_named}
-use Rattle.trf16.specs.Places.{is_place}
+use Rattle.trf16.specs.Prelude.{words, number_of, is_named, is_place}
 use Rattle.std.proofs.Math.Bool.{or_assoc}
 use Rattle.trf16.proofs.named.Named.add_words.Goals as goal
 

@@ -2,9 +2,7 @@
 use Rattle.std.proofs.Common.{◌≡◌, ℕ, ◌<◌, ◌||◌, length}
 use Rattle.std.specs.Prelude.{slice_index_or, vec_len}
 use Rattle.std.specs.Map.{keys_of}
-use Rattle.trf16.specs.Fields.{words}
-use Rattle.trf16.specs.Extensions.{is_named}
-use Rattle.trf16.specs.Places.{is_place}
+use Rattle.trf16.specs.Prelude.{words, is_named, is_place}
 use Rattle.trf16.proofs.named.Named.add_words.Given as goal
 
 abbrev pub invariant-loop-word : goal.invariant-loop-word

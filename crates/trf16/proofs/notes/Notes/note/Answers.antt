@@ -1,7 +1,5 @@
 use Rattle.std.proofs.Common.{◌≡◌, false, ◌&&◌, ◌||◌, [], ◌∷◌, sym, ap, ◌∙◌}
-use Rattle.trf16.specs.Lines.{columns}
-use Rattle.trf16.specs.Extensions.{is_named, words_of}
-use Rattle.trf16.specs.Notes.{begins_with_x, is_marked, first_noted, noted_first}
+use Rattle.trf16.specs.Prelude.{columns, is_named, words_of, begins_with_x, is_marked, first_noted, noted_first}
 use Rattle.trf16.proofs.ExtensionLemmas.{no_extension, of_no_kind}
 use Rattle.trf16.proofs.NoteLemmas.{or_none}
 use Rattle.std.proofs.Math.Bool.{or-false}

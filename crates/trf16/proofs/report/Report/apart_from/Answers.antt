@@ -1,7 +1,6 @@
 use Rattle.std.proofs.Common.{sym, ap, ◌∙◌}
 use Rattle.std.specs.Prelude.{codes}
-use Rattle.trf16.specs.Extensions.{is_kind}
-use Rattle.trf16.specs.Absence.{some_carried}
+use Rattle.trf16.specs.Prelude.{is_kind, some_carried}
 use Rattle.trf16.proofs.ApartLemmas.{nobody_apart}
 use Rattle.trf16.proofs.report.Report.apart_from.Goals as goal
 

@@ -1,8 +1,6 @@
 use Rattle.std.proofs.Common.{◌≡◌, ℕ, List, [], true, false, ap, sym, ◌∙◌}
 use Rattle.std.proofs.lemmas.Bool.{eqb-true}
-use Rattle.trf16.specs.Lines.{columns, lines}
-use Rattle.trf16.specs.Extensions.{names_both}
-use Rattle.trf16.specs.Absence.{some_carried}
+use Rattle.trf16.specs.Prelude.{columns, lines, names_both, some_carried}
 use Rattle.trf16.proofs.AnsweringLemmas.{some_of, some_of-cons, not_together}
 use Rattle.trf16.proofs.ReadingLemmas.{nil_from_length}
 use Rattle.trf16.proofs.report.Report.are_named_together.Goals as goal

@@ -1,6 +1,5 @@
 use Rattle.std.proofs.Common.{◌≡◌, length}
-use Rattle.trf16.specs.Lines.{lines}
-use Rattle.trf16.specs.Extensions.{names_both}
+use Rattle.trf16.specs.Prelude.{lines, names_both}
 use Rattle.trf16.proofs.AnsweringLemmas.{some_of}
 use Rattle.trf16.proofs.report.Report.are_named_together.Given as goal
 

@@ -1,10 +1,5 @@
 use Rattle.std.proofs.Common.{map, sym, ap, ◌∙◌}
-use Rattle.trf16.specs.Lines.{lines}
-use Rattle.trf16.specs.Sheet.{Sheet, entry_of}
-use Rattle.trf16.specs.Extensions.{names_both}
-use Rattle.trf16.specs.Absence.{some_carried}
-use Rattle.trf16.specs.StartRanks.{starts_of}
-use Rattle.trf16.specs.Verdict.{without_players}
+use Rattle.trf16.specs.Prelude.{lines, Sheet, entry_of, names_both, some_carried, starts_of, without_players}
 use Rattle.trf16.proofs.ApartLemmas.{apart_same, looked_up, not_any}
 use Rattle.trf16.proofs.report.Report.are_together.Goals as goal
 

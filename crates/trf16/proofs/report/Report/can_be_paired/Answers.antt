@@ -1,5 +1,5 @@
 use Rattle.std.proofs.Common.{◌<◌, refl, subst, ◌∙◌}
-use Rattle.trf16.specs.Sheet.{rounds_played}
+use Rattle.trf16.specs.Prelude.{rounds_played}
 use Rattle.trf16.proofs.BoardLemmas.{paired_from, not_free, free_end}
 use Rattle.trf16.proofs.report.Report.can_be_paired.Goals as goal
 use Rattle.trf16.specs.declared.limits.TheConstants.{MOST_ROUNDS}

@@ -1,6 +1,5 @@
 use Rattle.std.proofs.Common.{◌≡◌, drop}
-use Rattle.trf16.specs.Steps.{are_free}
-use Rattle.trf16.specs.Round.{named_by}
+use Rattle.trf16.specs.Prelude.{are_free, named_by}
 use Rattle.trf16.proofs.report.Report.can_be_paired.Given as goal
 
 abbrev pub invariant-loop-i : goal.invariant-loop-i

@@ -1,6 +1,5 @@
 use Rattle.std.proofs.Common.{◌≡◌, ◌-◌, ◌<◌, length, map, None, slice_index_or}
-use Rattle.trf16.specs.Lines.{lines}
-use Rattle.trf16.specs.Verdict.{carried_line}
+use Rattle.trf16.specs.Prelude.{lines, carried_line}
 use Rattle.trf16.proofs.report.Report.carried.Given as goal
 
 abbrev pub invariant-loop-rest : goal.invariant-loop-rest

@@ -1,5 +1,5 @@
 use Rattle.std.proofs.Common.{ap, ◌∙◌, ◌∷◌, []}
-use Rattle.trf16.specs.Absence.{first_of}
+use Rattle.trf16.specs.Prelude.{first_of}
 use Rattle.trf16.proofs.report.Report.first_line.Goals as goal
 
 pub returns : goal.returns

@@ -1,5 +1,5 @@
 use Rattle.std.proofs.Common.{ap, ◌∙◌}
-use Rattle.trf16.specs.Absence.{is_named_absent}
+use Rattle.trf16.specs.Prelude.{is_named_absent}
 use Rattle.trf16.proofs.report.Report.is_named_absent.Goals as goal
 
 pub returns : goal.returns

@@ -3,8 +3,7 @@ use Rattle.std.specs.Prelude.{slice_index_or}
 use Rattle.std.specs.Map.{keys_of}
 use Rattle.std.proofs.lemmas.List.{length-map}
 use Rattle.trf16.specs.declared.player.Player.{Player}
-use Rattle.trf16.specs.Sheet.{Entry, Sheet}
-use Rattle.trf16.specs.StartRanks.{starts_of}
+use Rattle.trf16.specs.Prelude.{Entry, Sheet, starts_of}
 use Rattle.trf16.proofs.RoundLemmas.{starts-entries}
 use Rattle.trf16.proofs.ApartLemmas.{placed, some_so}
 use Rattle.trf16.proofs.report.Report.place.Goals as goal

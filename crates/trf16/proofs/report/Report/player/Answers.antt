@@ -2,8 +2,7 @@ use Rattle.std.proofs.Common.{[], ap, ◌∙◌}
 use Rattle.std.specs.Option.{option_map_or}
 use Rattle.std.specs.Prelude.{option_map}
 use Rattle.trf16.specs.declared.player.Player.{Player}
-use Rattle.trf16.specs.Names.{player_of}
-use Rattle.trf16.specs.Sheet.{cells_of, entry_of}
+use Rattle.trf16.specs.Prelude.{player_of, cells_of, entry_of}
 use Rattle.trf16.proofs.ReportLemmas.{cells-lookup, entry-lookup}
 use Rattle.trf16.proofs.AnsweringLemmas.{cells-copied, entry-copied}
 use Rattle.trf16.proofs.report.Report.player.Goals as goal

@@ -2,15 +2,11 @@ use Rattle.std.proofs.Common.{◌≡◌, ℕ, ◌≤◌, List, map, length, nat_
 use Rattle.std.proofs.lemmas.List.{length-map}
 use Rattle.std.specs.List.{IsDistinct}
 use Rattle.trf16.specs.declared.player.Player.{Player}
-use Rattle.trf16.specs.Lines.{lines}
-use Rattle.trf16.specs.Verdict.{carried_line, without_players}
-use Rattle.trf16.specs.Sheet.{Entry, Sheet, entry_of, rounds_played}
+use Rattle.trf16.specs.Prelude.{lines, carried_line, without_players, Entry, Sheet, entry_of, rounds_played, entry_turned, starts_of}
 use Rattle.std.specs.Prelude.{Option, Some, None, option_copied}
 use denote.Ref.{Bor}
-use Rattle.trf16.specs.Steps.{entry_turned}
 use Rattle.trf16.proofs.RoundLemmas.{KeepsStart, turned-insert, turned-end, turned-length, starts-entries, starts-with}
 use Rattle.trf16.proofs.ApartLemmas.{apart_again}
-use Rattle.trf16.specs.StartRanks.{starts_of}
 use Rattle.trf16.proofs.NoteLemmas.{tells_again}
 use Rattle.trf16.proofs.report.Report.turned.Goals as goal
 use Rattle.trf16.specs.declared.limits.TheConstants.{MOST_PLAYERS}

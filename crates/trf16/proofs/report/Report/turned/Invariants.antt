@@ -1,7 +1,6 @@
 use Rattle.std.proofs.Common.{map}
 use Rattle.std.specs.Prelude.{option_copied}
-use Rattle.trf16.specs.Steps.{entry_turned}
-use Rattle.trf16.specs.Sheet.{entry_of, rounds_played}
+use Rattle.trf16.specs.Prelude.{entry_turned, entry_of, rounds_played}
 use Rattle.trf16.proofs.RoundLemmas.{AreTurned}
 use Rattle.trf16.proofs.report.Report.turned.Given as goal
 

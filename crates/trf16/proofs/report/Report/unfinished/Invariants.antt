@@ -1,6 +1,5 @@
 use Rattle.std.proofs.Common.{◌≡◌, map}
-use Rattle.trf16.specs.Sheet.{entry_of}
-use Rattle.trf16.specs.Unfinished.{unfinished_of}
+use Rattle.trf16.specs.Prelude.{entry_of, unfinished_of}
 use Rattle.trf16.proofs.report.Report.unfinished.Given as goal
 
 abbrev pub invariant-loop-player : goal.invariant-loop-player

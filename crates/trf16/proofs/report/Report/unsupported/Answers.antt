@@ -1,6 +1,5 @@
 use Rattle.std.proofs.Common.{ap, ◌∙◌, drop, Option, ℕ, ◌+◌}
-use Rattle.trf16.specs.Absence.{first_of}
-use Rattle.trf16.specs.Notes.{earlier}
+use Rattle.trf16.specs.Prelude.{first_of, earlier}
 use Rattle.trf16.specs.declared.kind.LineKind.TheVariants.{Xxa}
 use Rattle.trf16.proofs.NoteLemmas.{kinds-more, kinds-end}
 use Rattle.trf16.proofs.report.Report.unsupported.Goals as goal

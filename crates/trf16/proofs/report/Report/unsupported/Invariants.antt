@@ -1,7 +1,6 @@
 -- The first line so far, and that of the kinds to come, are together that of all kinds.
 use Rattle.std.proofs.Common.{◌≡◌, drop}
-use Rattle.trf16.specs.Absence.{first_of}
-use Rattle.trf16.specs.Notes.{earlier}
+use Rattle.trf16.specs.Prelude.{first_of, earlier}
 use Rattle.trf16.proofs.report.Report.unsupported.Given as goal
 
 abbrev pub invariant-loop-kind : goal.invariant-loop-kind

@@ -1,8 +1,6 @@
 use Rattle.std.proofs.Common.{◌||◌, ◌==◌, ℕ, List, false, ap, sym, ◌∙◌}
 use Rattle.std.specs.Option.{option_map_or}
-use Rattle.trf16.specs.Fields.{words, number_of}
-use Rattle.trf16.specs.Extensions.{is_named}
-use Rattle.trf16.specs.Notes.{has_start}
+use Rattle.trf16.specs.Prelude.{words, number_of, is_named, has_start}
 use Rattle.std.proofs.Math.Bool.{or_assoc}
 use Rattle.trf16.proofs.start_ranks.StartRanks.mark_words.Goals as goal
 

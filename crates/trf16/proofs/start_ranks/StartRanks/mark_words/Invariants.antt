@@ -1,8 +1,6 @@
 -- Who is marked, and whom the words to come name, are together who is marked in the end.
 use Rattle.std.proofs.Common.{◌≡◌, ℕ, ◌||◌, length}
-use Rattle.trf16.specs.Fields.{words}
-use Rattle.trf16.specs.Extensions.{is_named}
-use Rattle.trf16.specs.Notes.{has_start}
+use Rattle.trf16.specs.Prelude.{words, is_named, has_start}
 use Rattle.trf16.proofs.start_ranks.StartRanks.mark_words.Given as goal
 
 abbrev pub invariant-loop-word : goal.invariant-loop-word

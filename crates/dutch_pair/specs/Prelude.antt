@@ -1,0 +1,15 @@
+-- The words of dutch_pair by one name: for its proofs, and for the crates above.
+pub use Rattle.dutch_pair.specs.Round.{Pairing, Round, Visit, brackets, by_choice, ending, everybody, final_bracket, no_pairing, ordinary_bracket, paired_again, pairing_in, passing, penultimate_bracket, round}
+pub use Rattle.dutch_pair.specs.Lower.{above_lower, is_below, lower_of}
+pub use Rattle.dutch_pair.specs.Boards.{AreInOrder, NoneBefore, boards, both_scores, bye_of, higher, ordered, placed, starts}
+unfoldable pub use Rattle.dutch_pair.specs.Boards.{board_of, goes_before, goes_before_by_sum}
+pub use Rattle.dutch_pair.specs.Examples.{all_met, before, five_players, forfeit_winner, idle_winner, leader_above_two, leader_meets, leader_moves_down, leader_quality, pair_given_up, pairs_reached, player, two_leaders}
+unfoldable pub use Rattle.dutch_pair.specs.Examples.{boards_of}
+pub use Rattle.dutch_pair.specs.Outcomes.{AreStages, IsBracketAt, IsOutcome, IsStage, IsStoppedIn, TellsCompletion, TellsCompletionAt, shown, visit, visit_at, visit_of}
+pub use Rattle.dutch_pair.specs.Walk.{AreAbove, AreRanked, Goes}
+pub use Rattle.dutch_pair.specs.Stages.{ArePairs, GoesOn, HasEnded, IsBehind, IsFound, IsHalt, IsSettled, IsUnderWay, StandsAt, Starts, TellsUsed, Walk, bye_at, choice_of, group_kind, in_front, is_again, own_pairs, round_by, round_from, stage_first}
+pub use Rattle.dutch_pair.specs.Everybody.{NameEverybodyOnce}
+pub use Rattle.dutch_pair.specs.WaysOut.{GoesOut, HasWayOut, StandsBefore}
+pub use Rattle.dutch_pair.specs.DeadEnds.{HasNoPairOf, NoTwoMayMeet, PairOut, moved_down}
+pub use Rattle.dutch_pair.specs.Barriers.{Barrier, Blocks, has_blockers, is_first, label, lacks_bye, opens_odd_group}
+unfoldable pub use Rattle.dutch_pair.specs.Instead.{IsInstead}
