@@ -66,9 +66,8 @@ abbrev pub best_of_pass : Pass → Option Best → List Arrangement → Option A
 best_of_pass pass kept coming = best_yet pass.context.now pass.wish (aim_in pass.aim) kept coming
 
 -- once a candidate was looked at, what is kept then makes the choice that was to come before
-abbrev pub IsChosenNext : Search → Option Best → Arrangement → Type 0
-IsChosenNext search kept candidate = (coming : List Arrangement)
-    → best_of_pass search.pass.now kept coming ≡ best_of_pass search.pass.now search.kept.now (candidate ∷ coming)
+abbrev pub IsChosenNext : Pass → Option Best → Option Best → Arrangement → Type 0
+IsChosenNext pass before after candidate = (coming : List Arrangement) → best_of_pass pass after coming ≡ best_of_pass pass before (candidate ∷ coming)
 
 -- what a pass chooses of all
 abbrev pub near_of : Pass → Option Arrangement

@@ -57,41 +57,39 @@ pub enum Choice {
     Undecided,
 }
 
-/// A candidate with its quality, to be kept in place of the one before it, if it grants what is wished, is of interest
-/// and can be chosen.
+/// Keeps a candidate in place of the one before it if it grants what is wished, is of interest and can be chosen. (It is
+/// put where that one stands, and not handed out: a candidate is large, and most are passed over.)
 #[tactic(auto, using(crate::proofs::AimLemmas::unwished_passed, crate::proofs::AimLemmas::idle_passed, crate::proofs::AimLemmas::winner_kept, crate::proofs::AimLemmas::unfit_passed))]
 fn consider(
-    search: Search<'_, '_>,
+    pass: &Pass<'_>,
     candidate: &Candidate,
+    kept: &mut Option<Best>,
     judge: &mut Judge<'_>,
     budget: &mut Budget,
-) -> Result<Option<Best>, Stopped>
-    requires candidate { IsHere search.pass.now.context.now candidate.now }
-    requires kept { IsKept search.pass.now.context.now search.kept.now }
-    requires look { LooksBelow search.pass.now.context.now judge.old.look }
-    ensures answer { MatchFound result
-        (λ best. IsChosenNext search.entry (Some best) candidate.now.lists)
-        (IsChosenNext search.entry search.entry.kept.now candidate.now.lists)
-        (budget.new.used ≡ budget.new.limit) }
-    ensures kept { IfOk result (IsKept search.entry.pass.now.context.now) }
-    ensures look { LooksBelow search.entry.pass.now.context.now judge.new.look }
+) -> Result<(), Stopped>
+    requires candidate { IsHere pass.now.context.now candidate.now }
+    requires kept { IsKept pass.now.context.now kept.old }
+    requires look { LooksBelow pass.now.context.now judge.old.look }
+    ensures answer { MatchResult result (λ _. IsChosenNext pass.now kept.old kept.new candidate.now.lists)
+        (λ _. budget.new.used ≡ budget.new.limit) }
+    ensures kept { IsKept pass.now.context.now kept.new }
+    ensures look { LooksBelow pass.now.context.now judge.new.look }
     ensures weights { judge.new.weights ≡ judge.old.weights }
     ensures spends { Spends budget.old budget.new }
 {
-    let pass = search.pass;
     if !is_wished(pass.wish, candidate) {
-        return Ok(None);
+        return Ok(());
     }
     judge_candidate(pass.context, candidate, judge, budget)?;
-    if is_idle(&judge.room.quality, &pass.aim, search.kept) {
-        return Ok(None);
+    if is_idle(&judge.room.quality, &pass.aim, kept) {
+        return Ok(());
     }
     if can_be_chosen(pass.context, candidate, &mut judge.left, budget)? {
         let quality = take(&mut judge.room.quality);
         let candidate = candidate.copied();
-        return Ok(Some(Best { candidate, quality }));
+        *kept = Some(Best { candidate, quality });
     }
-    Ok(None)
+    Ok(())
 }
 
 /// Draws the next candidate that may be of interest.
@@ -243,10 +241,7 @@ fn best_near<'a>(
     lister.listing.restart(pass.shape);
     let mut kept = None;
     while draw(Search { pass, kept: &kept }, lister, judge, budget)? {
-        let search = Search { pass, kept: &kept };
-        if let Some(best) = consider(search, &lister.drawn, judge, budget)? {
-            kept = Some(best);
-        }
+        consider(pass, &lister.drawn, &mut kept, judge, budget)?;
     }
     Ok(kept)
 }

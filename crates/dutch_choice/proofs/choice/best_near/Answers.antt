@@ -50,23 +50,6 @@ consider-requires-clause-candidate c =
       down = found.1 ∙ ap (λ (frame : Frame). down frame lists) c.loop-kept.invariant.lists.frame;
     }
 
-pub loop-kept-preserved-in-Some : goal.loop-kept-preserved-in-Some
-loop-kept-preserved-in-Some c =
-    let pass = c.args.pass.now in
-    let found = rw c.if-branch.true at c.in_ok-draw.ensures.answer in
-    let before = c.loop-kept.lister.listing.coming in
-    record {
-      chosen = c.loop-kept.invariant.chosen ∙ skipped_same pass.context.now pass.wish (aim_in pass.aim) c.loop-kept.kept before _ c.loop-kept.invariant.kept found.0
-          ∙ sym ((rw c.in-Some.is at c.in_ok-best.ensures.answer) c.draw.new.lister.listing.coming);
-      kept = rw c.in-Some.is at c.in_ok-best.ensures.kept;
-      inside = λ lists m. c.loop-kept.invariant.inside lists (left_was_there _ lists before _ found.0 (inr m));
-      lists = lists_stay pass c.loop-kept.lister.listing c.draw.new.lister.listing c.in_ok-draw.ensures.frame c.in_ok-draw.ensures.rule c.loop-kept.invariant.lists;
-      shape = c.in_ok-draw.ensures.shape ∙ c.loop-kept.invariant.shape;
-      spends = spends-more c.loop-kept.invariant.spends (spends-more c.in_ok-draw.ensures.spends c.consider.ensures.spends);
-      look = c.consider.ensures.look;
-      weights = c.consider.ensures.weights ∙ c.in_ok-draw.ensures.weights ∙ c.loop-kept.invariant.weights;
-    }
-
 pub loop-kept-preserved : goal.loop-kept-preserved
 loop-kept-preserved c =
     let pass = c.args.pass.now in
@@ -74,8 +57,8 @@ loop-kept-preserved c =
     let before = c.loop-kept.lister.listing.coming in
     record {
       chosen = c.loop-kept.invariant.chosen ∙ skipped_same pass.context.now pass.wish (aim_in pass.aim) c.loop-kept.kept before _ c.loop-kept.invariant.kept found.0
-          ∙ sym ((rw c.in_default.is at c.in_ok-best.ensures.answer) c.draw.new.lister.listing.coming);
-      kept = c.loop-kept.invariant.kept;
+          ∙ sym (c.in_ok-consider.ensures.answer c.draw.new.lister.listing.coming);
+      kept = c.consider.ensures.kept;
       inside = λ lists m. c.loop-kept.invariant.inside lists (left_was_there _ lists before _ found.0 (inr m));
       lists = lists_stay pass c.loop-kept.lister.listing c.draw.new.lister.listing c.in_ok-draw.ensures.frame c.in_ok-draw.ensures.rule c.loop-kept.invariant.lists;
       shape = c.in_ok-draw.ensures.shape ∙ c.loop-kept.invariant.shape;

@@ -9,8 +9,8 @@ use Rattle.dutch_choice.proofs.choice.consider.Goals as goal
 
 pub returns-then-branch-clause-answer : goal.returns-then-branch-clause-answer
 returns-then-branch-clause-answer c = λ coming.
-    let pass = c.args.search.pass.now in
-    let kept = c.args.search.kept.now in
+    let pass = c.args.pass.now in
+    let kept = c.args.kept.now in
     let taken = c.take-quality.ensures.value in
     winner_kept pass.context.now pass.wish (aim_in pass.aim) kept (record { candidate = c.copied-candidate.result; quality = c.take-quality.result })
     c.args.candidate.now.lists coming c.requires.kept (ap (λ (candidate : Candidate). candidate.lists) c.copied-candidate.ensures) (ap quality_in taken ∙ c.in_ok-judge_candidate.ensures.answer)
