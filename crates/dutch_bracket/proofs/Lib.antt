@@ -8,7 +8,7 @@ pub mod C07WeakerRules
 pub mod GhostPairs
 pub mod RepeatedLemmas
 pub mod ArrangementParts
-pub mod BegunLemmas
+pub mod FixedListsLemmas
 pub mod BitLemmas
 pub mod C06Psd
 pub mod C08ToC19Fixed

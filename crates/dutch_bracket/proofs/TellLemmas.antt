@@ -19,19 +19,19 @@ decided_by No decided test old new f e h = subst (λ d. Decides d test new) (sym
 decided_by Undecided (Ok b) test old new f e h = absurd (true≢false (sym e))
 decided_by Undecided (Err stop) test old new f e h = f h
 
-told_by_test : (meets : ℕ → ℕ → Bool) (may_be_left : ℕ → Bool) (players : List ℕ) (answer : Answer) (stopped : Type 0)
+decided_by_test : (meets : ℕ → ℕ → Bool) (may_be_left : ℕ → Bool) (players : List ℕ) (answer : Answer) (stopped : Type 0)
     → MatchAnswer answer (Completable meets may_be_left players) (¬ Completable meets may_be_left players) stopped → Tells answer (can_complete meets may_be_left players) stopped
-told_by_test meets may_be_left players Yes stopped h = (completable_by_test meets may_be_left players).0 h
-told_by_test meets may_be_left players No stopped h =
+decided_by_test meets may_be_left players Yes stopped h = (completable_by_test meets may_be_left players).0 h
+decided_by_test meets may_be_left players No stopped h =
     false_from_ne_true (can_complete meets may_be_left players) (λ test. h ((completable_by_test meets may_be_left players).1 test))
-told_by_test meets may_be_left players Undecided stopped h = h
+decided_by_test meets may_be_left players Undecided stopped h = h
 
 pub told : (meets : ℕ → ℕ → Bool) (may_be_left : ℕ → Bool) (players : List ℕ) (answer : Answer) (decided : Result Bool Stopped) (old new : Type 0) → (old → new)
     → MatchAnswer answer (decided ≡ Ok true) (decided ≡ Ok false) (IsErr decided)
     → MatchAnswer answer (Completable meets may_be_left players) (¬ Completable meets may_be_left players) old
     → Decides decided (can_complete meets may_be_left players) new
 told meets may_be_left players answer decided old new f e h =
-    decided_by answer decided (can_complete meets may_be_left players) old new f e (told_by_test meets may_be_left players answer old h)
+    decided_by answer decided (can_complete meets may_be_left players) old new f e (decided_by_test meets may_be_left players answer old h)
 
 chosen_at : (decided : Result Bool Stopped) (penultimate test : Bool) (stopped : Type 0) → true ≡ penultimate → Decides decided test stopped → Decides decided (not penultimate || test) stopped
 chosen_at decided true test stopped e h = h

@@ -47,5 +47,5 @@ abbrev pub quality_here : Context → Arrangement → Quality
 quality_here context a = quality_of context.facts context.reached context.lower a
 
 -- something is said of each of its candidates of a shape that have a beginning
-abbrev pub OfEachBegun : Context → Shape → Beginning → (Arrangement → Type 0) → Type 0
-OfEachBegun context shape beginning says = (a : Arrangement) → IsIn a (candidates_here context shape) → Begins beginning a → says a
+abbrev pub OfEachWithBeginning : Context → Shape → Beginning → (Arrangement → Type 0) → Type 0
+OfEachWithBeginning context shape beginning says = (a : Arrangement) → IsIn a (candidates_here context shape) → Begins beginning a → says a

@@ -11,7 +11,7 @@ ghost use Rattle.dutch_bracket.specs.Stops.{Decides};
 use crate::completion::completes;
 use crate::context::Context;
 use crate::greatest::Lister;
-use crate::matched::told_by_matching;
+use crate::matched::decided_by_matching;
 use crate::reached::{BracketKind, ByNumber, Reached, Seats, push_all};
 use crate::seated::push_seats;
 use crate::seats::seats;
@@ -54,7 +54,7 @@ pub fn at_most(steps: u64, budget: &Budget) -> Budget
 }
 
 /// Whether seats can be paired out (A.9), by a search of few steps. None says that they did not suffice.
-fn told_by_few_steps(
+fn decided_in_few_steps(
     field: &Field,
     players: &[u16],
     budget: &mut Budget,
@@ -68,14 +68,14 @@ fn told_by_few_steps(
     let answer = completes(players, &seats(field), &mut few).decided();
     budget.used = few.used;
     match answer {
-        Ok(told) => Ok(Some(told)),
+        Ok(decided) => Ok(Some(decided)),
         Err(Stopped) if budget.used == budget.limit => Err(Stopped),
         Err(Stopped) => Ok(None),
     }
 }
 
 /// Whether seats can be paired out (A.9), by the search.
-fn told_by_search(field: &Field, players: &[u16], budget: &mut Budget) -> Result<bool, Stopped>
+fn decided_by_search(field: &Field, players: &[u16], budget: &mut Budget) -> Result<bool, Stopped>
     requires few { length players.now ≤ LIMIT }
     ensures answer { Decides result (completable field.now players.now) (budget.new.used ≡ budget.new.limit) }
     ensures spends { Spends budget.old budget.new }
@@ -95,13 +95,13 @@ pub fn can_complete(
     ensures answer { Decides result (completable field.now players.now) (budget.new.used ≡ budget.new.limit) }
     ensures spends { Spends budget.old budget.new }
 {
-    if let Some(told) = told_by_few_steps(field, players, budget)? {
-        return Ok(told);
+    if let Some(decided) = decided_in_few_steps(field, players, budget)? {
+        return Ok(decided);
     }
-    if let Some(told) = told_by_matching(alloc, field, players, budget)? {
-        return Ok(told);
+    if let Some(decided) = decided_by_matching(alloc, field, players, budget)? {
+        return Ok(decided);
     }
-    told_by_search(field, players, budget)
+    decided_by_search(field, players, budget)
 }
 
 /// Whether those whom a candidate leaves over can be paired out with all lower players (A.9). The list is filled anew

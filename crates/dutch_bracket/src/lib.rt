@@ -8,7 +8,6 @@
 //! To mind: players are named by seat in a field, and by number from 1 in a bracket.
 #![tactic(auto)]
 
-pub mod begun;
 pub mod bit_table;
 pub mod colours_missed;
 mod completion;
@@ -17,15 +16,16 @@ pub mod context;
 pub mod differences;
 pub mod eligible;
 pub mod fault;
+pub mod fixed_lists;
 pub mod floats;
 pub mod greatest;
 pub mod group;
 pub mod item;
 mod joins;
+pub mod laws;
 pub mod lookahead;
 pub mod matched;
 pub mod meetings;
-pub mod order_laws;
 pub mod psd_floor;
 pub mod quality;
 pub mod reached;
@@ -33,9 +33,9 @@ pub mod scope;
 pub mod seated;
 pub mod seats;
 pub mod shape;
+mod shape_bound;
 pub mod spending;
 mod takers;
-mod told_shape;
 
 pub use completion::{Answer, completes};
 pub use conditions::{are_left, is_next};

@@ -25,8 +25,8 @@ use crate::psd_floor::{FlatShape, is_uniform};
 use crate::quality::{NextValue, Quality, Room, fill_quality};
 use crate::reached::{BracketKind, ByNumber, Reached, push_all};
 use crate::seated::{by_seats, seats_of};
-use crate::shape::told_by_few_steps;
-use crate::told_shape::told_by_matchings;
+use crate::shape::decided_in_few_steps;
+use crate::shape_bound::bound_by_matchings;
 use dutch_order::{Budget, Candidate, Numbers, Shape, Stopped, numbered_from};
 use dutch_player::Field;
 use std::alloc::Global;
@@ -38,15 +38,15 @@ fn shape_by_matchings(
     budget: &mut Budget,
 ) -> Result<Option<Shape>, Stopped>
     ensures answer { MatchResult result
-        (λ told. IfSome told (IsAlwaysShape rule.entry.field.now rule.entry.reached.now))
+        (λ matched. IfSome matched (IsAlwaysShape rule.entry.field.now rule.entry.reached.now))
         (λ _. budget.new.used ≡ budget.new.limit) }
     ensures spends { Spends budget.old budget.new }
 {
     let Some(alloc) = alloc else {
         return Ok(None);
     };
-    match told_by_matchings(alloc, rule, budget)? {
-        Some(told) => Ok(told.shape),
+    match bound_by_matchings(alloc, rule, budget)? {
+        Some(matched) => Ok(matched.shape),
         None => Ok(None),
     }
 }
@@ -73,12 +73,12 @@ fn value_by_shape(rule: ByNumber<'_>, shape: Shape) -> Option<NextValue>
 /// The greatest shape of a bracket, the first arrangement of which is drawn: the shape that is told, or else that of
 /// the whole listing, which may take very many steps.
 fn greatest_drawn<'b>(
-    told: Option<Shape>,
+    matched: Option<Shape>,
     legal: &Legal<'_, ByNumber<'b>>,
     lister: &mut Lister<'_, ByNumber<'b>>,
     budget: &mut Budget,
 ) -> Result<Option<Shape>, Stopped>
-    requires told { IfSome told (IsAlwaysShape legal.now.rule.now.field.now legal.now.rule.now.reached.now) }
+    requires matched { IfSome matched (IsAlwaysShape legal.now.rule.now.field.now legal.now.rule.now.reached.now) }
     requires frame { legal.now.bracket.now ≡ frame_of legal.now.rule.now.field.now legal.now.rule.now.reached.now }
     requires lists { (lister.old.listing.frame ≡ legal.now.bracket.now)
         × (lister.old.listing.rule ≡ legal.now.rule.now) }
@@ -88,7 +88,7 @@ fn greatest_drawn<'b>(
         (λ _. budget.new.used ≡ budget.new.limit) }
     ensures spends { Spends budget.old budget.new }
 {
-    if let Some(shape) = told
+    if let Some(shape) = matched
         && legal.first(lister, shape, budget)?
     {
         return Ok(Some(shape));
@@ -145,16 +145,16 @@ pub(crate) fn value_of(
         rule: &rule,
     };
     let mut lister = Lister::new(&bracket, &rule);
-    if let Some(found) = told_by_few_steps(&legal, &mut lister, budget)? {
+    if let Some(found) = decided_in_few_steps(&legal, &mut lister, budget)? {
         return Ok(value_drawn(&legal, found, &lister.drawn));
     }
-    let told = shape_by_matchings(alloc, rule, budget)?;
-    if let Some(shape) = told
+    let matched = shape_by_matchings(alloc, rule, budget)?;
+    if let Some(shape) = matched
         && let Some(value) = value_by_shape(rule, shape)
     {
         return Ok(value);
     }
-    let found = greatest_drawn(told, &legal, &mut lister, budget)?;
+    let found = greatest_drawn(matched, &legal, &mut lister, budget)?;
     Ok(value_drawn(&legal, found, &lister.drawn))
 }
 

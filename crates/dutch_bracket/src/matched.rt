@@ -84,7 +84,7 @@ fn confirmed(
     players: &[u16],
     found: &Found,
 ) -> Result<Option<bool>, AllocError>
-    ensures { IfOk result (λ told. IfSome told (λ yes. yes ≡ completable field.now players.now)) }
+    ensures { IfOk result (λ decided. IfSome decided (λ yes. yes ≡ completable field.now players.now)) }
 {
     let rule = seats(field);
     let made = made_pairs(alloc, players, &found.partners)?;
@@ -107,7 +107,7 @@ fn few_steps(players: &[u16]) -> u64 {
 /// Whether seats can be paired out, told by a greatest matching in half of the steps that are left. None says that it
 /// was not looked for, since they are too few, that it was not found in them, or not confirmed, or that memory was
 /// refused.
-pub(crate) fn told_by_matching(
+pub(crate) fn decided_by_matching(
     alloc: Global,
     field: &Field,
     players: &[u16],

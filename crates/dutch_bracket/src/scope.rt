@@ -9,7 +9,7 @@ ghost use Rattle.dutch_bracket.specs.Beginnings.{has_s1};
 ghost use Rattle.dutch_order.specs.Prelude.{is_member};
 ghost use Rattle.dutch_bracket.specs.Scopes.{Covers, is_joined, may_stay, moved_down_standing, resident_standing, standing_of};
 
-use crate::begun::has_s1;
+use crate::fixed_lists::has_s1;
 use crate::reached::copied;
 use dutch_order::{Filling, Numbers, Prefix};
 use std::marker::Model;

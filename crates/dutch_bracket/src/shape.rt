@@ -12,7 +12,7 @@ use crate::eligible::{at_most, first_eligible};
 use crate::greatest::{Lister, Shapes, greatest_shape};
 use crate::reached::ByNumber;
 use crate::takers::can_go_out;
-use crate::told_shape::{Told, told_by_matchings};
+use crate::shape_bound::{ShapeBound, bound_by_matchings};
 use dutch_order::{Bracket, Budget, Rule, Shape, Stopped};
 
 impl<'a, 'b> Shapes<ByNumber<'b>> for Context<'a> {
@@ -44,10 +44,10 @@ impl<'a, 'b> Shapes<ByNumber<'b>> for Context<'a> {
             return Ok(true);
         }
         let mut some = at_most((budget.limit - budget.used) / 4, budget);
-        let told = can_go_out(self, self.len() - 2 * pairs, &mut some);
+        let found = can_go_out(self, self.len() - 2 * pairs, &mut some);
         budget.used = some.used;
-        match told {
-            Ok(told) => Ok(told),
+        match found {
+            Ok(found) => Ok(found),
             Err(Stopped) if budget.used == budget.limit => Err(Stopped),
             Err(Stopped) => Ok(true),
         }
@@ -120,7 +120,7 @@ const FIRST_STEPS: u64 = 64;
 
 /// The greatest shape by a listing of few steps, the first arrangement of which is drawn. None says that they did not
 /// suffice.
-pub(crate) fn told_by_few_steps<R: Rule, S: Shapes<R>>(
+pub(crate) fn decided_in_few_steps<R: Rule, S: Shapes<R>>(
     asked: &S,
     lister: &mut Lister<'_, R>,
     budget: &mut Budget,
@@ -148,23 +148,23 @@ pub(crate) fn told_by_few_steps<R: Rule, S: Shapes<R>>(
 #[tactic(auto, unfolding(crate::specs::Brackets::shape_of))]
 fn found_within<'b>(
     context: &Context<'_>,
-    told: Told,
+    bound: ShapeBound,
     lister: &mut Lister<'_, ByNumber<'b>>,
     budget: &mut Budget,
 ) -> Result<Option<Shape>, Stopped>
-    requires most { IsMost context.now.facts context.now.reached told.most }
-    requires shape { IfSome told.shape (IsAlwaysShape context.now.facts context.now.reached) }
+    requires most { IsMost context.now.facts context.now.reached bound.most }
+    requires shape { IfSome bound.shape (IsAlwaysShape context.now.facts context.now.reached) }
     requires lists { ListsHere context.now lister.old.listing }
     ensures answer { MatchResult result (λ shape. shape_here context.now ≡ shape)
         (λ _. budget.new.used ≡ budget.new.limit) }
     ensures spends { Spends budget.old budget.new }
 {
-    if let Some(shape) = told.shape {
+    if let Some(shape) = bound.shape {
         return Ok(Some(shape));
     }
     let bounded = Bounded {
         context,
-        most: told.most,
+        most: bound.most,
     };
     greatest_shape(&bounded, lister, budget)
 }
@@ -182,11 +182,11 @@ fn found_shape<'b>(
         (λ _. budget.new.used ≡ budget.new.limit) }
     ensures spends { Spends budget.old budget.new }
 {
-    if let Some(shape) = told_by_few_steps(context, lister, budget)? {
+    if let Some(shape) = decided_in_few_steps(context, lister, budget)? {
         return Ok(shape);
     }
-    if let Some(told) = told_by_matchings(context.alloc(), context.rule(), budget)? {
-        return found_within(context, told, lister, budget);
+    if let Some(bound) = bound_by_matchings(context.alloc(), context.rule(), budget)? {
+        return found_within(context, bound, lister, budget);
     }
     greatest_shape(context, lister, budget)
 }

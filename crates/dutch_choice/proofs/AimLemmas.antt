@@ -11,7 +11,7 @@ use Rattle.dutch_order.specs.declared.bracket.Shape.{Shape}
 use Rattle.dutch_choice.specs.declared.pass.Best.{Best}
 use Rattle.dutch_choice.specs.declared.wish.Wish.{Wish}
 use Rattle.dutch_bracket.specs.Prelude.{Context, can_be_chosen_here, candidates_here, eligible_here, quality_here, Quality, is_better, quality_in, best_of_shape, candidates_of, eligible, shape_of, choice, first_unbeaten, best, best_with}
-use Rattle.dutch_choice.specs.Prelude.{kept_lists, wins, IsBest, IsKept, is_better_here, is_wished, beats, is_idle, is_near, is_dull, is_open, is_sought, best_yet, best_near, best_wished}
+use Rattle.dutch_choice.specs.Prelude.{kept_lists, wins, IsBest, IsKept, is_better_here, is_wished, beats, is_idle, is_near, is_unwanted, is_open, is_sought, best_yet, best_near, best_wished}
 use Rattle.dutch_choice.proofs.ChoiceLemmas.{IsOrder, behind_aim, behind_either, behind_kept, kept_at_end, kept_by, order_of, passed_by, wins_over}
 use Rattle.dutch_bracket.proofs.QualityOrder.{irreflexive, transitive, total}
 use Rattle.dutch_choice.proofs.BestLemmas.{order_in, choice_is, shape_has_best}
@@ -51,14 +51,14 @@ filter_always p [] = refl
 filter_always p (x ∷ xs) = grind (arith, filter_always p xs)
 
 -- who does not grant the wish is of no interest, and whose quality is of none, or is if it can be chosen
-pub unwished_is_dull : (fit wished idle : Bool) → wished ≡ false → (not (fit && wished) || idle) ≡ true
-unwished_is_dull fit wished idle h = grind arith
+pub unwished_is_unwanted : (fit wished idle : Bool) → wished ≡ false → (not (fit && wished) || idle) ≡ true
+unwished_is_unwanted fit wished idle h = grind arith
 
-pub idle_is_dull : (fit wished idle : Bool) → idle ≡ true → (not (fit && wished) || idle) ≡ true
-idle_is_dull fit wished idle h = grind arith
+pub idle_is_unwanted : (fit wished idle : Bool) → idle ≡ true → (not (fit && wished) || idle) ≡ true
+idle_is_unwanted fit wished idle h = grind arith
 
-pub idle_if_fit_is_dull : (fit wished idle : Bool) → (fit ≡ true → idle ≡ true) → (not (fit && wished) || idle) ≡ true
-idle_if_fit_is_dull fit wished idle h = grind arith
+pub idle_if_fit_is_unwanted : (fit wished idle : Bool) → (fit ≡ true → idle ≡ true) → (not (fit && wished) || idle) ≡ true
+idle_if_fit_is_unwanted fit wished idle h = grind arith
 
 quality_order : IsOrder is_better
 quality_order = order_of (λ (q : Quality). q) is_better irreflexive transitive total
@@ -125,29 +125,29 @@ module _ (context : Context) where
     same_wins (Some best) d h = ap (is_better (quality_here context d)) h.1
 
     -- a candidate that is of no interest is passed
-    dull_passed : (aim : Option Quality) (kept : Option Best) (d : Arrangement) (rest : List Arrangement) → IsKept context kept → is_dull context wish aim kept d ≡ true
+    unwanted_passed : (aim : Option Quality) (kept : Option Best) (d : Arrangement) (rest : List Arrangement) → IsKept context kept → is_unwanted context wish aim kept d ≡ true
         → best_yet context wish aim kept (d ∷ rest) ≡ best_yet context wish aim kept rest
     unfolding best_yet
-    dull_passed aim kept d rest h dull =
+    unwanted_passed aim kept d rest h unwanted =
         passed_by (is_better_here context) (order_in context) (is_open context wish) (λ c. beats aim (quality_here context c)) (kept_lists kept) d rest
-        (wins (quality_here context d) kept) (same_wins kept d h) dull
+        (wins (quality_here context d) kept) (same_wins kept d h) unwanted
 
     -- so is one whose quality is of no interest
     pub idle_passed : (aim : Option Quality) (kept : Option Best) (quality : Quality) (d : Arrangement) (rest : List Arrangement) → IsKept context kept
         → quality ≡ quality_here context d → is_idle aim kept quality ≡ true → best_yet context wish aim kept rest ≡ best_yet context wish aim kept (d ∷ rest)
     idle_passed aim kept quality d rest h e idle =
-        sym (dull_passed aim kept d rest h (or_right (not (is_open context wish d)) _ (ap (is_idle aim kept) (sym e) ∙ idle)))
+        sym (unwanted_passed aim kept d rest h (or_right (not (is_open context wish d)) _ (ap (is_idle aim kept) (sym e) ∙ idle)))
 
     -- one that does not grant the wish
     pub unwished_passed : (aim : Option Quality) (kept : Option Best) (d : Arrangement) (rest : List Arrangement) → IsKept context kept → is_wished wish d ≡ false
         → best_yet context wish aim kept rest ≡ best_yet context wish aim kept (d ∷ rest)
-    unwished_passed aim kept d rest h unwished = sym (dull_passed aim kept d rest h (unwished_is_dull _ _ _ unwished))
+    unwished_passed aim kept d rest h unwished = sym (unwanted_passed aim kept d rest h (unwished_is_unwanted _ _ _ unwished))
 
     -- and one that cannot be chosen
     pub unfit_passed : (aim : Option Quality) (kept : Option Best) (d : Arrangement) (rest : List Arrangement) → IsKept context kept → can_be_chosen_here context d ≡ false
         → best_yet context wish aim kept rest ≡ best_yet context wish aim kept (d ∷ rest)
     unfit_passed aim kept d rest h unfit =
-        sym (dull_passed aim kept d rest h (idle_if_fit_is_dull _ _ _ (λ can. absurd (true≢false (sym can ∙ unfit)))))
+        sym (unwanted_passed aim kept d rest h (idle_if_fit_is_unwanted _ _ _ (λ can. absurd (true≢false (sym can ∙ unfit)))))
 
     -- one that is of interest, grants the wish and can be chosen is kept
     pub winner_kept : (aim : Option Quality) (kept : Option Best) (best : Best) (lists : Arrangement) (coming : List Arrangement) → IsKept context kept
@@ -165,16 +165,16 @@ module _ (context : Context) where
     best_last aim kept all h =
         h ∙ kept_at_end (is_better_here context) (order_in context) (is_open context wish) (λ c. beats aim (quality_here context c)) (kept_lists kept)
 
-    dull_front_passed : (aim : Option Quality) (kept : Option Best) (skipped rest : List Arrangement) → IsKept context kept
-        → AllByRecursion (λ a. is_dull context wish aim kept a ≡ true) skipped → best_yet context wish aim kept (skipped ++ rest) ≡ best_yet context wish aim kept rest
-    dull_front_passed aim kept [] rest h dull = refl
-    dull_front_passed aim kept (d ∷ skipped) rest h dull =
-        dull_passed aim kept d (skipped ++ rest) h dull.0 ∙ dull_front_passed aim kept skipped rest h dull.1
+    unwanted_front_passed : (aim : Option Quality) (kept : Option Best) (skipped rest : List Arrangement) → IsKept context kept
+        → AllByRecursion (λ a. is_unwanted context wish aim kept a ≡ true) skipped → best_yet context wish aim kept (skipped ++ rest) ≡ best_yet context wish aim kept rest
+    unwanted_front_passed aim kept [] rest h unwanted = refl
+    unwanted_front_passed aim kept (d ∷ skipped) rest h unwanted =
+        unwanted_passed aim kept d (skipped ++ rest) h unwanted.0 ∙ unwanted_front_passed aim kept skipped rest h unwanted.1
 
     -- what a listing skips changes nothing
     pub skipped_same : (aim : Option Quality) (kept : Option Best) (before after : List Arrangement) → IsKept context kept
-        → Passes (λ a. is_dull context wish aim kept a ≡ true) before after → best_yet context wish aim kept before ≡ best_yet context wish aim kept after
-    skipped_same aim kept before after h (skipped, same, dull) = ap (best_yet context wish aim kept) same ∙ dull_front_passed aim kept skipped after h dull
+        → Passes (λ a. is_unwanted context wish aim kept a ≡ true) before after → best_yet context wish aim kept before ≡ best_yet context wish aim kept after
+    skipped_same aim kept before after h (skipped, same, unwanted) = ap (best_yet context wish aim kept) same ∙ unwanted_front_passed aim kept skipped after h unwanted
 
   -- what is handed out in the end
   pub handed : (kept : Option Best) (all : Option Arrangement) → IsKept context kept → all ≡ kept_lists kept → MatchOption kept (all ≡ None) (IsBest context all)

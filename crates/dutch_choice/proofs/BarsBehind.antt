@@ -11,7 +11,7 @@ use Rattle.dutch_order.specs.declared.bracket.Shape.{Shape}
 use Rattle.dutch_order.specs.Prelude.{Arrangement, IsIn, Beginning}
 use mathlib.Core.Bool.{Bool-set}
 use Rattle.dutch_floors.specs.FloorOf.{Basis, IsBasis, s1_by, s1_of}
-use Rattle.dutch_bracket.specs.Prelude.{is_uniform, fixed_lists, has_s1, is_lower, HasNoBetter, IsNoBetter, Context, NextValue, Quality, is_better, next_in, quality_in, OfEachBegun, candidates_here, quality_here, IsOf}
+use Rattle.dutch_bracket.specs.Prelude.{is_uniform, fixed_lists, has_s1, is_lower, HasNoBetter, IsNoBetter, Context, NextValue, Quality, is_better, next_in, quality_in, OfEachWithBeginning, candidates_here, quality_here, IsOf}
 use Rattle.dutch_floors.specs.Outlooks.{awaited}
 use Rattle.dutch_choice.specs.Prelude.{aim_in, beats, wins, kept_in, HasNoBetterNext, IsBehindAim, IsBehindKept, Weighs, context_of, pass_of}
 use Rattle.dutch_choice.specs.declared.pass.Best.{Best}
@@ -101,7 +101,7 @@ pub awaited_by : (context : Context) (shape : Shape) (basis : Basis) → IsBasis
     → (b : Beginning) (other : NextValue)
     → ((has_s1 b.filling || is_uniform basis.facts basis.reached basis.shape) ≡ true)
     × IsNoBetter (awaited basis.facts basis.reached basis.shape basis.outlook (s1_of basis b)) other
-    → OfEachBegun context shape b (λ a. HasNoBetter (quality_here context a) other)
+    → OfEachWithBeginning context shape b (λ a. HasNoBetter (quality_here context a) other)
 awaited_by context shape basis is of' b other known a m begins =
     let Tells : Basis → Type 0 = λ k. ((has_s1 b.filling || is_uniform k.facts k.reached k.shape) ≡ true)
     × IsNoBetter (awaited k.facts k.reached k.shape k.outlook (s1_of k b)) other in

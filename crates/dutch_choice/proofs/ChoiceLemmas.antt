@@ -70,8 +70,8 @@ module _ {X : Type 0} (better : X → X → Bool) (order : IsOrder better) (can 
   -- one that is of no interest is passed
   pub passed_by : (kept : Option X) (d : X) (rest : List X) (won : Bool) → won ≡ wins_over better kept d → (not (can d) || (far d || not won)) ≡ true
       → best_with better sought kept (d ∷ rest) ≡ best_with better sought kept rest
-  passed_by None d rest won e dull = grind arith
-  passed_by (Some c) d rest won e dull = grind (arith, best_loses better order c d (filter sought rest))
+  passed_by None d rest won e unwanted = grind arith
+  passed_by (Some c) d rest won e unwanted = grind (arith, best_loses better order c d (filter sought rest))
 
   -- and one that is, is kept
   pub kept_by : (kept : Option X) (d : X) (rest : List X) (won : Bool) → won ≡ wins_over better kept d → can d ≡ true → (far d || not won) ≡ false

@@ -9,7 +9,7 @@ use Rattle.dutch_order.specs.declared.prefix.Filling.TheVariants.{S1, S2, S2r}
 use Rattle.dutch_order.specs.Prelude.{Arrangement, arrangements, left_of, remainder_pairs, numbers_from, IsIn, Begins, BeginsAt, Beginning}
 use Rattle.dutch_player.specs.Prelude.{Facts}
 use Rattle.dutch_bracket.specs.declared.colours_missed.Miss.TheVariants.{Preference}
-use Rattle.dutch_bracket.specs.Prelude.{HasPairsOf, fixed, fixed_lists, has_s1, is_of_shape, lists_by, residents_down, is_uniform, psd_with, repeated, IsFlat, is_lower, quality, Quality, count_in_pairs, highest_first, is_better, misses, psd, quality_with, Context, OfEachBegun, quality_here, IsOf, Reached, frame_of, candidates_of, downfloaters, quality_of, all_pairs, difference, score_at, seat_of, floor_over}
+use Rattle.dutch_bracket.specs.Prelude.{HasPairsOf, fixed, fixed_lists, has_s1, is_of_shape, lists_by, residents_down, is_uniform, psd_with, repeated, IsFlat, is_lower, quality, Quality, count_in_pairs, highest_first, is_better, misses, psd, quality_with, Context, OfEachWithBeginning, quality_here, IsOf, Reached, frame_of, candidates_of, downfloaters, quality_of, all_pairs, difference, score_at, seat_of, floor_over}
 use Rattle.dutch_floors.specs.FloorOf.{Basis, IsBasis, floor_of, is_flat, is_known, more_by, more_in, psd_over, residents_score, s1_by, s1_of}
 use Rattle.dutch_floors.specs.Outlooks.{IsOutlook, awaited}
 use Rattle.dutch_bracket.proofs.C06Psd.{psd_by_first, psd_of_all, psd_of_beginning, uniform_of}
@@ -21,7 +21,7 @@ use Rattle.dutch_floors.proofs.C11StrongPreferences.{more_miss_strongly}
 use Rattle.dutch_bracket.proofs.FixedPairs.{beside, none_known}
 use Rattle.dutch_bracket.proofs.FloorOrder.{floor_holds}
 use Rattle.dutch_bracket.proofs.LegalPairs.{legal_of}
-use Rattle.dutch_bracket.proofs.BegunLemmas.{begun_pairs}
+use Rattle.dutch_bracket.proofs.FixedListsLemmas.{has_fixed_pairs}
 
 same_not_lower : (xs : List ℕ) → is_lower (highest_first xs) (highest_first xs) ≡ false
 same_not_lower xs = more_copies xs xs (λ d. omega arith)
@@ -82,7 +82,7 @@ module _ (basis : Basis) (lower : List ℕ) (a : Arrangement) (of' : IsOf basis.
       ∙ known_not_lower facts reached shape (residents_score facts reached) s1
   psd_holds filling lists h known false uneven =
       ap (λ xs. is_lower it.psd (highest_first xs)) (append-nil (map (difference facts) (all_pairs reached.seats (lists_by filling lists))))
-      ∙ psd_of_beginning facts reached lower (lists_by filling lists) a (begun_pairs filling lists a h)
+      ∙ psd_of_beginning facts reached lower (lists_by filling lists) a (has_fixed_pairs filling lists a h)
 
   -- C.10: so many more miss, by counts alone
   missed_more : (b : Arrangement) → HasPairsOf b a
@@ -94,13 +94,13 @@ module _ (basis : Basis) (lower : List ℕ) (a : Arrangement) (of' : IsOf basis.
   -- C.10: so many more miss
   more_holds : (filling : Filling) (lists : Arrangement) → BeginsAt filling lists a
       → count_in_pairs facts (misses Preference) (all_pairs reached.seats (lists_by filling lists)) + more_by filling basis (lists_by filling lists) ≤ it.missed_preferences
-  more_holds S1 lists h = missed_more (lists_by S1 lists) (begun_pairs S1 lists a h)
-  more_holds S2 lists h = missed_more (lists_by S2 lists) (begun_pairs S2 lists a h)
+  more_holds S1 lists h = missed_more (lists_by S1 lists) (has_fixed_pairs S1 lists a h)
+  more_holds S2 lists h = missed_more (lists_by S2 lists) (has_fixed_pairs S2 lists a h)
   more_holds S2r lists h =
       omega (
         arith,
         lonely_miss facts reached lower shape (lists_by S2r lists) a within m (record { s1 = h.0; s2 = h.1; s1r = h.2; s2r = h.3 }),
-        missed_more (lists_by S2r lists) (begun_pairs S2r lists a h),
+        missed_more (lists_by S2r lists) (has_fixed_pairs S2r lists a h),
       )
 
   -- C.6 to C.19: no candidate with a beginning is better than its floor
@@ -109,7 +109,7 @@ module _ (basis : Basis) (lower : List ℕ) (a : Arrangement) (of' : IsOf basis.
   unfolding quality_of quality quality_with floor_of floor_over psd_over
   floor_stands b h known outlook =
       let later = awaited_holds facts reached lower shape basis.outlook of' outlook b.filling b.lists a arranged h known in
-      let pairs = begun_pairs b.filling b.lists a h in
+      let pairs = has_fixed_pairs b.filling b.lists a h in
       floor_holds facts reached lower (psd_over basis (s1_of basis b) (fixed facts reached (fixed_lists b)))
       (awaited facts reached shape basis.outlook (s1_of basis b)) (more_by b.filling basis (fixed_lists b))
       (more_in true facts reached shape (fixed facts reached (fixed_lists b))) (fixed_lists b) a pairs
@@ -123,7 +123,7 @@ known_s1 basis b h = (and_parts (is_of_shape basis.reached basis.shape (fixed_li
 -- the same of the bracket that floors are for
 pub no_better : (context : Context) (shape : Shape) (basis : Basis) (b : Beginning) (floor : Quality) → IsBasis context.facts context.reached context.lower shape basis
     → IsOf context.facts context.reached → is_known basis b ≡ true → floor ≡ floor_of basis b
-    → OfEachBegun context shape b (λ a. is_better (quality_here context a) floor ≡ false)
+    → OfEachWithBeginning context shape b (λ a. is_better (quality_here context a) floor ≡ false)
 no_better context shape basis b floor is of' known e a m h =
     from_basis context.facts context.reached context.lower shape basis is
     (λ fs st sh. IsOf fs st → IsOutlook fs st context.lower sh basis.outlook → IsIn a (candidates_of fs st sh) → is_better (quality_of fs st context.lower a) floor ≡ false)

@@ -134,15 +134,15 @@ module _ (d : ArrayVec ℕ) where
         subst (λ r. IsUsed down r (seen new is_short)) is (subst (λ xs. IsUsed xs (seen c short) (seen new is_short)) same
         (used_after v new is_short (ap (λ xs. is_kept xs (lists_kept c.entries)) same ∙ ap (λ (r : Remembered). is_kept down r.kept) is ∙ none) keeps))
 
-    recalled : (found : Bool) (v : NextValue) → lookup (is_key d) c.entries ≡ (if found then Some v else None)
+    remembered : (found : Bool) (v : NextValue) → lookup (is_key d) c.entries ≡ (if found then Some v else None)
         → Recalls found v d.items (seen c short) (seen (lru_cache (promoted (is_key d) c.entries) c.cap) short)
-    recalled true v h = record {
+    remembered true v h = record {
       value_is = λ is. found_value v h;
       used = λ is. ap (λ l. record { facts = facts; reached = reached; next = next; kept = l; is_short = short }) (promoted_kept c.entries v h);
       none = λ no. absurd (true≢false no);
       unused = λ no. absurd (true≢false no);
     }
-    recalled false v h = record {
+    remembered false v h = record {
       value_is = λ is. absurd (true≢false (sym is));
       used = λ is. absurd (true≢false (sym is));
       none = λ no. none_kept c.entries h;
@@ -154,7 +154,7 @@ module _ (d : ArrayVec ℕ) where
         → new ≡ lru_cache (promoted (is_key d) c.entries) c.cap → seen c short ≡ old → Recalls found v down old (seen new short)
     recalls down found v new old same h after is =
         subst (λ r. Recalls found v down r (seen new short)) is (subst (λ xs. Recalls found v xs (seen c short) (seen new short)) same
-        (subst (λ k. Recalls found v d.items (seen c short) (seen k short)) (sym after) (recalled found v h)))
+        (subst (λ k. Recalls found v d.items (seen c short) (seen k short)) (sym after) (remembered found v h)))
 
 -- so few are left over that they fit in a key
 pub few_left : (facts : Facts) (reached : Reached) (next down : List ℕ) (c : Values) → AreValues facts reached next c → AreLeft reached down → length down ≤ LIMIT

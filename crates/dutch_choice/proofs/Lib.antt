@@ -2,8 +2,8 @@ pub mod PassesTwice
 pub mod AimLemmas
 pub mod WishLemmas
 pub mod BestGranting
-pub mod FloorOfKnown
-pub mod KnownByWish
+pub mod FloorGiven
+pub mod PremiseOfWish
 pub mod AllPaired
 pub mod RuledOutLemmas
 pub mod BestLemmas

@@ -146,23 +146,23 @@ module _ (frame : Frame) (shape : Shape) (a : Arrangement) (within : frame.mdps 
     high : frame.mdps < pair.1
     high = second_high pair m
 
-    parted : (numbers begun : List ℕ) → begun ≡ numbers → IsIn pair.0 numbers → (IsIn pair.1 numbers → ⊥) → not (has_one_of p q begun) ≡ true → ⊥
-    parted numbers begun same n none bars =
-        true≢false (sym (one_of p q pair numbers are n none) ∙ ap (has_one_of p q) (sym same) ∙ not-true (has_one_of p q begun) bars)
+    parted : (numbers beginning : List ℕ) → beginning ≡ numbers → IsIn pair.0 numbers → (IsIn pair.1 numbers → ⊥) → not (has_one_of p q beginning) ≡ true → ⊥
+    parted numbers beginning same n none bars =
+        true≢false (sym (one_of p q pair numbers are n none) ∙ ap (has_one_of p q) (sym same) ∙ not-true (has_one_of p q beginning) bars)
 
-    s1_parted : (begun : List ℕ) → begun ≡ a.s1 → pair.0 ≤ frame.mdps → not (has_one_of p q begun) ≡ true → ⊥
-    s1_parted begun same low = parted a.s1 begun same (first_low pair m low) (λ n. let also = s1_low pair.1 n in omega (arith, also, high))
+    s1_parted : (beginning : List ℕ) → beginning ≡ a.s1 → pair.0 ≤ frame.mdps → not (has_one_of p q beginning) ≡ true → ⊥
+    s1_parted beginning same low = parted a.s1 beginning same (first_low pair m low) (λ n. let also = s1_low pair.1 n in omega (arith, also, high))
 
-    s1_apart : (filling : Filling) (begun : Arrangement) → BeginsAt filling begun a → pair.0 ≤ frame.mdps → s1_bars filling p q begun ≡ true → ⊥
-    s1_apart S1 begun h low bars = true≢false (sym bars)
-    s1_apart S2 begun h low bars = s1_parted begun.s1 h.0 low bars
-    s1_apart S2r begun h low bars = s1_parted begun.s1 h.0 low bars
+    s1_apart : (filling : Filling) (beginning : Arrangement) → BeginsAt filling beginning a → pair.0 ≤ frame.mdps → s1_bars filling p q beginning ≡ true → ⊥
+    s1_apart S1 beginning h low bars = true≢false (sym bars)
+    s1_apart S2 beginning h low bars = s1_parted beginning.s1 h.0 low bars
+    s1_apart S2r beginning h low bars = s1_parted beginning.s1 h.0 low bars
 
-    s1r_apart : (filling : Filling) (begun : Arrangement) → BeginsAt filling begun a → frame.mdps < pair.0 → s1r_bars filling p q begun ≡ true → ⊥
-    s1r_apart S1 begun h above bars = true≢false (sym bars)
-    s1r_apart S2 begun h above bars = true≢false (sym bars)
-    s1r_apart S2r begun h above bars =
-        let first = first_high pair m above in parted a.s1r begun.s1r h.2 first.0 first.1 bars
+    s1r_apart : (filling : Filling) (beginning : Arrangement) → BeginsAt filling beginning a → frame.mdps < pair.0 → s1r_bars filling p q beginning ≡ true → ⊥
+    s1r_apart S1 beginning h above bars = true≢false (sym bars)
+    s1r_apart S2 beginning h above bars = true≢false (sym bars)
+    s1r_apart S2r beginning h above bars =
+        let first = first_high pair m above in parted a.s1r beginning.s1r h.2 first.0 first.1 bars
 
     low_first : (p ≤ frame.mdps) ⊎ (q ≤ frame.mdps) → pair.0 ≤ frame.mdps
     low_first low = let above : frame.mdps < pair.1 = high in grind arith
@@ -180,12 +180,12 @@ module _ (frame : Frame) (shape : Shape) (a : Arrangement) (within : frame.mdps 
     beyond z h = grind (arith, nat_tests)
 
     -- they meet, so the first halves do not keep them apart
-    halves_apart : (t u : Bool) → nat_le p frame.mdps ≡ t → nat_le q frame.mdps ≡ u → (filling : Filling) (begun : Arrangement) → BeginsAt filling begun a
-        → halves_bar t u filling p q begun ≡ true → ⊥
-    halves_apart true true h g filling begun begins bars = one_is_high (below p h) (below q g)
-    halves_apart true false h g filling begun begins bars = s1_apart filling begun begins (low_first (inl (below p h))) bars
-    halves_apart false true h g filling begun begins bars = s1_apart filling begun begins (low_first (inr (below q g))) bars
-    halves_apart false false h g filling begun begins bars = s1r_apart filling begun begins (high_first (beyond p h) (beyond q g)) bars
+    halves_apart : (t u : Bool) → nat_le p frame.mdps ≡ t → nat_le q frame.mdps ≡ u → (filling : Filling) (beginning : Arrangement) → BeginsAt filling beginning a
+        → halves_bar t u filling p q beginning ≡ true → ⊥
+    halves_apart true true h g filling beginning begins bars = one_is_high (below p h) (below q g)
+    halves_apart true false h g filling beginning begins bars = s1_apart filling beginning begins (low_first (inl (below p h))) bars
+    halves_apart false true h g filling beginning begins bars = s1_apart filling beginning begins (low_first (inr (below q g))) bars
+    halves_apart false false h g filling beginning begins bars = s1r_apart filling beginning begins (high_first (beyond p h) (beyond q g)) bars
 
     -- and neither of them has another opponent
     others_apart : NoneTwice (players_in (pairs_by_number a)) → (other : ℕ × ℕ) → IsIn other (pairs_by_number a) → parts p q other ≡ true

@@ -33,8 +33,8 @@ module _ (context : Context) (wish : Option Wish) where
   is_open c = can_be_chosen_here context c && is_wished wish c
 
   -- a candidate is of no interest: it cannot be chosen, it does not grant the wish, or its quality is of none
-  abbrev pub is_dull : Option Quality → Option Best → Arrangement → Bool
-  is_dull aim kept c = not (is_open c) || is_idle aim kept (quality_here context c)
+  abbrev pub is_unwanted : Option Quality → Option Best → Arrangement → Bool
+  is_unwanted aim kept c = not (is_open c) || is_idle aim kept (quality_here context c)
 
   -- and that the aim is not better than
   abbrev pub is_sought : Option Quality → Arrangement → Bool

@@ -9,10 +9,10 @@ use Rattle.dutch_choice.specs.declared.pass.Best.{Best}
 use Rattle.dutch_choice.specs.declared.choice.TheConstants.{PAIRS_FOR_A_STEP}
 use Rattle.dutch_choice.specs.declared.pass.Pass.{Pass}
 use Rattle.dutch_choice.specs.declared.pass.Search.{Search}
-use Rattle.dutch_choice.specs.Aims.{aim_in, best_near, best_wished, best_yet, is_dull, is_idle}
+use Rattle.dutch_choice.specs.Aims.{aim_in, best_near, best_wished, best_yet, is_unwanted, is_idle}
 use Rattle.dutch_choice.specs.Kept.{IsBest}
-use Rattle.dutch_floors.specs.declared.known.Known.{Known}
-use Rattle.dutch_floors.specs.KnownBeside.{Holds}
+use Rattle.dutch_floors.specs.declared.premise.Premise.{Premise}
+use Rattle.dutch_floors.specs.Premises.{Holds}
 use Rattle.dutch_weights.specs.Prelude.{AreOf, Weighed}
 
 -- for how many steps each one of a pass counts: for one alone in the few steps that come first, and behind them once more for each so many
@@ -37,8 +37,8 @@ abbrev pub IsHere : Context → Candidate → Type 0
 IsHere context candidate = IsOfBracket context.facts context.reached candidate
 
 -- it is so in a candidate of a bracket
-abbrev pub HoldsHere : Context → Known → Arrangement → Type 0
-HoldsHere context known a = Holds context.facts context.reached known a
+abbrev pub HoldsHere : Context → Premise → Arrangement → Type 0
+HoldsHere context premise a = Holds context.facts context.reached premise a
 
 -- a search, beside what it keeps, finds no interest in a candidate's quality
 abbrev pub IsIdle : Search → Arrangement → Type 0
@@ -49,16 +49,16 @@ abbrev pub IsIdleIfFit : Search → Arrangement → Type 0
 IsIdleIfFit search a = can_be_chosen_here search.pass.now.context.now a ≡ true → IsIdle search a
 
 -- it finds no interest in the candidate
-abbrev pub is_dull_to : Search → Arrangement → Bool
-is_dull_to search = is_dull search.pass.now.context.now search.pass.now.wish (aim_in search.pass.now.aim) search.kept.now
+abbrev pub is_unwanted_to : Search → Arrangement → Bool
+is_unwanted_to search = is_unwanted search.pass.now.context.now search.pass.now.wish (aim_in search.pass.now.aim) search.kept.now
 
 -- a list of candidates goes on as another one does, once some of its beginning is skipped, each of which is of no interest to a search
-abbrev pub PassesDull : Search → List Arrangement → List Arrangement → Type 0
-PassesDull search before after = Passes (λ a. is_dull_to search a ≡ true) before after
+abbrev pub PassesUnwanted : Search → List Arrangement → List Arrangement → Type 0
+PassesUnwanted search before after = Passes (λ a. is_unwanted_to search a ≡ true) before after
 
 -- a lister draws the next candidate, once some are skipped that are of no interest
 abbrev pub Draws : Search → Lister ByNumber → Lister ByNumber → Type 0
-Draws search old new = PassesDull search old.listing.coming (new.drawn.lists ∷ new.listing.coming)
+Draws search old new = PassesUnwanted search old.listing.coming (new.drawn.lists ∷ new.listing.coming)
     × (new.drawn.down ≡ down old.listing.frame new.drawn.lists)
 
 -- what a pass chooses of what it keeps and of the candidates to come

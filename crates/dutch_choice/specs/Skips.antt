@@ -1,7 +1,7 @@
 -- What a skipper tells of the candidates that it leaves out (C.04.3 B.8). Only private functions' clauses cite these.
 use Rattle.std.specs.Prelude.{◌≡◌, ℕ, not, true}
-use Rattle.dutch_order.specs.Prelude.{Arrangement, KnownExchange, IsIn, Beginning}
-use Rattle.dutch_bracket.specs.Prelude.{Context, OfEachBegun, candidates_here, quality_here, NextValue}
+use Rattle.dutch_order.specs.Prelude.{Arrangement, ExchangeClass, IsIn, Beginning}
+use Rattle.dutch_bracket.specs.Prelude.{Context, OfEachWithBeginning, candidates_here, quality_here, NextValue}
 use Rattle.dutch_choice.specs.declared.pass.Pass.{Pass}
 use Rattle.dutch_choice.specs.declared.bars.Skipper.{Skipper}
 use Rattle.dutch_choice.specs.Aims.{aim_in, beats}
@@ -17,10 +17,10 @@ module _ (skipper : Skipper) where
 
   -- something is said of each candidate with a beginning
   abbrev pub OfEach : Beginning → (Arrangement → Type 0) → Type 0
-  OfEach beginning says = OfEachBegun context_of pass_of.shape beginning says
+  OfEach beginning says = OfEachWithBeginning context_of pass_of.shape beginning says
 
   -- and of each with a beginning and such an S1R
-  abbrev pub OfEachWith : Beginning → KnownExchange → (Arrangement → Type 0) → Type 0
+  abbrev pub OfEachWith : Beginning → ExchangeClass → (Arrangement → Type 0) → Type 0
   OfEachWith beginning exchange says =
       (a : Arrangement) → IsIn a (candidates_here context_of pass_of.shape) → BeginsWith beginning exchange a → says a
 

@@ -5,7 +5,7 @@
 ghost use Rattle.dutch_bracket.specs.Prelude.{HasSeats};
 
 use crate::pass::Pass;
-use crate::skipper::known_with;
+use crate::skipper::premise_with;
 use dutch_bracket::context::Context;
 use dutch_bracket::differences::put;
 use dutch_bracket::quality::{NextValue, Quality, Room, fill_seated};
@@ -143,6 +143,6 @@ pub(crate) fn aim_for(
         (Some(matched), None) if matched.pairs.len() == pass.shape.pairs => Some(aim_by(
             pass, weights, matched, room,
         )),
-        _ => pass.floors.aim(known_with(pass.context, pass.wish)),
+        _ => pass.floors.aim(premise_with(pass.context, pass.wish)),
     }
 }

@@ -8,14 +8,14 @@ ghost use Rattle.dutch_choice.specs.Aims.{best_wished};
 ghost use Rattle.dutch_choice.specs.Chosen.{IsChoice};
 ghost use Rattle.dutch_choice.specs.Kept.{IsBest, IsKept};
 ghost use Rattle.dutch_choice.specs.Passes.{AreFor, Draws, HasWeights, IsChosenNext, IsEnd, IsHere, ListsFor};
-ghost use Rattle.dutch_choice.specs.Passes.{PassesDull, SeeksTheSame, near_of, price, wished_of};
+ghost use Rattle.dutch_choice.specs.Passes.{PassesUnwanted, SeeksTheSame, near_of, price, wished_of};
 ghost use Rattle.dutch_choice.specs.Remembered.{LooksBelow};
 
 use crate::aiming::aim_for;
 use crate::bars::{Skipper, bars_of};
 use crate::pass::{Best, Pass, Search, is_idle};
 use crate::remembered::{Judge, judge_candidate, look_below};
-use crate::skipper::known_with;
+use crate::skipper::premise_with;
 use crate::wish::{Wish, is_wished};
 use dutch_bracket::context::Context;
 use dutch_bracket::eligible::{at_most, can_be_chosen};
@@ -104,8 +104,8 @@ fn draw_once(
     requires weights { HasWeights search.pass.now judge.old.weights }
     ensures answer { MatchStep result
         (λ _. Draws search.entry lister.old lister.new)
-        (PassesDull search.entry lister.old.listing.coming [])
-        (PassesDull search.entry lister.old.listing.coming lister.new.listing.coming
+        (PassesUnwanted search.entry lister.old.listing.coming [])
+        (PassesUnwanted search.entry lister.old.listing.coming lister.new.listing.coming
         × (budget.new.used ≡ budget.new.limit)) }
     ensures frame { lister.new.listing.frame ≡ lister.old.listing.frame }
     ensures shape { lister.new.listing.shape ≡ lister.old.listing.shape }
@@ -194,7 +194,7 @@ fn draw(
     requires shape { lister.old.listing.shape ≡ search.pass.now.shape }
     requires weights { HasWeights search.pass.now judge.old.weights }
     ensures answer { MatchDrawn result (Draws search.entry lister.old lister.new)
-        (PassesDull search.entry lister.old.listing.coming [])
+        (PassesUnwanted search.entry lister.old.listing.coming [])
         (budget.new.used ≡ budget.new.limit) }
     ensures frame { lister.new.listing.frame ≡ lister.old.listing.frame }
     ensures shape { lister.new.listing.shape ≡ lister.old.listing.shape }
@@ -369,7 +369,7 @@ fn weigh<'a>(
             return weighed_by(pass, weights, room, budget);
         }
     }
-    let aim = pass.floors.aim(known_with(pass.context, pass.wish));
+    let aim = pass.floors.aim(premise_with(pass.context, pass.wish));
     Ok(Weighed { weights: None, aim })
 }
 
@@ -510,12 +510,12 @@ pub fn best_of<'a>(
         return Ok(Step::Undecided);
     };
     let floors = Floors::new(context, shape, outlook);
-    let known = known_with(context, wish);
+    let premise = premise_with(context, wish);
     let mut pass = Pass {
         context,
         shape,
         wish,
-        aim: floors.aim(known),
+        aim: floors.aim(premise),
         is_long: false,
         floors,
     };

@@ -9,12 +9,11 @@
 mod aiming;
 mod bars;
 pub mod choice;
+pub mod laws;
 mod pass;
 mod remembered;
 pub mod skipper;
-mod weight_laws;
 pub mod wish;
-pub mod wish_laws;
 
 pub use choice::{Choice, choose};
 pub use remembered::{Look, LookAhead};

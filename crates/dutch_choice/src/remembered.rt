@@ -94,7 +94,7 @@ fn no_values(alloc: Global) -> Result<Values, PairFault>
 
 /// Puts the value that is kept for downfloaters, who are then the last used, into a quality, with no copy between. No
 /// says that none is kept.
-fn put_recalled(values: &mut Values, down: &Numbers, quality: &mut Quality) -> bool
+fn put_remembered(values: &mut Values, down: &Numbers, quality: &mut Quality) -> bool
     ensures put { lookup (is_key down.now) values.old.entries
         ≡ (if result then Some (next_in (quality_in quality.new)) else None) }
     ensures kept { values.new ≡ lru_cache (promoted (is_key down.now) values.old.entries) values.old.cap }
@@ -198,7 +198,7 @@ impl<'a> LookAhead<'a> {
         ensures { Recalls result (next_in (quality_in quality.new)) down.now self.old self.new }
     {
         fill_key(down, &mut self.key);
-        put_recalled(&mut self.values, &self.key, quality)
+        put_remembered(&mut self.values, &self.key, quality)
     }
 
     /// Fills the quality of a candidate of the bracket. A value that is kept takes no step.

@@ -8,10 +8,10 @@
 // the pair that is wished, or the one who is to go down, from the first question on.
 ghost use Rattle.std.specs.Prelude.{◌≡◌, ◌⊎◌, IfSome, Some, length, true, false};
 ghost use Rattle.dutch_order.specs.Prelude.{Arrangement, IsIn, Begins};
-ghost use Rattle.dutch_bracket.specs.Prelude.{FitsHere, OfEachBegun, candidates_here, quality_here, HasNoBetter};
+ghost use Rattle.dutch_bracket.specs.Prelude.{FitsHere, OfEachWithBeginning, candidates_here, quality_here, HasNoBetter};
 ghost use Rattle.dutch_bracket.specs.Prelude.{is_better, next_in, quality_in};
-ghost use Rattle.dutch_floors.specs.KnownBeside.{AreKnown, turned};
-ghost use Rattle.dutch_choice.specs.Passes.{HoldsHere, IsIdle, IsIdleIfFit, is_dull_to};
+ghost use Rattle.dutch_floors.specs.Premises.{IsPremise, turned};
+ghost use Rattle.dutch_choice.specs.Passes.{HoldsHere, IsIdle, IsIdleIfFit, is_unwanted_to};
 ghost use Rattle.dutch_choice.specs.Skips.{HasNoBetterNext, IsBehindAim, IsBehindKept, OfEach, OfEachWith, Weighs};
 ghost use Rattle.dutch_choice.specs.Skips.{context_of};
 ghost use Rattle.dutch_choice.specs.Wishes.{grants, is_wished};
@@ -22,13 +22,13 @@ use crate::pass::{Pass, is_idle};
 use crate::wish::Wish;
 use dutch_bracket::context::Context;
 use dutch_bracket::quality::{Quality, Room};
-use dutch_floors::known::Known;
+use dutch_floors::premise::Premise;
 use dutch_order::{Bound, Exchange, Prefix, Shape};
 use wide::Wide;
 
 /// Fills a quality that no candidate with a beginning is better than. No says that none is known.
 fn fill_floor(pass: &Pass<'_>, prefix: &Prefix<'_>, room: &mut Room) -> bool
-    ensures { result ≡ true → OfEachBegun pass.now.context.now pass.now.shape prefix.now
+    ensures { result ≡ true → OfEachWithBeginning pass.now.context.now pass.now.shape prefix.now
         (λ a. is_better (quality_here pass.now.context.now a) (quality_in room.new.quality) ≡ false) }
 {
     pass.floors.floor(prefix, room)
@@ -73,14 +73,14 @@ fn begins_without(context: &Context<'_>, wish: Wish, prefix: &Prefix<'_>) -> boo
 /// Whether no candidate of a shape that has a beginning grants a wish.
 pub fn rules_out(context: &Context<'_>, shape: Shape, wish: Wish, prefix: &Prefix<'_>) -> bool
     requires { FitsHere context.now shape }
-    ensures { result ≡ true → OfEachBegun context.now shape prefix.now (λ a. grants wish a ≡ false) }
+    ensures { result ≡ true → OfEachWithBeginning context.now shape prefix.now (λ a. grants wish a ≡ false) }
 {
     bars(context, shape, wish) || begins_without(context, wish, prefix)
 }
 
 /// Whether no candidate with a beginning grants what is wished.
 fn is_barred(pass: &Pass<'_>, prefix: &Prefix<'_>) -> bool
-    ensures { result ≡ true → OfEachBegun pass.now.context.now pass.now.shape prefix.now
+    ensures { result ≡ true → OfEachWithBeginning pass.now.context.now pass.now.shape prefix.now
         (λ a. is_wished pass.now.wish a ≡ false) }
 {
     match pass.wish {
@@ -89,23 +89,23 @@ fn is_barred(pass: &Pass<'_>, prefix: &Prefix<'_>) -> bool
     }
 }
 
-/// The same of a candidate of which something more is known.
-fn fill_floor_knowing(pass: &Pass<'_>, known: Known, prefix: &Prefix<'_>, room: &mut Room) -> bool
-    requires { AreKnown pass.now.context.now.facts known }
-    ensures { result ≡ true → OfEachBegun pass.now.context.now pass.now.shape prefix.now
-        (λ a. HoldsHere pass.now.context.now known a
+/// The same of a candidate for which a premise holds.
+fn fill_floor_given(pass: &Pass<'_>, premise: Premise, prefix: &Prefix<'_>, room: &mut Room) -> bool
+    requires { IsPremise pass.now.context.now.facts premise }
+    ensures { result ≡ true → OfEachWithBeginning pass.now.context.now pass.now.shape prefix.now
+        (λ a. HoldsHere pass.now.context.now premise a
         → is_better (quality_here pass.now.context.now a) (quality_in room.new.quality) ≡ false) }
 {
-    pass.floors.floor_knowing(known, prefix, room)
+    pass.floors.floor_given(premise, prefix, room)
 }
 
-/// What is known of each candidate that grants a wish, or of a pair in its order or in the other one. Nothing is known
+/// What holds for each candidate that grants a wish, or for a pair in its order or in the other one. There is none
 /// if the wish names a number that the bracket does not have.
-#[tactic(auto, using(crate::proofs::KnownByWish::seat_inside, crate::proofs::KnownByWish::they_meet, crate::proofs::KnownByWish::goes_down))]
-pub(crate) fn known_by_wish(context: &Context<'_>, wish: Wish) -> Option<Known>
-    ensures seats { IfSome result (AreKnown context.now.facts) }
-    ensures holds { IfSome result (λ known. (a : Arrangement) → grants wish a ≡ true
-        → HoldsHere context.now known a ⊎ HoldsHere context.now (turned known) a) }
+#[tactic(auto, using(crate::proofs::PremiseOfWish::seat_inside, crate::proofs::PremiseOfWish::they_meet, crate::proofs::PremiseOfWish::goes_down))]
+pub(crate) fn premise_of_wish(context: &Context<'_>, wish: Wish) -> Option<Premise>
+    ensures seats { IfSome result (IsPremise context.now.facts) }
+    ensures holds { IfSome result (λ premise. (a : Arrangement) → grants wish a ≡ true
+        → HoldsHere context.now premise a ⊎ HoldsHere context.now (turned premise) a) }
 {
     let reached = context.reached();
     match wish {
@@ -113,23 +113,23 @@ pub(crate) fn known_by_wish(context: &Context<'_>, wish: Wish) -> Option<Known>
             if !reached.has(p) || !reached.has(q) {
                 return None;
             }
-            Some(Known::Meet(reached.seat(p), reached.seat(q)))
+            Some(Premise::Meet(reached.seat(p), reached.seat(q)))
         }
         Wish::LeftOver(p) => {
             if !reached.has(p) {
                 return None;
             }
-            Some(Known::Down(reached.seat(p)))
+            Some(Premise::Down(reached.seat(p)))
         }
     }
 }
 
 /// The same if there may be no wish.
-pub(crate) fn known_with(context: &Context<'_>, wish: Option<Wish>) -> Option<Known>
-    ensures { IfSome result (AreKnown context.now.facts) }
+pub(crate) fn premise_with(context: &Context<'_>, wish: Option<Wish>) -> Option<Premise>
+    ensures { IfSome result (IsPremise context.now.facts) }
 {
     match wish {
-        Some(wish) => known_by_wish(context, wish),
+        Some(wish) => premise_of_wish(context, wish),
         None => None,
     }
 }
@@ -137,21 +137,21 @@ pub(crate) fn known_with(context: &Context<'_>, wish: Option<Wish>) -> Option<Kn
 /// Whether no candidate with a beginning has a better value of the next bracket than a quality says (C.7). A no says
 /// nothing.
 fn has_no_better_next(pass: &Pass<'_>, prefix: &Prefix<'_>, quality: &Quality) -> bool
-    ensures { result ≡ true → OfEachBegun pass.now.context.now pass.now.shape prefix.now
+    ensures { result ≡ true → OfEachWithBeginning pass.now.context.now pass.now.shape prefix.now
         (λ a. HasNoBetter (quality_here pass.now.context.now a) (next_in (quality_in quality.now))) }
 {
     pass.floors.has_no_better_next(prefix, quality)
 }
 
 impl<'a, 'k> Skipper<'a, 'k> {
-    /// Whether no candidate with a beginning of which something more is known is of interest.
+    /// Whether no candidate with a beginning for which a premise holds is of interest.
     #[tactic(auto, using(crate::proofs::AimLemmas::idle_floor))]
-    fn is_idle_knowing(&self, known: Known, prefix: &Prefix<'_>, room: &mut Room) -> bool
-        requires { AreKnown (context_of self.now).facts known }
+    fn is_idle_given(&self, premise: Premise, prefix: &Prefix<'_>, room: &mut Room) -> bool
+        requires { IsPremise (context_of self.now).facts premise }
         ensures { result ≡ true → OfEach self.now prefix.now
-            (λ a. HoldsHere (context_of self.now) known a → IsIdle self.now.search a) }
+            (λ a. HoldsHere (context_of self.now) premise a → IsIdle self.now.search a) }
     {
-        if !fill_floor_knowing(self.search.pass, known, prefix, room) {
+        if !fill_floor_given(self.search.pass, premise, prefix, room) {
             return false;
         }
         is_idle(&room.quality, &self.search.pass.aim, self.search.kept)
@@ -272,16 +272,16 @@ impl<'a, 'k> Skipper<'a, 'k> {
 
     /// Whether no candidate with a beginning that grants what is wished is of interest.
     fn is_idle_granted(&self, prefix: &Prefix<'_>, room: &mut Room) -> bool
-        ensures { result ≡ true → OfEach self.now prefix.now (λ a. is_dull_to self.now.search a ≡ true) }
+        ensures { result ≡ true → OfEach self.now prefix.now (λ a. is_unwanted_to self.now.search a ≡ true) }
     {
         let Some(wish) = self.search.pass.wish else {
             return false;
         };
-        let Some(known) = known_by_wish(self.search.pass.context, wish) else {
+        let Some(premise) = premise_of_wish(self.search.pass.context, wish) else {
             return false;
         };
-        self.is_idle_knowing(known, prefix, room)
-            && self.is_idle_knowing(known.turned(), prefix, room)
+        self.is_idle_given(premise, prefix, room)
+            && self.is_idle_given(premise.turned(), prefix, room)
     }
 }
 
@@ -289,7 +289,7 @@ impl<'a, 'k> Bound for Skipper<'a, 'k> {
     type Room = Room;
 
     ghost use Rattle.dutch_bracket.specs.Prelude.{frame_here, numbers_meet, number_may_be_left};
-    ghost use Rattle.dutch_choice.specs.Passes.{is_dull_to};
+    ghost use Rattle.dutch_choice.specs.Passes.{is_unwanted_to};
 
     ghost frame = { λ s. frame_here s.search.pass.now.context.now };
 
@@ -300,9 +300,9 @@ impl<'a, 'k> Bound for Skipper<'a, 'k> {
     ghost may_be_left = { λ s. number_may_be_left s.search.pass.now.context.now.facts
         s.search.pass.now.context.now.reached };
 
-    ghost is_dull = { λ s. is_dull_to s.search };
+    ghost is_unwanted = { λ s. is_unwanted_to s.search };
 
-    #[tactic(auto, using(crate::proofs::AimLemmas::unwished_is_dull, crate::proofs::AimLemmas::idle_is_dull, crate::proofs::AimLemmas::idle_if_fit_is_dull), unfolding(dutch_bracket::specs::Brackets::candidates_of))]
+    #[tactic(auto, using(crate::proofs::AimLemmas::unwished_is_unwanted, crate::proofs::AimLemmas::idle_is_unwanted, crate::proofs::AimLemmas::idle_if_fit_is_unwanted), unfolding(dutch_bracket::specs::Brackets::candidates_of))]
     fn cannot_win(&self, prefix: &Prefix<'_>, room: &mut Room) -> bool {
         if is_barred(self.search.pass, prefix) {
             return true;
@@ -319,7 +319,7 @@ impl<'a, 'k> Bound for Skipper<'a, 'k> {
             || self.is_idle_granted(prefix, room)
     }
 
-    #[tactic(auto, using(crate::proofs::AimLemmas::idle_if_fit_is_dull), unfolding(dutch_bracket::specs::Brackets::candidates_of))]
+    #[tactic(auto, using(crate::proofs::AimLemmas::idle_if_fit_is_unwanted), unfolding(dutch_bracket::specs::Brackets::candidates_of))]
     fn cannot_win_with(
         &self,
         prefix: &Prefix<'_>,

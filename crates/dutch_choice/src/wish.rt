@@ -9,7 +9,7 @@ ghost use Rattle.dutch_order.specs.Prelude.{paired, is_member, pairs_by_number};
 ghost use Rattle.dutch_choice.specs.Wishes.{are_these, grants, is_wished};
 ghost use Rattle.dutch_choice.specs.RuledOut.{parts, has_one_of, s1_bars, s1r_bars, halves_bar, rules_out};
 
-use dutch_bracket::begun::{Begun, fixed_lists};
+use dutch_bracket::fixed_lists::{FixedLists, fixed_lists};
 use dutch_order::{Candidate, Filling, Prefix};
 
 /// What is wished of a candidate. Players are named by their numbers in the bracket.
@@ -22,10 +22,10 @@ pub enum Wish {
 }
 
 /// The lists of a candidate.
-fn lists_of(candidate: &Candidate) -> Begun<'_>
+fn lists_of(candidate: &Candidate) -> FixedLists<'_>
     ensures { result ≡ candidate.now.lists }
 {
-    Begun {
+    FixedLists {
         s1: candidate.s1(),
         s2: candidate.s2(),
         s1r: candidate.s1r(),
@@ -71,7 +71,7 @@ fn part_in(p: u16, q: u16, firsts: &[u16], seconds: &[u16]) -> bool
 
 /// Whether two players meet in lists.
 #[tactic(auto, using(crate::proofs::WishLemmas::pairs_found))]
-fn meet(p: u16, q: u16, lists: &Begun<'_>) -> bool
+fn meet(p: u16, q: u16, lists: &FixedLists<'_>) -> bool
     ensures { result ≡ list_any (are_these p q) (pairs_by_number lists.now) }
 {
     meet_in(p, q, lists.s1, lists.s2) || meet_in(p, q, lists.s1r, lists.s2r)
@@ -79,7 +79,7 @@ fn meet(p: u16, q: u16, lists: &Begun<'_>) -> bool
 
 /// Whether one of two players meets another one in lists.
 #[tactic(auto, using(crate::proofs::WishLemmas::pairs_found))]
-fn have_others(p: u16, q: u16, lists: &Begun<'_>) -> bool
+fn have_others(p: u16, q: u16, lists: &FixedLists<'_>) -> bool
     ensures { result ≡ list_any (parts p q) (pairs_by_number lists.now) }
 {
     part_in(p, q, lists.s1, lists.s2) || part_in(p, q, lists.s1r, lists.s2r)
@@ -87,7 +87,7 @@ fn have_others(p: u16, q: u16, lists: &Begun<'_>) -> bool
 
 /// Whether a player is in one of the lists.
 #[tactic(auto, using(crate::proofs::WishLemmas::player_found))]
-fn is_paired(p: u16, lists: &Begun<'_>) -> bool
+fn is_paired(p: u16, lists: &FixedLists<'_>) -> bool
     ensures { result ≡ is_member p (paired lists.now) }
 {
     lists.s1.contains(&p)
@@ -151,10 +151,10 @@ impl Wish {
     pub(crate) fn is_ruled_out(self, mdps: usize, prefix: &Prefix<'_>) -> bool
         ensures { result ≡ rules_out mdps self prefix.now }
     {
-        let begun = fixed_lists(prefix);
+        let lists = fixed_lists(prefix);
         match self {
-            Wish::Pair(p, q) => have_others(p, q, &begun) || halves_bar(mdps, p, q, prefix),
-            Wish::LeftOver(p) => is_paired(p, &begun),
+            Wish::Pair(p, q) => have_others(p, q, &lists) || halves_bar(mdps, p, q, prefix),
+            Wish::LeftOver(p) => is_paired(p, &lists),
         }
     }
 }

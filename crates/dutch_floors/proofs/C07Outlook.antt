@@ -15,7 +15,7 @@ use Rattle.dutch_bracket.specs.declared.reached.BracketKind.TheVariants.{Ordinar
 use Rattle.dutch_floors.specs.FloorOf.{is_flat, residents_score, s1_by}
 use Rattle.dutch_bracket.specs.Prelude.{is_uniform, has_s1, lists_by, IsNotBetter, pairs_by_counts, IsFlat, is_lower, next_bracket, no_value, value_in, quality, HasNoBetter, NextValue, quality_with, IsAbove, IsOf, Reached, frame_of, downfloaters, first_group, quality_of, scoregroups, score_at, seat_of}
 use Rattle.dutch_floors.specs.GhostValues.{first_limbo, ghost_value}
-use Rattle.dutch_floors.specs.Outlooks.{IsOutlook, awaited, known_by, limbo_scores, leaves_first}
+use Rattle.dutch_floors.specs.Outlooks.{IsOutlook, awaited, first_or_any, limbo_scores, leaves_first}
 use Rattle.dutch_bracket.proofs.C06Psd.{flat_by_ends, uniform_of}
 use Rattle.dutch_bracket.proofs.GhostPairs.{down_count}
 use Rattle.dutch_floors.proofs.C07Ghosts.{no_value_has_more_than_half_the_players_in_pairs}
@@ -132,14 +132,14 @@ module _ (facts : Facts) (reached : Reached) (lower : List ℕ) (shape : Shape) 
   module _ (outlook : Outlook) (of' : IsOf facts reached) (is : IsOutlook facts reached lower shape outlook) (filling : Filling) (lists a : Arrangement)
       (m : IsIn a (arrangements (frame_of facts reached) shape)) (h : BeginsAt filling lists a) (known : (has_s1 filling || is_uniform facts reached shape) ≡ true) where
     by_limbo : (value : NextValue) → outlook.first ≡ Some value → (t : Bool) → leaves_first facts reached shape (s1_by filling shape (lists_by filling lists).s1) ≡ t
-        → HasNoBetter (quality_of facts reached lower a) (known_by (Some value) t outlook.any)
+        → HasNoBetter (quality_of facts reached lower a) (first_or_any (Some value) t outlook.any)
     by_limbo value e true t =
         let first = is.first value e in
         first.1 a m (limbo_of filling lists a of' first.0 m h known t)
     by_limbo value e false t = is.any a m
 
     by_first : (o : Option NextValue) → outlook.first ≡ o
-        → HasNoBetter (quality_of facts reached lower a) (known_by o (leaves_first facts reached shape (s1_by filling shape (lists_by filling lists).s1)) outlook.any)
+        → HasNoBetter (quality_of facts reached lower a) (first_or_any o (leaves_first facts reached shape (s1_by filling shape (lists_by filling lists).s1)) outlook.any)
     by_first None e = is.any a m
     by_first (Some value) e = by_limbo value e (leaves_first facts reached shape (s1_by filling shape (lists_by filling lists).s1)) refl
 

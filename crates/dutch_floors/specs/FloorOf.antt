@@ -12,8 +12,8 @@ use Rattle.dutch_bracket.specs.Prelude.{Quality, psd, Reached, Seated, seat_of, 
 use Rattle.dutch_floors.specs.declared.outlook.Outlook.{Outlook}
 use Rattle.dutch_floors.specs.Outlooks.{IsOutlook, awaited}
 use Rattle.dutch_floors.specs.declared.colour_floor.Wants.{Wants}
-use Rattle.dutch_floors.specs.declared.known.Known.{Known}
-use Rattle.dutch_floors.specs.KnownBeside.{known_by}
+use Rattle.dutch_floors.specs.declared.premise.Premise.{Premise}
+use Rattle.dutch_floors.specs.Premises.{seated_given}
 
 -- a bracket of a field, the shape of its arrangements, and what the next bracket can be at best
 pub record Basis : Type 0 where
@@ -91,10 +91,10 @@ floor_by_seats basis s1 known = floor_by basis s1 (more_in false basis.facts bas
 abbrev pub s1_of : Basis → Beginning → List ℕ
 s1_of basis b = s1_by b.filling basis.shape (fixed_lists b).s1
 
--- the floor of a beginning of which something more is known
-unfoldable pub floor_knowing : Basis → Known → Beginning → Quality
-floor_knowing basis known b =
-    floor_by_seats basis (s1_of basis b) (known_by basis.facts basis.reached known (all_pairs basis.reached.seats (fixed_lists b)))
+-- the floor of a beginning under a premise
+unfoldable pub floor_given : Basis → Premise → Beginning → Quality
+floor_given basis premise b =
+    floor_by_seats basis (s1_of basis b) (seated_given basis.facts basis.reached premise (all_pairs basis.reached.seats (fixed_lists b)))
 
 -- the floor of a beginning
 unfoldable pub floor_of : Basis → Beginning → Quality

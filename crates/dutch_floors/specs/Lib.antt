@@ -3,4 +3,4 @@ pub mod GhostRules
 pub mod GhostValues
 pub mod FloorOf
 pub mod Outlooks
-pub mod KnownBeside
+pub mod Premises

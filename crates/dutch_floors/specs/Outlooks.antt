@@ -16,13 +16,13 @@ unfoldable pub leaves_first : Facts → Reached → Shape → List ℕ → Bool
 leaves_first facts reached shape s1 = is_same (limbo_scores facts reached s1) (first_limbo facts reached shape)
 
 -- the value for a Limbo like the first one, if it is known and the Limbo is so; otherwise the value in any case
-abbrev pub known_by : Option NextValue → Bool → NextValue → NextValue
-known_by None same any = any
-known_by (Some first) same any = if same then first else any
+abbrev pub first_or_any : Option NextValue → Bool → NextValue → NextValue
+first_or_any None same any = any
+first_or_any (Some first) same any = if same then first else any
 
 -- the best that the next bracket can be behind arrangements with an S1
 abbrev pub awaited : Facts → Reached → Shape → Outlook → List ℕ → NextValue
-awaited facts reached shape outlook s1 = known_by outlook.first (leaves_first facts reached shape s1) outlook.any
+awaited facts reached shape outlook s1 = first_or_any outlook.first (leaves_first facts reached shape s1) outlook.any
 
 -- no arrangement has a better value of the next bracket than an outlook says: any at all, and those that leave the first Limbo
 pub record IsOutlook (facts : Facts) (reached : Reached) (lower : List ℕ) (shape : Shape) (outlook : Outlook) : Type 0 where

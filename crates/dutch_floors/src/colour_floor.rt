@@ -97,41 +97,41 @@ pub(crate) fn wants_in(context: &Context<'_>, firm: bool) -> Wants
 }
 
 /// How many are counted of those who are in known pairs, or are known to go down.
-fn in_known(context: &Context<'_>, known: &Seated, want: Want) -> usize
-    requires { HasSeats context.now.facts known.now }
-    ensures { result ≡ sum_by (in_both (wanting want.firm context.now.facts want.colour)) known.now.pairs
-        + sum_by (wanting want.firm context.now.facts want.colour) known.now.down }
+fn in_seated(context: &Context<'_>, seated: &Seated, want: Want) -> usize
+    requires { HasSeats context.now.facts seated.now }
+    ensures { result ≡ sum_by (in_both (wanting want.firm context.now.facts want.colour)) seated.now.pairs
+        + sum_by (wanting want.firm context.now.facts want.colour) seated.now.down }
 {
-    in_pairs(context, want, &known.pairs) + in_seats(context, want, &known.down)
+    in_pairs(context, want, &seated.pairs) + in_seats(context, want, &seated.down)
 }
 
 /// How many of a bracket's players can be served who are in no known pair and are not known to go down.
-fn served(context: &Context<'_>, shape: Shape, known: &Seated) -> usize
-    requires inside { HasSeats context.now.facts known.now }
+fn served(context: &Context<'_>, shape: Shape, seated: &Seated) -> usize
+    requires inside { HasSeats context.now.facts seated.now }
     requires small { shape.pairs ≤ LIMIT }
-    ensures { result ≡ served_in context.now.reached shape known.now }
+    ensures { result ≡ served_in context.now.reached shape seated.now }
 {
-    let to_make = shape.pairs.saturating_sub(known.pairs.len());
+    let to_make = shape.pairs.saturating_sub(seated.pairs.len());
     let to_leave = context.len().saturating_sub(2 * shape.pairs);
-    to_make + to_leave.saturating_sub(known.down.len())
+    to_make + to_leave.saturating_sub(seated.down.len())
 }
 
 /// How many of so many players who are counted can be served neither in known pairs nor beside them. (Where all could
 /// be served beside them, nobody is looked at.)
-fn surplus(context: &Context<'_>, shape: Shape, known: &Seated, wanted: Wanted) -> usize
-    requires inside { HasSeats context.now.facts known.now }
+fn surplus(context: &Context<'_>, shape: Shape, seated: &Seated, wanted: Wanted) -> usize
+    requires inside { HasSeats context.now.facts seated.now }
     requires small { shape.pairs ≤ LIMIT }
     ensures { let w = wanting wanted.want.firm context.now.facts wanted.want.colour in result
-        ≡ ((wanted.count - sum_by (in_both w) known.now.pairs) - sum_by w known.now.down)
-        - served_in context.now.reached shape known.now }
+        ≡ ((wanted.count - sum_by (in_both w) seated.now.pairs) - sum_by w seated.now.down)
+        - served_in context.now.reached shape seated.now }
 {
-    let served = served(context, shape, known);
+    let served = served(context, shape, seated);
     if wanted.count <= served {
         return 0;
     }
     wanted
         .count
-        .saturating_sub(in_known(context, known, wanted.want))
+        .saturating_sub(in_seated(context, seated, wanted.want))
         .saturating_sub(served)
 }
 
@@ -140,13 +140,13 @@ fn surplus(context: &Context<'_>, shape: Shape, known: &Seated, wanted: Wanted) 
 pub(crate) fn more_missed(
     context: &Context<'_>,
     shape: Shape,
-    known: &Seated,
+    seated: &Seated,
     wants: Wants,
 ) -> usize
     requires counted { AreWants context.now.facts context.now.reached wants }
-    requires inside { HasSeats context.now.facts known.now }
+    requires inside { HasSeats context.now.facts seated.now }
     requires small { shape.pairs ≤ LIMIT }
-    ensures value { result ≡ more_in wants.firm context.now.facts context.now.reached shape known.now }
+    ensures value { result ≡ more_in wants.firm context.now.facts context.now.reached shape seated.now }
     ensures few { result ≤ LIMIT }
 {
     let white = Wanted {
@@ -163,7 +163,7 @@ pub(crate) fn more_missed(
         },
         count: wants.black,
     };
-    surplus(context, shape, known, white).max(surplus(context, shape, known, black))
+    surplus(context, shape, seated, white).max(surplus(context, shape, seated, black))
 }
 
 /// How many players of pairs miss their preference (C.10).

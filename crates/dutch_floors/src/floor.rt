@@ -8,14 +8,14 @@ ghost use Rattle.dutch_bracket.specs.Prelude.{is_uniform, FitsHere, IsOf, frame_
 ghost use Rattle.dutch_bracket.specs.Prelude.{floor_over};
 ghost use Rattle.dutch_floors.specs.Outlooks.{awaited};
 ghost use Rattle.dutch_floors.specs.FloorOf.{AreWants, is_flat, is_known, residents_score, psd_over, more_by, s1_of};
-ghost use Rattle.dutch_floors.specs.FloorOf.{floor_by, floor_by_seats, floor_knowing, floor_of};
-ghost use Rattle.dutch_floors.specs.KnownBeside.{AreKnown};
+ghost use Rattle.dutch_floors.specs.FloorOf.{floor_by, floor_by_seats, floor_given, floor_of};
+ghost use Rattle.dutch_floors.specs.Premises.{IsPremise};
 
 use crate::colour_floor::{Wants, missed, missed_strong, more_missed, wants_in};
-use crate::known::{Known, fill_known};
+use crate::premise::{Premise, fill_given};
 use crate::lonely::lonely;
 use crate::outlook::{Outlook, is_flat, leaves_first};
-use dutch_bracket::begun::{Begun, fill_fixed, fixed_lists, has_s1, is_of_shape};
+use dutch_bracket::fixed_lists::{FixedLists, fill_fixed, fixed_lists, has_s1, is_of_shape};
 use dutch_bracket::context::Context;
 use dutch_bracket::differences::fill_psd;
 use dutch_bracket::psd_floor::{FlatShape, is_uniform};
@@ -178,8 +178,8 @@ impl<'a> Floors<'a> {
         match prefix.filling() {
             Filling::S1 | Filling::S2 => return more,
             Filling::S2r => {
-                let begun = fixed_lists(prefix);
-                return more.max(lonely(self.context, shape, &begun, &mut room.pool));
+                let lists = fixed_lists(prefix);
+                return more.max(lonely(self.context, shape, &lists, &mut room.pool));
             }
         }
     }
@@ -242,8 +242,8 @@ impl<'a> Floors<'a> {
             → AllNumbers self.now.reached.seats (s1_of self.now prefix.now) }
         ensures few { is_known self.now prefix.now ≡ true → length (s1_of self.now prefix.now) ≤ self.now.shape.mdps }
     {
-        let begun = fixed_lists(prefix);
-        is_of_shape(self.context.reached(), self.shape(), &begun)
+        let lists = fixed_lists(prefix);
+        is_of_shape(self.context.reached(), self.shape(), &lists)
             && (has_s1(prefix.filling()) || self.uniform)
     }
 
@@ -262,18 +262,18 @@ impl<'a> Floors<'a> {
         true
     }
 
-    /// Fills the floor of a beginning of which something more is known, if a floor is known.
-    #[tactic(auto, unfolding(crate::specs::FloorOf::floor_knowing))]
-    pub fn floor_knowing(&self, known: Known, prefix: &Prefix<'_>, room: &mut Room) -> bool
-        requires { AreKnown self.now.facts known }
+    /// Fills the floor of a beginning under a premise, if a floor is known.
+    #[tactic(auto, unfolding(crate::specs::FloorOf::floor_given))]
+    pub fn floor_given(&self, premise: Premise, prefix: &Prefix<'_>, room: &mut Room) -> bool
+        requires { IsPremise self.now.facts premise }
         ensures known { result ≡ true → is_known self.now prefix.now ≡ true }
-        ensures value { result ≡ true → quality_in room.new.quality ≡ floor_knowing self.now known prefix.now }
+        ensures value { result ≡ true → quality_in room.new.quality ≡ floor_given self.now premise prefix.now }
     {
         if !self.is_known(prefix) {
             return false;
         }
-        let begun = fixed_lists(prefix);
-        if !fill_known(self.context, &begun, known, &mut room.seated) {
+        let lists = fixed_lists(prefix);
+        if !fill_given(self.context, &lists, premise, &mut room.seated) {
             return false;
         }
         self.fill_by_seats(self.s1(prefix), room);
@@ -281,29 +281,29 @@ impl<'a> Floors<'a> {
     }
 
     /// The quality that a first pass aims at, if all residents have one score: what a beginning with the first S1, and
-    /// what is known beside it, promises up to C.11. Any aim serves: the choice among the candidates that it is not
+    /// what a premise gives beside it, promises up to C.11. Any aim serves: the choice among the candidates that it is not
     /// better than is the choice of all.
     #[tactic(auto, using(dutch_bracket::proofs::ShapeNumbers::first_length, dutch_bracket::proofs::ShapeNumbers::first_numbers))]
-    pub fn aim(&self, known: Option<Known>) -> Option<Quality>
-        requires { IfSome known (AreKnown self.now.facts) }
+    pub fn aim(&self, premise: Option<Premise>) -> Option<Quality>
+        requires { IfSome premise (IsPremise self.now.facts) }
     {
         if !self.flat {
             return None;
         }
-        let begun = Begun {
+        let lists = FixedLists {
             s1: &self.first,
             s2: &[],
             s1r: &[],
             s2r: &[],
         };
         let mut room = Room::default();
-        match known {
-            Some(known) => {
-                if !fill_known(self.context, &begun, known, &mut room.seated) {
+        match premise {
+            Some(premise) => {
+                if !fill_given(self.context, &lists, premise, &mut room.seated) {
                     return None;
                 }
             }
-            None => fill_fixed(self.context, &begun, &mut room.seated),
+            None => fill_fixed(self.context, &lists, &mut room.seated),
         }
         self.fill_by_seats(&self.first, &mut room);
         Some(room.quality.with_the_worst_floats())

@@ -6,12 +6,10 @@
 #![tactic(auto)]
 
 mod colour_floor;
-mod colour_floor_laws;
 pub mod floor;
-mod floor_laws;
-mod ghost_laws;
 mod ghost_value;
 mod ghosts;
-pub mod known;
+mod laws;
 mod lonely;
 pub mod outlook;
+pub mod premise;

@@ -6,7 +6,7 @@ ghost use Rattle.dutch_order.specs.declared.numbers.TheConstants.{LIMIT};
 ghost use Rattle.dutch_order.specs.Prelude.{is_member, numbers_from};
 ghost use Rattle.dutch_bracket.specs.Prelude.{AllNumbers, has_bit, suits, waiting, pool, lonely, HasNumbers};
 
-use dutch_bracket::begun::Begun;
+use dutch_bracket::fixed_lists::FixedLists;
 use dutch_bracket::bit_table::{WORD, has_bit, set_bit};
 use dutch_bracket::context::Context;
 use dutch_order::{LIMIT, Numbers, Shape};
@@ -42,9 +42,9 @@ fn put_unmarked(first: usize, count: usize, marks: &Marks, left: &mut Numbers)
 
 /// Fills a list with the residents with whom S1R can still be paired.
 #[tactic(auto, using(crate::proofs::LonelyLemmas::pool_is, crate::proofs::LonelyLemmas::pool_numbers))]
-fn put_pool(context: &Context<'_>, begun: &Begun<'_>, left: &mut Numbers)
-    requires { HasNumbers context.now.reached begun.now }
-    ensures items { left.new.items ≡ pool context.now.facts context.now.reached begun.now }
+fn put_pool(context: &Context<'_>, lists: &FixedLists<'_>, left: &mut Numbers)
+    requires { HasNumbers context.now.reached lists.now }
+    ensures items { left.new.items ≡ pool context.now.facts context.now.reached lists.now }
     ensures numbers { AllNumbers context.now.reached.seats left.new.items }
     ensures few { length left.new.items ≤ LIMIT }
 {
@@ -52,20 +52,20 @@ fn put_pool(context: &Context<'_>, begun: &Begun<'_>, left: &mut Numbers)
     let residents = context.len().saturating_sub(mdps);
     // the residents who have a place
     let mut marks = [0; LIMIT / WORD + 1];
-    mark(begun.s2, &mut marks);
-    mark(begun.s1r, &mut marks);
-    mark(begun.s2r, &mut marks);
+    mark(lists.s2, &mut marks);
+    mark(lists.s1r, &mut marks);
+    mark(lists.s2r, &mut marks);
     put_unmarked(mdps + 1, residents, &marks, left);
 }
 
 /// The players of S1R who have no opponent yet.
 #[tactic(auto, using(crate::proofs::LonelyLemmas::beyond_is))]
-fn waiting<'a>(begun: &Begun<'a>) -> &'a [u16]
-    requires { length begun.now.s2r ≤ length begun.now.s1r }
-    ensures items { result.now ≡ waiting begun.now }
-    ensures few { length result.now ≤ length begun.now.s1r }
+fn waiting<'a>(lists: &FixedLists<'a>) -> &'a [u16]
+    requires { length lists.now.s2r ≤ length lists.now.s1r }
+    ensures items { result.now ≡ waiting lists.now }
+    ensures few { length result.now ≤ length lists.now.s1r }
 {
-    begun.s1r.split_at(begun.s2r.len()).1
+    lists.s1r.split_at(lists.s2r.len()).1
 }
 
 /// Whether a number suits one of some.
@@ -149,16 +149,16 @@ fn more_lonely(first: usize, second: usize, down: usize) -> usize
 pub(crate) fn lonely(
     context: &Context<'_>,
     shape: Shape,
-    begun: &Begun<'_>,
+    lists: &FixedLists<'_>,
     pool: &mut Numbers,
 ) -> usize
-    requires numbers { HasNumbers context.now.reached begun.now }
+    requires numbers { HasNumbers context.now.reached lists.now }
     requires small { shape.pairs ≤ LIMIT }
-    ensures value { result ≡ lonely context.now.facts context.now.reached shape begun.now }
+    ensures value { result ≡ lonely context.now.facts context.now.reached shape lists.now }
     ensures few { result ≤ LIMIT }
 {
-    let waiting = waiting(begun);
-    put_pool(context, begun, pool);
+    let waiting = waiting(lists);
+    put_pool(context, lists, pool);
     let first = lonely_first(context, waiting, pool);
     let second = lonely_second(context, waiting, pool);
     more_lonely(first, second, context.residents_down(shape))

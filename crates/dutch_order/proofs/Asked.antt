@@ -7,7 +7,7 @@ use Rattle.std.proofs.lemmas.List.{take_all, drop_all, length-map, length-take-l
 use Rattle.std.proofs.lemmas.List.Elements.{filter-append}
 use Rattle.std.proofs.lemmas.List.Folds.{list_any-append}
 use Rattle.std.proofs.lemmas.Bool.{true≢false, cases_Bool, and_parts, or_from, or_left, ltb-true, ltb-false}
-use Rattle.dutch_order.specs.Prelude.{is_member, numbers_from, subsets, moved_in, sum_of, IsExchange, KnownExchange, GoesOn, count_of, half_start, IsIn, IsOfStage, fixed_numbers, is_fixed, kept_of, known_exchange, out_limit, in_limit, set_of, total, value_of}
+use Rattle.dutch_order.specs.Prelude.{is_member, numbers_from, subsets, moved_in, sum_of, IsExchange, ExchangeClass, GoesOn, count_of, half_start, IsIn, IsOfStage, fixed_numbers, is_fixed, kept_of, exchange_class, out_limit, in_limit, set_of, total, value_of}
 use Rattle.dutch_order.specs.declared.exchange.Side.{Side}
 use Rattle.dutch_order.specs.declared.exchange.Side.TheVariants.{Out, In}
 use Rattle.dutch_order.proofs.CursorSets.{in-member, member-in}
@@ -63,53 +63,53 @@ no_member : (p : ℕ) (xs : List ℕ) → length xs ≡ 0 → is_member p xs ≡
 no_member p [] none = refl
 no_member p (x ∷ xs) none = absurd (omega arith)
 
-module _ (pool : List ℕ) (k size : ℕ) (outs ins begun rest : List ℕ) (same : outs ++ ins ≡ begun ++ rest) (whole : length outs ≡ size) (half : length ins ≡ size) where
+module _ (pool : List ℕ) (k size : ℕ) (outs ins beginning rest : List ℕ) (same : outs ++ ins ≡ beginning ++ rest) (whole : length outs ≡ size) (half : length ins ≡ size) where
   -- those moved out go on from those chosen
-  pub begun-outs : Climbs 0 k outs → (more : List ℕ) × (outs ≡ take size begun ++ more) × ((p : ℕ) → p < out_limit pool k size begun → is_member p more ≡ false)
+  pub beginning-outs : Climbs 0 k outs → (more : List ℕ) × (outs ≡ take size beginning ++ more) × ((p : ℕ) → p < out_limit pool k size beginning → is_member p more ≡ false)
   unfolding out_limit half_start
-  begun-outs climbs =
-      elim (cases_Bool (nat_lt (length begun) size)) [
+  beginning-outs climbs =
+      elim (cases_Bool (nat_lt (length beginning) size)) [
         | inl short ↦
-            let less : length begun < size = ltb-true (length begun) size short in
-            let front = prefix-of outs ins begun rest same (omega (arith, whole, less)) in
-            let all : take size begun ≡ begun = take_all size begun (omega (arith, less)) in (
+            let less : length beginning < size = ltb-true (length beginning) size short in
+            let front = prefix-of outs ins beginning rest same (omega (arith, whole, less)) in
+            let all : take size beginning ≡ beginning = take_all size beginning (omega (arith, less)) in (
               front.0,
               front.1 ∙ ap (λ l. l ++ front.0) (sym all),
               λ p low.
-                  next-bars (half_start size begun) k p begun front.0 (λ none. ap (half_start size) none)
+                  next-bars (half_start size beginning) k p beginning front.0 (λ none. ap (half_start size) none)
                   (λ t x is. ap (half_start size) is ∙ start-on size t x (λ e. omega (arith, e, less, ap length is, length-append t (x ∷ []))))
-                  (subst (Climbs 0 k) front.1 climbs) (subst (λ b. p < (if b then half_start size begun else k)) short low),
+                  (subst (Climbs 0 k) front.1 climbs) (subst (λ b. p < (if b then half_start size beginning else k)) short low),
             )
         | inr long ↦
-            let front = prefix-of begun rest outs ins (sym same) (omega (arith, whole, ltb-false (length begun) size long)) in
-            let all : take size begun ≡ outs = ap (take size) front.1 ∙ take_front_of outs front.0 size whole in
+            let front = prefix-of beginning rest outs ins (sym same) (omega (arith, whole, ltb-false (length beginning) size long)) in
+            let all : take size beginning ≡ outs = ap (take size) front.1 ∙ take_front_of outs front.0 size whole in
             ([], sym (append-nil outs) ∙ ap (λ l. l ++ []) (sym all), λ p low. refl)
       ]
 
   -- and so do those moved in
-  pub begun-ins : Climbs 0 (length pool - k) ins → (more : List ℕ) × (ins ≡ drop size begun ++ more) × ((p : ℕ) → p < in_limit pool k size begun → is_member p more ≡ false)
+  pub beginning-ins : Climbs 0 (length pool - k) ins → (more : List ℕ) × (ins ≡ drop size beginning ++ more) × ((p : ℕ) → p < in_limit pool k size beginning → is_member p more ≡ false)
   unfolding in_limit
-  begun-ins climbs =
-      elim (cases_Bool (nat_lt (length begun) size)) [
+  beginning-ins climbs =
+      elim (cases_Bool (nat_lt (length beginning) size)) [
         | inl short ↦
-            let none : drop size begun ≡ [] = drop_all size begun (omega (arith, ltb-true (length begun) size short)) in
-            (ins, ap (λ l. l ++ ins) (sym none), λ p low. absurd (omega (arith, subst (λ b. p < (if b then 0 else (if nat_lt (length begun) (size + size) then half_start size begun else (length pool - k)))) short low)))
+            let none : drop size beginning ≡ [] = drop_all size beginning (omega (arith, ltb-true (length beginning) size short)) in
+            (ins, ap (λ l. l ++ ins) (sym none), λ p low. absurd (omega (arith, subst (λ b. p < (if b then 0 else (if nat_lt (length beginning) (size + size) then half_start size beginning else (length pool - k)))) short low)))
         | inr long ↦
-            let front = prefix-of begun rest outs ins (sym same) (omega (arith, whole, ltb-false (length begun) size long)) in
-            let taken : drop size begun ≡ front.0 = ap (drop size) front.1 ∙ drop_front outs front.0 size whole in
+            let front = prefix-of beginning rest outs ins (sym same) (omega (arith, whole, ltb-false (length beginning) size long)) in
+            let taken : drop size beginning ≡ front.0 = ap (drop size) front.1 ∙ drop_front outs front.0 size whole in
             let is : ins ≡ front.0 ++ rest = front.2 in (
               rest,
               is ∙ ap (λ l. l ++ rest) (sym taken),
               λ p low.
-                  let low' : p < (if nat_lt (length begun) (size + size) then half_start size begun else (length pool - k)) = subst (λ b. p < (if b then 0 else (if nat_lt (length begun) (size + size) then half_start size begun else (length pool - k)))) long low in
-                  elim (cases_Bool (nat_lt (length begun) (size + size))) [
+                  let low' : p < (if nat_lt (length beginning) (size + size) then half_start size beginning else (length pool - k)) = subst (λ b. p < (if b then 0 else (if nat_lt (length beginning) (size + size) then half_start size beginning else (length pool - k)))) long low in
+                  elim (cases_Bool (nat_lt (length beginning) (size + size))) [
                     | inl open' ↦
-                        next-bars (half_start size begun) (length pool - k) p front.0 rest
+                        next-bars (half_start size beginning) (length pool - k) p front.0 rest
                         (λ none. ap (half_start size) (front.1 ∙ ap (λ l. outs ++ l) none ∙ append-nil outs) ∙ start-second size outs whole)
                         (λ t x e. ap (half_start size) (front.1 ∙ ap (λ l. outs ++ l) e ∙ sym (append_assoc outs t (x ∷ []))) ∙ start-on size (outs ++ t) x (λ h. omega (arith, h, whole, length-append outs t)))
-                        (subst (Climbs 0 (length pool - k)) is climbs) (subst (λ b. p < (if b then half_start size begun else (length pool - k))) open' low')
+                        (subst (Climbs 0 (length pool - k)) is climbs) (subst (λ b. p < (if b then half_start size beginning else (length pool - k))) open' low')
                     | inr full ↦
-                        no_member p rest (omega (arith, ltb-false (length begun) (size + size) full, whole, half, ap length is, length-append front.0 rest, ap length front.1, length-append outs front.0))
+                        no_member p rest (omega (arith, ltb-false (length beginning) (size + size) full, whole, half, ap length is, length-append front.0 rest, ap length front.1, length-append outs front.0))
                   ],
             )
       ]
@@ -222,41 +222,41 @@ module _ (pool : List ℕ) (k : ℕ) (rises : IsStrictlyIncreasing pool) (enough
         sym (member-filter (λ place. is_member (inn place) set) 0 (length pool - k) place (omega arith) (omega arith))
         ∙ ap (is_member place) (places-of_exchange pool k rises enough set outs ins e.outs_climb e.ins_climb e.is_set).1
 
-    module _ (begun rest : List ℕ) (same : outs ++ ins ≡ begun ++ rest) where
-      out-told : (chosen : Bool) (place : ℕ) → place < k → is_fixed (take size begun) (out_limit pool k size begun) chosen place ≡ true → is_member (out place) set ≡ not chosen
+    module _ (beginning rest : List ℕ) (same : outs ++ ins ≡ beginning ++ rest) where
+      out-told : (chosen : Bool) (place : ℕ) → place < k → is_fixed (take size beginning) (out_limit pool k size beginning) chosen place ≡ true → is_member (out place) set ≡ not chosen
       out-told chosen place low told =
-          let from = begun-outs pool k size outs ins begun rest same e.outs_size e.ins_size e.outs_climb in
+          let from = beginning-outs pool k size outs ins beginning rest same e.outs_size e.ins_size e.outs_climb in
           let is : not (is_member (out place) set) ≡ chosen =
-          out-member place low ∙ ap (is_member place) from.1 ∙ told-decides (take size begun) from.0 (out_limit pool k size begun) chosen place (from.2 place) told in
+          out-member place low ∙ ap (is_member place) from.1 ∙ told-decides (take size beginning) from.0 (out_limit pool k size beginning) chosen place (from.2 place) told in
           sym (not-not (is_member (out place) set)) ∙ ap not is
 
-      in-told : (chosen : Bool) (place : ℕ) → place < length pool - k → is_fixed (drop size begun) (in_limit pool k size begun) chosen place ≡ true → is_member (inn place) set ≡ chosen
+      in-told : (chosen : Bool) (place : ℕ) → place < length pool - k → is_fixed (drop size beginning) (in_limit pool k size beginning) chosen place ≡ true → is_member (inn place) set ≡ chosen
       in-told chosen place low told =
-          let from = begun-ins pool k size outs ins begun rest same e.outs_size e.ins_size e.ins_climb in
-          in-member-of place low ∙ ap (is_member place) from.1 ∙ told-decides (drop size begun) from.0 (in_limit pool k size begun) chosen place (from.2 place) told
+          let from = beginning-ins pool k size outs ins beginning rest same e.outs_size e.ins_size e.ins_climb in
+          in-member-of place low ∙ ap (is_member place) from.1 ∙ told-decides (drop size beginning) from.0 (in_limit pool k size beginning) chosen place (from.2 place) told
 
       barred-out : (x : ℕ) → is_member x set ≡ false → ¬ IsIn x set
       barred-out x no' m = true≢false (sym (in-member x set m) ∙ no')
 
-      exchange-is_known : IsExchange (known_exchange pool k size difference begun) set
+      exchange-is_known : IsExchange (exchange_class pool k size difference beginning) set
       exchange-is_known = record {
         ascends = subst IsStrictlyIncreasing (sym (take-append-drop k pool)) rises;
         set = exchange-set;
         size = exchange-size;
         sum = exchange-sum;
         held = all-append (λ x. IsIn x set) _ _
-            (all-told (λ x. IsIn x set) out (is_fixed (take size begun) (out_limit pool k size begun) false) k (λ place low told. member-in (out place) set (out-told false place low told)))
-            (all-told (λ x. IsIn x set) inn (is_fixed (drop size begun) (in_limit pool k size begun) true) (length pool - k) (λ place low told. member-in (inn place) set (in-told true place low told)));
+            (all-told (λ x. IsIn x set) out (is_fixed (take size beginning) (out_limit pool k size beginning) false) k (λ place low told. member-in (out place) set (out-told false place low told)))
+            (all-told (λ x. IsIn x set) inn (is_fixed (drop size beginning) (in_limit pool k size beginning) true) (length pool - k) (λ place low told. member-in (inn place) set (in-told true place low told)));
         barred = all-append (λ x. ¬ IsIn x set) _ _
-            (all-told (λ x. ¬ IsIn x set) out (is_fixed (take size begun) (out_limit pool k size begun) true) k (λ place low told. barred-out (out place) (out-told true place low told)))
-            (all-told (λ x. ¬ IsIn x set) inn (is_fixed (drop size begun) (in_limit pool k size begun) false) (length pool - k) (λ place low told. barred-out (inn place) (in-told false place low told)));
+            (all-told (λ x. ¬ IsIn x set) out (is_fixed (take size beginning) (out_limit pool k size beginning) true) k (λ place low told. barred-out (out place) (out-told true place low told)))
+            (all-told (λ x. ¬ IsIn x set) inn (is_fixed (drop size beginning) (in_limit pool k size beginning) false) (length pool - k) (λ place low told. barred-out (inn place) (in-told false place low told)));
       }
 
   -- what is known of the set of a path that goes on from what has begun
-  pub path-known : (size difference : ℕ) (begun path : List ℕ) → 0 < size → IsOfStage pool k size difference path → GoesOn begun path → IsExchange (known_exchange pool k size difference begun) (set_of pool k size path)
-  path-known size difference begun path some of on =
+  pub path-known : (size difference : ℕ) (beginning path : List ℕ) → 0 < size → IsOfStage pool k size difference path → GoesOn beginning path → IsExchange (exchange_class pool k size difference beginning) (set_of pool k size path)
+  path-known size difference beginning path some of on =
       let by = path-exchange pool k rises enough size difference (λ none. absurd (omega (arith, some, none))) path (subst (IsIn path) (stage-hits pool k rises enough size difference) of) in
-      exchange-is_known size difference (set_of pool k size path) by.0 by.1 by.3 begun on.rest (sym by.2 ∙ on.is)
+      exchange-is_known size difference (set_of pool k size path) by.0 by.1 by.3 beginning on.rest (sym by.2 ∙ on.is)
 
 -- there is room for one more that passes
 pub filter-room : (q : ℕ → Bool) (i count : ℕ) → i < count → q i ≡ true → length (filter q (numbers_from 0 i)) < length (filter q (numbers_from 0 count))
@@ -313,7 +313,7 @@ told-room pool k side taken limit =
     )
 
 -- the same exchange, at the lists that the code has
-pub exchange-at : (e : KnownExchange) (set original others held barred : List ℕ) → IsExchange e set → original ≡ e.original → others ≡ e.others → held ≡ e.held → barred ≡ e.barred → IsExchange (record { original = original; others = others; size = e.size; difference = e.difference; held = held; barred = barred }) set
+pub exchange-at : (e : ExchangeClass) (set original others held barred : List ℕ) → IsExchange e set → original ≡ e.original → others ≡ e.others → held ≡ e.held → barred ≡ e.barred → IsExchange (record { original = original; others = others; size = e.size; difference = e.difference; held = held; barred = barred }) set
 exchange-at e set original others held barred is is_original is_others is_held is_barred =
     subst (λ l. IsExchange (record { original = l; others = others; size = e.size; difference = e.difference; held = held; barred = barred }) set) (sym is_original)
     (subst (λ l. IsExchange (record { original = e.original; others = l; size = e.size; difference = e.difference; held = held; barred = barred }) set) (sym is_others)

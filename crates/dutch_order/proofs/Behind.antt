@@ -380,9 +380,9 @@ rest-in meets may_be_left frame shape a b m =
     behind-kept (is_legal meets may_be_left frame) a b (arrangements frame shape) m
 
 -- the levels begin with the candidates behind a cursor, or with all
-pub levels-begun : (frame : Frame) (shape : Shape) (meets : ℕ → ℕ → Bool) (may_be_left : ℕ → Bool) (own : Option Arrangement) → Of (λ a. IsIn a (arrangements frame shape)) own → filter (may_leave may_be_left frame) (in_bracket meets frame shape own) ≡ candidates_from meets may_be_left frame shape own
-levels-begun frame shape meets may_be_left None given = candidates-listed meets frame shape may_be_left
-levels-begun frame shape meets may_be_left (Some a) given = bracket-behind frame shape meets a (stands frame shape a given) may_be_left
+pub levels-beginning : (frame : Frame) (shape : Shape) (meets : ℕ → ℕ → Bool) (may_be_left : ℕ → Bool) (own : Option Arrangement) → Of (λ a. IsIn a (arrangements frame shape)) own → filter (may_leave may_be_left frame) (in_bracket meets frame shape own) ≡ candidates_from meets may_be_left frame shape own
+levels-beginning frame shape meets may_be_left None given = candidates-listed meets frame shape may_be_left
+levels-beginning frame shape meets may_be_left (Some a) given = bracket-behind frame shape meets a (stands frame shape a given) may_be_left
 
 -- where nothing is legal, there are none
 pub none-from : (frame : Frame) (shape : Shape) (meets : ℕ → ℕ → Bool) (may_be_left : ℕ → Bool) (own : Option Arrangement) → candidates meets may_be_left frame shape ≡ [] → candidates_from meets may_be_left frame shape own ≡ []

@@ -30,58 +30,58 @@ cond-in : (b : Bool) (c : List ℕ) (paths : List (List ℕ)) → b ≡ true →
 cond-in b c paths e m = subst (λ b. IsIn c (cond b paths [])) (sym e) m
 
 -- what is found goes on from its beginning, as the search admits
-pub found-admitted : (plan : Plan) (open_places : ℕ) (begun c : List ℕ) → IsIn c (found plan open_places begun) → (path : List ℕ) × (c ≡ begun ++ path) × Admitted plan open_places begun path
-found-admitted plan zero begun c m =
-    elim (subst (IsIn c) (found-zero plan begun) m) [
-      | inl same ↦ ([], same ∙ sym (append-nil begun), refl)
+pub found-admitted : (plan : Plan) (open_places : ℕ) (beginning c : List ℕ) → IsIn c (found plan open_places beginning) → (path : List ℕ) × (c ≡ beginning ++ path) × Admitted plan open_places beginning path
+found-admitted plan zero beginning c m =
+    elim (subst (IsIn c) (found-zero plan beginning) m) [
+      | inl same ↦ ([], same ∙ sym (append-nil beginning), refl)
       | inr none ↦ absurd none
     ]
-found-admitted plan (suc open_places) begun c m =
-    let at = IsIn-flat_map (λ tried. cond (plan.fits begun tried) (found plan open_places (begun ++ tried ∷ [])) []) c (numbers_from (plan.start begun) (plan.stop begun - plan.start begun)) (subst (IsIn c) (found-suc plan open_places begun) m) in
-    let range = numbers-in at.0 (plan.start begun) (plan.stop begun - plan.start begun) at.1 in
-    let fit = in-cond (plan.fits begun at.0) c (found plan open_places (begun ++ at.0 ∷ [])) at.2 in
-    let rest = found-admitted plan open_places (begun ++ at.0 ∷ []) c fit.1 in
-    (at.0 ∷ rest.0, rest.1 ∙ append_assoc begun (at.0 ∷ []) rest.0, (range.0, omega arith, fit.0, rest.2))
+found-admitted plan (suc open_places) beginning c m =
+    let at = IsIn-flat_map (λ tried. cond (plan.fits beginning tried) (found plan open_places (beginning ++ tried ∷ [])) []) c (numbers_from (plan.start beginning) (plan.stop beginning - plan.start beginning)) (subst (IsIn c) (found-suc plan open_places beginning) m) in
+    let range = numbers-in at.0 (plan.start beginning) (plan.stop beginning - plan.start beginning) at.1 in
+    let fit = in-cond (plan.fits beginning at.0) c (found plan open_places (beginning ++ at.0 ∷ [])) at.2 in
+    let rest = found-admitted plan open_places (beginning ++ at.0 ∷ []) c fit.1 in
+    (at.0 ∷ rest.0, rest.1 ∙ append_assoc beginning (at.0 ∷ []) rest.0, (range.0, omega arith, fit.0, rest.2))
 
-pub admitted-found : (plan : Plan) (open_places : ℕ) (begun path : List ℕ) → Admitted plan open_places begun path → IsIn (begun ++ path) (found plan open_places begun)
-admitted-found plan zero begun path admitted =
-    subst (λ c. IsIn c (found plan zero begun)) (sym (ap (λ xs. begun ++ xs) admitted ∙ append-nil begun)) (subst (IsIn begun) (sym (found-zero plan begun)) (inl refl))
-admitted-found plan (suc open_places) begun [] admitted = absurd admitted
-admitted-found plan (suc open_places) begun (x ∷ path) admitted =
-    subst (IsIn (begun ++ x ∷ path)) (sym (found-suc plan open_places begun))
-    (flat_map-IsIn (λ tried. cond (plan.fits begun tried) (found plan open_places (begun ++ tried ∷ [])) []) (begun ++ x ∷ path) x (numbers_from (plan.start begun) (plan.stop begun - plan.start begun))
-    (in-numbers x (plan.start begun) (plan.stop begun - plan.start begun) admitted.0 (omega arith))
-    (cond-in (plan.fits begun x) (begun ++ x ∷ path) (found plan open_places (begun ++ x ∷ [])) admitted.2
-    (subst (λ c. IsIn c (found plan open_places (begun ++ x ∷ []))) (append_assoc begun (x ∷ []) path) (admitted-found plan open_places (begun ++ x ∷ []) path admitted.3))))
+pub admitted-found : (plan : Plan) (open_places : ℕ) (beginning path : List ℕ) → Admitted plan open_places beginning path → IsIn (beginning ++ path) (found plan open_places beginning)
+admitted-found plan zero beginning path admitted =
+    subst (λ c. IsIn c (found plan zero beginning)) (sym (ap (λ xs. beginning ++ xs) admitted ∙ append-nil beginning)) (subst (IsIn beginning) (sym (found-zero plan beginning)) (inl refl))
+admitted-found plan (suc open_places) beginning [] admitted = absurd admitted
+admitted-found plan (suc open_places) beginning (x ∷ path) admitted =
+    subst (IsIn (beginning ++ x ∷ path)) (sym (found-suc plan open_places beginning))
+    (flat_map-IsIn (λ tried. cond (plan.fits beginning tried) (found plan open_places (beginning ++ tried ∷ [])) []) (beginning ++ x ∷ path) x (numbers_from (plan.start beginning) (plan.stop beginning - plan.start beginning))
+    (in-numbers x (plan.start beginning) (plan.stop beginning - plan.start beginning) admitted.0 (omega arith))
+    (cond-in (plan.fits beginning x) (beginning ++ x ∷ path) (found plan open_places (beginning ++ x ∷ [])) admitted.2
+    (subst (λ c. IsIn c (found plan open_places (beginning ++ x ∷ []))) (append_assoc beginning (x ∷ []) path) (admitted-found plan open_places (beginning ++ x ∷ []) path admitted.3))))
 
 -- a common beginning decides nothing
-pub is_before-begun : (begun xs ys : List ℕ) → is_before (begun ++ xs) (begun ++ ys) ≡ is_before xs ys
-is_before-begun [] xs ys = refl
-is_before-begun (x ∷ begun) xs ys = is_before-equal x (begun ++ xs) (begun ++ ys) ∙ is_before-begun begun xs ys
+pub is_before-beginning : (beginning xs ys : List ℕ) → is_before (beginning ++ xs) (beginning ++ ys) ≡ is_before xs ys
+is_before-beginning [] xs ys = refl
+is_before-beginning (x ∷ beginning) xs ys = is_before-equal x (beginning ++ xs) (beginning ++ ys) ∙ is_before-beginning beginning xs ys
 
 Ascends-cond : (b : Bool) (paths : List (List ℕ)) → Ascends (λ path. path) paths → Ascends (λ path. path) (cond b paths [])
 Ascends-cond true paths p = p
 Ascends-cond false paths p = tt
 
 -- the paths with each of some rising numbers next ascend, if those with one do
-ascends_from : (plan : Plan) (open_places : ℕ) (begun : List ℕ) → ((tried : ℕ) → Ascends (λ path. path) (found plan open_places (begun ++ tried ∷ []))) → (first count : ℕ) → Ascends (λ path. path) (flat_map (λ tried. cond (plan.fits begun tried) (found plan open_places (begun ++ tried ∷ [])) []) (numbers_from first count))
-ascends_from plan open_places begun each first zero = tt
-ascends_from plan open_places begun each first (suc count) =
-    Ascends-append (λ path. path) (cond (plan.fits begun first) (found plan open_places (begun ++ first ∷ [])) [])
-    (flat_map (λ tried. cond (plan.fits begun tried) (found plan open_places (begun ++ tried ∷ [])) []) (numbers_from (suc first) count))
-    (Ascends-cond (plan.fits begun first) (found plan open_places (begun ++ first ∷ [])) (each first))
-    (ascends_from plan open_places begun each (suc first) count)
+ascends_from : (plan : Plan) (open_places : ℕ) (beginning : List ℕ) → ((tried : ℕ) → Ascends (λ path. path) (found plan open_places (beginning ++ tried ∷ []))) → (first count : ℕ) → Ascends (λ path. path) (flat_map (λ tried. cond (plan.fits beginning tried) (found plan open_places (beginning ++ tried ∷ [])) []) (numbers_from first count))
+ascends_from plan open_places beginning each first zero = tt
+ascends_from plan open_places beginning each first (suc count) =
+    Ascends-append (λ path. path) (cond (plan.fits beginning first) (found plan open_places (beginning ++ first ∷ [])) [])
+    (flat_map (λ tried. cond (plan.fits beginning tried) (found plan open_places (beginning ++ tried ∷ [])) []) (numbers_from (suc first) count))
+    (Ascends-cond (plan.fits beginning first) (found plan open_places (beginning ++ first ∷ [])) (each first))
+    (ascends_from plan open_places beginning each (suc first) count)
     (λ a b m n.
-    let here = found-admitted plan open_places (begun ++ first ∷ []) a (in-cond (plan.fits begun first) a (found plan open_places (begun ++ first ∷ [])) m).1 in
-    let later = IsIn-flat_map (λ tried. cond (plan.fits begun tried) (found plan open_places (begun ++ tried ∷ [])) []) b (numbers_from (suc first) count) n in
-    let there = found-admitted plan open_places (begun ++ later.0 ∷ []) b (in-cond (plan.fits begun later.0) b (found plan open_places (begun ++ later.0 ∷ [])) later.2).1 in
+    let here = found-admitted plan open_places (beginning ++ first ∷ []) a (in-cond (plan.fits beginning first) a (found plan open_places (beginning ++ first ∷ [])) m).1 in
+    let later = IsIn-flat_map (λ tried. cond (plan.fits beginning tried) (found plan open_places (beginning ++ tried ∷ [])) []) b (numbers_from (suc first) count) n in
+    let there = found-admitted plan open_places (beginning ++ later.0 ∷ []) b (in-cond (plan.fits beginning later.0) b (found plan open_places (beginning ++ later.0 ∷ [])) later.2).1 in
     let above : first < later.0 = omega (arith, (numbers-in later.0 (suc first) count later.1).0) in
-    subst (λ z. is_before z b ≡ true) (sym (here.1 ∙ append_assoc begun (first ∷ []) here.0))
-    (subst (λ z. is_before (begun ++ first ∷ here.0) z ≡ true) (sym (there.1 ∙ append_assoc begun (later.0 ∷ []) there.0))
-    (is_before-begun begun (first ∷ here.0) (later.0 ∷ there.0) ∙ is_before-lower first later.0 here.0 there.0 above)))
+    subst (λ z. is_before z b ≡ true) (sym (here.1 ∙ append_assoc beginning (first ∷ []) here.0))
+    (subst (λ z. is_before (beginning ++ first ∷ here.0) z ≡ true) (sym (there.1 ∙ append_assoc beginning (later.0 ∷ []) there.0))
+    (is_before-beginning beginning (first ∷ here.0) (later.0 ∷ there.0) ∙ is_before-lower first later.0 here.0 there.0 above)))
 
-pub found-ascends : (plan : Plan) (open_places : ℕ) (begun : List ℕ) → Ascends (λ path. path) (found plan open_places begun)
-found-ascends plan zero begun = subst (Ascends (λ path. path)) (sym (found-zero plan begun)) (tt, tt)
-found-ascends plan (suc open_places) begun =
-    subst (Ascends (λ path. path)) (sym (found-suc plan open_places begun))
-    (ascends_from plan open_places begun (λ tried. found-ascends plan open_places (begun ++ tried ∷ [])) (plan.start begun) (plan.stop begun - plan.start begun))
+pub found-ascends : (plan : Plan) (open_places : ℕ) (beginning : List ℕ) → Ascends (λ path. path) (found plan open_places beginning)
+found-ascends plan zero beginning = subst (Ascends (λ path. path)) (sym (found-zero plan beginning)) (tt, tt)
+found-ascends plan (suc open_places) beginning =
+    subst (Ascends (λ path. path)) (sym (found-suc plan open_places beginning))
+    (ascends_from plan open_places beginning (λ tried. found-ascends plan open_places (beginning ++ tried ∷ [])) (plan.start beginning) (plan.stop beginning - plan.start beginning))

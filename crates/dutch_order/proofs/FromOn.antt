@@ -82,12 +82,12 @@ order-same key f xs keeps p q m n =
     ]
 
 -- a path that a search admits has the length of its places, and reaches the start of each
-pub admitted-length : (plan : Plan) (open_places : ℕ) (begun path : List ℕ) → Admitted plan open_places begun path → length path ≡ open_places
-admitted-length plan zero begun path admitted = ap length admitted
-admitted-length plan (suc open_places) begun [] admitted = absurd admitted
-admitted-length plan (suc open_places) begun (x ∷ path) admitted = ap suc (admitted-length plan open_places (begun ++ x ∷ []) path admitted.3)
+pub admitted-length : (plan : Plan) (open_places : ℕ) (beginning path : List ℕ) → Admitted plan open_places beginning path → length path ≡ open_places
+admitted-length plan zero beginning path admitted = ap length admitted
+admitted-length plan (suc open_places) beginning [] admitted = absurd admitted
+admitted-length plan (suc open_places) beginning (x ∷ path) admitted = ap suc (admitted-length plan open_places (beginning ++ x ∷ []) path admitted.3)
 
-pub admitted-reaches : (plan : Plan) (open_places : ℕ) (begun path : List ℕ) → Admitted plan open_places begun path → Reaches plan begun path
-admitted-reaches plan zero begun path admitted = subst (Reaches plan begun) (sym admitted) tt
-admitted-reaches plan (suc open_places) begun [] admitted = absurd admitted
-admitted-reaches plan (suc open_places) begun (x ∷ path) admitted = (admitted.0, admitted-reaches plan open_places (begun ++ x ∷ []) path admitted.3)
+pub admitted-reaches : (plan : Plan) (open_places : ℕ) (beginning path : List ℕ) → Admitted plan open_places beginning path → Reaches plan beginning path
+admitted-reaches plan zero beginning path admitted = subst (Reaches plan beginning) (sym admitted) tt
+admitted-reaches plan (suc open_places) beginning [] admitted = absurd admitted
+admitted-reaches plan (suc open_places) beginning (x ∷ path) admitted = (admitted.0, admitted-reaches plan open_places (beginning ++ x ∷ []) path admitted.3)

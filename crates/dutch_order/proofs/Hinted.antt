@@ -11,104 +11,104 @@ use Rattle.dutch_order.proofs.Orders.{is_before-lower, is_before-equal, is_befor
 use Rattle.dutch_order.proofs.ByKeys.{is_before}
 
 -- the number after a beginning of the path
-pub hint-on : (begun : List ℕ) (x : ℕ) (rest : List ℕ) → hint_after (begun ++ x ∷ rest) begun ≡ Some x
+pub hint-on : (beginning : List ℕ) (x : ℕ) (rest : List ℕ) → hint_after (beginning ++ x ∷ rest) beginning ≡ Some x
 hint-on [] x rest = refl
-hint-on (b ∷ begun) x rest =
-    ap (λ same. if same then hint_after (begun ++ x ∷ rest) begun else None) (eq-eqb b b refl) ∙ hint-on begun x rest
+hint-on (b ∷ beginning) x rest =
+    ap (λ same. if same then hint_after (beginning ++ x ∷ rest) beginning else None) (eq-eqb b b refl) ∙ hint-on beginning x rest
 
 -- there is none after another number
-pub hint-off : (begun : List ℕ) (x y : ℕ) (rest path : List ℕ) → (x ≡ y → ⊥) → hint_after (begun ++ x ∷ rest) (begun ++ y ∷ path) ≡ None
+pub hint-off : (beginning : List ℕ) (x y : ℕ) (rest path : List ℕ) → (x ≡ y → ⊥) → hint_after (beginning ++ x ∷ rest) (beginning ++ y ∷ path) ≡ None
 hint-off [] x y rest path apart = ap (λ same. if same then hint_after rest path else None) (ne_eqb x y apart)
-hint-off (b ∷ begun) x y rest path apart =
-    ap (λ same. if same then hint_after (begun ++ x ∷ rest) (begun ++ y ∷ path) else None) (eq-eqb b b refl) ∙ hint-off begun x y rest path apart
+hint-off (b ∷ beginning) x y rest path apart =
+    ap (λ same. if same then hint_after (beginning ++ x ∷ rest) (beginning ++ y ∷ path) else None) (eq-eqb b b refl) ∙ hint-off beginning x y rest path apart
 
 -- a beginning that the path does not have
 abbrev pub IsOff : List ℕ → List ℕ → Type 0
-IsOff hint begun = (path : List ℕ) → hint_after hint (begun ++ path) ≡ None
+IsOff hint beginning = (path : List ℕ) → hint_after hint (beginning ++ path) ≡ None
 
-off-on : (hint begun : List ℕ) (x : ℕ) → IsOff hint begun → IsOff hint (begun ++ x ∷ [])
-off-on hint begun x off = λ path. ap (hint_after hint) (append_assoc begun (x ∷ []) path) ∙ off (x ∷ path)
+off-on : (hint beginning : List ℕ) (x : ℕ) → IsOff hint beginning → IsOff hint (beginning ++ x ∷ [])
+off-on hint beginning x off = λ path. ap (hint_after hint) (append_assoc beginning (x ∷ []) path) ∙ off (x ∷ path)
 
-off-here : (hint begun : List ℕ) → IsOff hint begun → hint_after hint begun ≡ None
-off-here hint begun off = ap (hint_after hint) (sym (append-nil begun)) ∙ off []
+off-here : (hint beginning : List ℕ) → IsOff hint beginning → hint_after hint beginning ≡ None
+off-here hint beginning off = ap (hint_after hint) (sym (append-nil beginning)) ∙ off []
 
-off-from : (begun : List ℕ) (x y : ℕ) (rest : List ℕ) → (x ≡ y → ⊥) → IsOff (begun ++ x ∷ rest) (begun ++ y ∷ [])
-off-from begun x y rest apart = λ path. ap (hint_after (begun ++ x ∷ rest)) (append_assoc begun (y ∷ []) path) ∙ hint-off begun x y rest path apart
+off-from : (beginning : List ℕ) (x y : ℕ) (rest : List ℕ) → (x ≡ y → ⊥) → IsOff (beginning ++ x ∷ rest) (beginning ++ y ∷ [])
+off-from beginning x y rest apart = λ path. ap (hint_after (beginning ++ x ∷ rest)) (append_assoc beginning (y ∷ []) path) ∙ hint-off beginning x y rest path apart
 
 -- each number of a path is no lower than the first that its place tries
 abbrev pub Reaches : Plan → List ℕ → List ℕ → Type 0
-Reaches plan begun [] = Unit {0}
-Reaches plan begun (x ∷ path) = (plan.start begun ≤ x) × Reaches plan (begun ++ x ∷ []) path
+Reaches plan beginning [] = Unit {0}
+Reaches plan beginning (x ∷ path) = (plan.start beginning ≤ x) × Reaches plan (beginning ++ x ∷ []) path
 
 module _ (plan : Plan) where
   -- off the path all is as it was
-  off-admitted : (hint : List ℕ) (open_places : ℕ) (begun path : List ℕ) → IsOff hint begun → Admitted (hinted hint plan) open_places begun path → Admitted plan open_places begun path
-  off-admitted hint zero begun path off admitted = admitted
-  off-admitted hint (suc open_places) begun [] off admitted = admitted
-  off-admitted hint (suc open_places) begun (y ∷ path) off admitted = (
-    subst (λ told. number_or told (plan.start begun) ≤ y) (off-here hint begun off) admitted.0,
+  off-admitted : (hint : List ℕ) (open_places : ℕ) (beginning path : List ℕ) → IsOff hint beginning → Admitted (hinted hint plan) open_places beginning path → Admitted plan open_places beginning path
+  off-admitted hint zero beginning path off admitted = admitted
+  off-admitted hint (suc open_places) beginning [] off admitted = admitted
+  off-admitted hint (suc open_places) beginning (y ∷ path) off admitted = (
+    subst (λ told. number_or told (plan.start beginning) ≤ y) (off-here hint beginning off) admitted.0,
     admitted.1,
     admitted.2,
-    off-admitted hint open_places (begun ++ y ∷ []) path (off-on hint begun y off) admitted.3,
+    off-admitted hint open_places (beginning ++ y ∷ []) path (off-on hint beginning y off) admitted.3,
   )
 
-  admitted-off : (hint : List ℕ) (open_places : ℕ) (begun path : List ℕ) → IsOff hint begun → Admitted plan open_places begun path → Admitted (hinted hint plan) open_places begun path
-  admitted-off hint zero begun path off admitted = admitted
-  admitted-off hint (suc open_places) begun [] off admitted = admitted
-  admitted-off hint (suc open_places) begun (y ∷ path) off admitted = (
-    subst (λ told. number_or told (plan.start begun) ≤ y) (sym (off-here hint begun off)) admitted.0,
+  admitted-off : (hint : List ℕ) (open_places : ℕ) (beginning path : List ℕ) → IsOff hint beginning → Admitted plan open_places beginning path → Admitted (hinted hint plan) open_places beginning path
+  admitted-off hint zero beginning path off admitted = admitted
+  admitted-off hint (suc open_places) beginning [] off admitted = admitted
+  admitted-off hint (suc open_places) beginning (y ∷ path) off admitted = (
+    subst (λ told. number_or told (plan.start beginning) ≤ y) (sym (off-here hint beginning off)) admitted.0,
     admitted.1,
     admitted.2,
-    admitted-off hint open_places (begun ++ y ∷ []) path (off-on hint begun y off) admitted.3,
+    admitted-off hint open_places (beginning ++ y ∷ []) path (off-on hint beginning y off) admitted.3,
   )
 
   -- what is admitted from the path on is what is admitted and not before it
-  from-admitted : (open_places : ℕ) (begun rest path : List ℕ) → length rest ≡ open_places → Reaches plan begun rest → Admitted (hinted (begun ++ rest) plan) open_places begun path → Admitted plan open_places begun path × (is_before path rest ≡ false)
-  from-admitted zero begun [] path whole reaches admitted = (admitted, ap (λ p. is_before p []) admitted)
-  from-admitted zero begun (x ∷ rest) path whole reaches admitted = absurd (omega arith)
-  from-admitted (suc open_places) begun [] path whole reaches admitted = absurd (omega arith)
-  from-admitted (suc open_places) begun (x ∷ rest) [] whole reaches admitted = absurd admitted
-  from-admitted (suc open_places) begun (x ∷ rest) (y ∷ path) whole reaches admitted =
-      let low : x ≤ y = subst (λ told. number_or told (plan.start begun) ≤ y) (hint-on begun x rest) admitted.0 in
+  from-admitted : (open_places : ℕ) (beginning rest path : List ℕ) → length rest ≡ open_places → Reaches plan beginning rest → Admitted (hinted (beginning ++ rest) plan) open_places beginning path → Admitted plan open_places beginning path × (is_before path rest ≡ false)
+  from-admitted zero beginning [] path whole reaches admitted = (admitted, ap (λ p. is_before p []) admitted)
+  from-admitted zero beginning (x ∷ rest) path whole reaches admitted = absurd (omega arith)
+  from-admitted (suc open_places) beginning [] path whole reaches admitted = absurd (omega arith)
+  from-admitted (suc open_places) beginning (x ∷ rest) [] whole reaches admitted = absurd admitted
+  from-admitted (suc open_places) beginning (x ∷ rest) (y ∷ path) whole reaches admitted =
+      let low : x ≤ y = subst (λ told. number_or told (plan.start beginning) ≤ y) (hint-on beginning x rest) admitted.0 in
       elim (cases_order x y) [
         | inl same ↦
-            let deeper : Admitted (hinted ((begun ++ x ∷ []) ++ rest) plan) open_places (begun ++ x ∷ []) path =
-            subst (λ hint. Admitted (hinted hint plan) open_places (begun ++ x ∷ []) path) (sym (append_assoc begun (x ∷ []) rest))
-            (subst (λ z. Admitted (hinted (begun ++ x ∷ rest) plan) open_places (begun ++ z ∷ []) path) (sym same) admitted.3) in
-            let later = from-admitted open_places (begun ++ x ∷ []) rest path (omega arith) reaches.1 deeper in (
-              (omega (arith, reaches.0), admitted.1, admitted.2, subst (λ z. Admitted plan open_places (begun ++ z ∷ []) path) same later.0),
+            let deeper : Admitted (hinted ((beginning ++ x ∷ []) ++ rest) plan) open_places (beginning ++ x ∷ []) path =
+            subst (λ hint. Admitted (hinted hint plan) open_places (beginning ++ x ∷ []) path) (sym (append_assoc beginning (x ∷ []) rest))
+            (subst (λ z. Admitted (hinted (beginning ++ x ∷ rest) plan) open_places (beginning ++ z ∷ []) path) (sym same) admitted.3) in
+            let later = from-admitted open_places (beginning ++ x ∷ []) rest path (omega arith) reaches.1 deeper in (
+              (omega (arith, reaches.0), admitted.1, admitted.2, subst (λ z. Admitted plan open_places (beginning ++ z ∷ []) path) same later.0),
               subst (λ z. is_before (z ∷ path) (x ∷ rest) ≡ false) same (is_before-equal x path rest ∙ later.1),
             )
         | inr (inl below') ↦ (
-          (omega (arith, reaches.0), admitted.1, admitted.2, off-admitted (begun ++ x ∷ rest) open_places (begun ++ y ∷ []) path (off-from begun x y rest (λ e. omega (arith, below'))) admitted.3),
+          (omega (arith, reaches.0), admitted.1, admitted.2, off-admitted (beginning ++ x ∷ rest) open_places (beginning ++ y ∷ []) path (off-from beginning x y rest (λ e. omega (arith, below'))) admitted.3),
           is_before-asymmetric (x ∷ rest) (y ∷ path) (is_before-lower x y rest path below'),
         )
         | inr (inr above) ↦ absurd (omega (arith, low, above))
       ]
 
-  admitted-from : (open_places : ℕ) (begun rest path : List ℕ) → length rest ≡ open_places → Admitted plan open_places begun path → is_before path rest ≡ false → Admitted (hinted (begun ++ rest) plan) open_places begun path
-  admitted-from zero begun [] path whole admitted late = admitted
-  admitted-from zero begun (x ∷ rest) path whole admitted late = absurd (omega arith)
-  admitted-from (suc open_places) begun [] path whole admitted late = absurd (omega arith)
-  admitted-from (suc open_places) begun (x ∷ rest) [] whole admitted late = absurd admitted
-  admitted-from (suc open_places) begun (x ∷ rest) (y ∷ path) whole admitted late =
-      let from : x ≤ y → (hinted (begun ++ x ∷ rest) plan).start begun ≤ y = λ low. subst (λ told. number_or told (plan.start begun) ≤ y) (sym (hint-on begun x rest)) low in
+  admitted-from : (open_places : ℕ) (beginning rest path : List ℕ) → length rest ≡ open_places → Admitted plan open_places beginning path → is_before path rest ≡ false → Admitted (hinted (beginning ++ rest) plan) open_places beginning path
+  admitted-from zero beginning [] path whole admitted late = admitted
+  admitted-from zero beginning (x ∷ rest) path whole admitted late = absurd (omega arith)
+  admitted-from (suc open_places) beginning [] path whole admitted late = absurd (omega arith)
+  admitted-from (suc open_places) beginning (x ∷ rest) [] whole admitted late = absurd admitted
+  admitted-from (suc open_places) beginning (x ∷ rest) (y ∷ path) whole admitted late =
+      let from : x ≤ y → (hinted (beginning ++ x ∷ rest) plan).start beginning ≤ y = λ low. subst (λ told. number_or told (plan.start beginning) ≤ y) (sym (hint-on beginning x rest)) low in
       elim (cases_order x y) [
         | inl same ↦
             let later : is_before path rest ≡ false = sym (is_before-equal x path rest) ∙ subst (λ z. is_before (z ∷ path) (x ∷ rest) ≡ false) (sym same) late in
-            let deeper : Admitted (hinted ((begun ++ x ∷ []) ++ rest) plan) open_places (begun ++ x ∷ []) path =
-            admitted-from open_places (begun ++ x ∷ []) rest path (omega arith) (subst (λ z. Admitted plan open_places (begun ++ z ∷ []) path) (sym same) admitted.3) later in (
+            let deeper : Admitted (hinted ((beginning ++ x ∷ []) ++ rest) plan) open_places (beginning ++ x ∷ []) path =
+            admitted-from open_places (beginning ++ x ∷ []) rest path (omega arith) (subst (λ z. Admitted plan open_places (beginning ++ z ∷ []) path) (sym same) admitted.3) later in (
               from (omega arith),
               admitted.1,
               admitted.2,
-              subst (λ z. Admitted (hinted (begun ++ x ∷ rest) plan) open_places (begun ++ z ∷ []) path) same
-                  (subst (λ hint. Admitted (hinted hint plan) open_places (begun ++ x ∷ []) path) (append_assoc begun (x ∷ []) rest) deeper),
+              subst (λ z. Admitted (hinted (beginning ++ x ∷ rest) plan) open_places (beginning ++ z ∷ []) path) same
+                  (subst (λ hint. Admitted (hinted hint plan) open_places (beginning ++ x ∷ []) path) (append_assoc beginning (x ∷ []) rest) deeper),
             )
         | inr (inl below') ↦ (
           from (omega (arith, below')),
           admitted.1,
           admitted.2,
-          admitted-off (begun ++ x ∷ rest) open_places (begun ++ y ∷ []) path (off-from begun x y rest (λ e. omega (arith, below'))) admitted.3,
+          admitted-off (beginning ++ x ∷ rest) open_places (beginning ++ y ∷ []) path (off-from beginning x y rest (λ e. omega (arith, below'))) admitted.3,
         )
         | inr (inr above) ↦ absurd (true≢false (sym (is_before-lower y x path rest above) ∙ late))
       ]
@@ -162,6 +162,6 @@ hint-short (x ∷ hint) (y ∷ path) short =
     ]
 
 -- where such a search has walked, the search has walked without the path
-pub Walked-hinted : (hint : List ℕ) (plan : Plan) (begun path : List ℕ) → Walked (hinted hint plan) begun path → Walked plan begun path
-Walked-hinted hint plan begun [] walked = tt
-Walked-hinted hint plan begun (x ∷ path) walked = (walked.0, Walked-hinted hint plan (begun ++ x ∷ []) path walked.1)
+pub Walked-hinted : (hint : List ℕ) (plan : Plan) (beginning path : List ℕ) → Walked (hinted hint plan) beginning path → Walked plan beginning path
+Walked-hinted hint plan beginning [] walked = tt
+Walked-hinted hint plan beginning (x ∷ path) walked = (walked.0, Walked-hinted hint plan (beginning ++ x ∷ []) path walked.1)

@@ -39,27 +39,27 @@ passes-map Idle f xs ys (front, same, idle) =
 goes-on-shorter : (path : List ℕ) (number : ℕ) (c : List ℕ) → GoesOn (path ++ number ∷ []) c → GoesOn path c
 goes-on-shorter path number c on = record { rest = number ∷ on.rest; is = on.is ∙ append_assoc path (number ∷ []) on.rest }
 
-begun-cond : (path : List ℕ) (beyond : Option ℕ) (fits : Bool) (events : List Event) → AllByRecursion (GoesOn path) (hits events) → AllByRecursion (GoesOn path) (hits (Tried beyond ∷ cond fits events []))
-begun-cond path beyond true events all = all
-begun-cond path beyond false events all = tt
+beginning-cond : (path : List ℕ) (beyond : Option ℕ) (fits : Bool) (events : List Event) → AllByRecursion (GoesOn path) (hits events) → AllByRecursion (GoesOn path) (hits (Tried beyond ∷ cond fits events []))
+beginning-cond path beyond true events all = all
+beginning-cond path beyond false events all = tt
 
-begun-each : (path : List ℕ) (brings : ℕ → List Event) → ((tried : ℕ) → AllByRecursion (GoesOn path) (hits (brings tried))) → (numbers : List ℕ) → AllByRecursion (GoesOn path) (hits (flat_map brings numbers))
-begun-each path brings each [] = tt
-begun-each path brings each (x ∷ numbers) =
+beginning-each : (path : List ℕ) (brings : ℕ → List Event) → ((tried : ℕ) → AllByRecursion (GoesOn path) (hits (brings tried))) → (numbers : List ℕ) → AllByRecursion (GoesOn path) (hits (flat_map brings numbers))
+beginning-each path brings each [] = tt
+beginning-each path brings each (x ∷ numbers) =
     subst (AllByRecursion (GoesOn path)) (sym (hits-append (brings x) (flat_map brings numbers)))
-    (all-append (GoesOn path) (hits (brings x)) (hits (flat_map brings numbers)) (each x) (begun-each path brings each numbers))
+    (all-append (GoesOn path) (hits (brings x)) (hits (flat_map brings numbers)) (each x) (beginning-each path brings each numbers))
 
 -- each whole path below a path goes on from it
-pub below-begun : (plan : Plan) (open_places : ℕ) (path : List ℕ) (number : ℕ) → AllByRecursion (GoesOn path) (hits (below plan open_places path number))
+pub below-beginning : (plan : Plan) (open_places : ℕ) (path : List ℕ) (number : ℕ) → AllByRecursion (GoesOn path) (hits (below plan open_places path number))
 unfolding below
-below-begun plan zero path zero = (record { rest = []; is = sym (append-nil path) }, tt)
-below-begun plan zero path (suc number) = tt
-below-begun plan (suc open_places) path number =
-    begun-each path (λ tried. Tried (plan.beyond path tried) ∷ cond (plan.fits path tried) (below plan open_places (path ++ tried ∷ []) (entry plan open_places (path ++ tried ∷ []))) [])
+below-beginning plan zero path zero = (record { rest = []; is = sym (append-nil path) }, tt)
+below-beginning plan zero path (suc number) = tt
+below-beginning plan (suc open_places) path number =
+    beginning-each path (λ tried. Tried (plan.beyond path tried) ∷ cond (plan.fits path tried) (below plan open_places (path ++ tried ∷ []) (entry plan open_places (path ++ tried ∷ []))) [])
     (λ tried.
-    begun-cond path (plan.beyond path tried) (plan.fits path tried) (below plan open_places (path ++ tried ∷ []) (entry plan open_places (path ++ tried ∷ [])))
+    beginning-cond path (plan.beyond path tried) (plan.fits path tried) (below plan open_places (path ++ tried ∷ []) (entry plan open_places (path ++ tried ∷ [])))
     (all-each (GoesOn (path ++ tried ∷ [])) (GoesOn path) (goes-on-shorter path tried) (hits (below plan open_places (path ++ tried ∷ []) (entry plan open_places (path ++ tried ∷ []))))
-    (below-begun plan open_places (path ++ tried ∷ []) (entry plan open_places (path ++ tried ∷ [])))))
+    (below-beginning plan open_places (path ++ tried ∷ []) (entry plan open_places (path ++ tried ∷ [])))))
     (numbers_from number (plan.stop path - number))
 
 -- ahead of a path is what is below it, and then what is ahead once nothing is left below it
@@ -73,7 +73,7 @@ pub idle-left : (plan : Plan) (Idle : List ℕ → Type 0) (path : List ℕ) (nu
 idle-left plan Idle path number end spent idle = (
   hits (below plan (plan.places - length path) path number),
   ap hits (ahead-left plan path number end spent) ∙ hits-append (below plan (plan.places - length path) path number) (ahead plan path end),
-  all-each (GoesOn path) Idle idle (hits (below plan (plan.places - length path) path number)) (below-begun plan (plan.places - length path) path number),
+  all-each (GoesOn path) Idle idle (hits (below plan (plan.places - length path) path number)) (below-beginning plan (plan.places - length path) path number),
 )
 
 -- what follows of each answer follows of the answer

@@ -10,7 +10,7 @@ use Rattle.dutch_order.proofs.Lists.{map-same}
 use Rattle.dutch_order.proofs.HalfWalks.{Climbs, AllFit, Admitted, Halved, halves-split, halves-join, start-on}
 use Rattle.dutch_order.proofs.Orders.{is_before-lower, is_before-equal, is_before-cases, IsIn-map, map-IsIn}
 use Rattle.dutch_order.proofs.Found.{found, ahead-new}
-use Rattle.dutch_order.proofs.FoundPaths.{found-admitted, admitted-found, found-ascends, is_before-begun}
+use Rattle.dutch_order.proofs.FoundPaths.{found-admitted, admitted-found, found-ascends, is_before-beginning}
 use Rattle.dutch_order.proofs.Sets.{subsets-climb, climbs-subset, subsets-map, subsets-ascend, ascending-sorted, in-sorted, Ascends-map}
 use Rattle.dutch_order.proofs.FromOn.{is_late, from_on-filter, map-late, order-same, admitted-length, admitted-reaches}
 use Rattle.dutch_order.proofs.Hinted.{hinted-hits}
@@ -211,9 +211,9 @@ module _ (scores : List ℕ) (k : ℕ) (falls : IsNonAscending scores) where
             subst P (sym is) there
       ]
 
-  leads-from : (begun : List ℕ) (s a : ℕ) → half_start k begun ≡ s → s ≤ a → (s ≤ leader scores a s (a - s)) × (leader scores a s (a - s) ≤ a) × (sc (leader scores a s (a - s)) ≡ sc a) × (leads scores k begun (leader scores a s (a - s)) ≡ true)
+  leads-from : (beginning : List ℕ) (s a : ℕ) → half_start k beginning ≡ s → s ≤ a → (s ≤ leader scores a s (a - s)) × (leader scores a s (a - s) ≤ a) × (sc (leader scores a s (a - s)) ≡ sc a) × (leads scores k beginning (leader scores a s (a - s)) ≡ true)
   unfolding leads
-  leads-from begun s a start h =
+  leads-from beginning s a start h =
       let c : ℕ = leader scores a s (a - s) in
       let is = leader-is (a - s) s a (omega arith) in (
         is.0,
@@ -221,24 +221,24 @@ module _ (scores : List ℕ) (k : ℕ) (falls : IsNonAscending scores) where
         is.2,
         elim is.3 [
           | inl first ↦
-              or_left ((c == half_start k begun) || (c == 0)) (not (sc (c - 1) == sc c))
-              (or_left (c == half_start k begun) (c == 0) (eq-eqb c (half_start k begun) (first ∙ sym start)))
+              or_left ((c == half_start k beginning) || (c == 0)) (not (sc (c - 1) == sc c))
+              (or_left (c == half_start k beginning) (c == 0) (eq-eqb c (half_start k beginning) (first ∙ sym start)))
           | inr apart ↦
-              or_right ((c == half_start k begun) || (c == 0)) (not (sc (c - 1) == sc c))
+              or_right ((c == half_start k beginning) || (c == 0)) (not (sc (c - 1) == sc c))
               (not_from_false (sc (c - 1) == sc c) (ne_eqb (sc (c - 1)) (sc c) apart))
         ],
       )
 
   -- each set has a first set with the same scores
-  first_set : (begun places : List ℕ) (s low : ℕ) → length begun + length places ≡ k → (0 < length places → half_start k begun ≡ s) → s ≤ low → Climbs low (length scores) places → Climbs s (length scores) (leaders scores s places) × AllFit fits begun (leaders scores s places) × (map sc (leaders scores s places) ≡ map sc places) × (length (leaders scores s places) ≡ length places)
-  first_set begun [] s low whole start h climbs = (tt, tt, refl, refl)
-  first_set begun (a ∷ places) s low whole start h climbs =
+  first_set : (beginning places : List ℕ) (s low : ℕ) → length beginning + length places ≡ k → (0 < length places → half_start k beginning ≡ s) → s ≤ low → Climbs low (length scores) places → Climbs s (length scores) (leaders scores s places) × AllFit fits beginning (leaders scores s places) × (map sc (leaders scores s places) ≡ map sc places) × (length (leaders scores s places) ≡ length places)
+  first_set beginning [] s low whole start h climbs = (tt, tt, refl, refl)
+  first_set beginning (a ∷ places) s low whole start h climbs =
       let c : ℕ = leader scores a s (a - s) in
-      let is = leads-from begun s a (start (omega arith)) (omega (arith, climbs.0)) in
-      let rest = first_set (begun ++ c ∷ []) places (suc c) (suc a) (omega (arith, whole, length-append begun (c ∷ [])))
-      (λ more. start-on k begun c (λ e. omega arith)) (omega (arith, is.1)) climbs.2 in (
+      let is = leads-from beginning s a (start (omega arith)) (omega (arith, climbs.0)) in
+      let rest = first_set (beginning ++ c ∷ []) places (suc c) (suc a) (omega (arith, whole, length-append beginning (c ∷ [])))
+      (λ more. start-on k beginning c (λ e. omega arith)) (omega (arith, is.1)) climbs.2 in (
         (is.0, omega (arith, is.1, climbs.1), rest.0),
-        (fits-first begun c (omega arith) ∙ is.3, rest.1),
+        (fits-first beginning c (omega arith) ∙ is.3, rest.1),
         ap (λ x. x ∷ map sc (leaders scores (suc c) places)) is.2 ∙ ap (λ xs. sc a ∷ xs) rest.2,
         ap suc rest.3,
       )
@@ -248,12 +248,12 @@ module _ (scores : List ℕ) (k : ℕ) (falls : IsNonAscending scores) where
     weight place = turned (sc place)
 
     -- a place that leads later has a lower score
-    leads-lower : (begun : List ℕ) (s x y : ℕ) → half_start k begun ≡ s → s ≤ x → x < y → leads scores k begun y ≡ true → weight x < weight y
+    leads-lower : (beginning : List ℕ) (s x y : ℕ) → half_start k beginning ≡ s → s ≤ x → x < y → leads scores k beginning y ≡ true → weight x < weight y
     unfolding leads
-    leads-lower begun s x y start low below leading =
-        elim (or_cases ((y == half_start k begun) || (y == 0)) (not (sc (y - 1) == sc y)) leading) [
-          | inl early ↦ elim (or_cases (y == half_start k begun) (y == 0) early) [
-            | inl first ↦ absurd (omega (arith, eqb-true y (half_start k begun) first, start))
+    leads-lower beginning s x y start low below leading =
+        elim (or_cases ((y == half_start k beginning) || (y == 0)) (not (sc (y - 1) == sc y)) leading) [
+          | inl early ↦ elim (or_cases (y == half_start k beginning) (y == 0) early) [
+            | inl first ↦ absurd (omega (arith, eqb-true y (half_start k beginning) first, start))
             | inr none ↦ absurd (omega (arith, eqb-true y 0 none))
           ]
           | inr apart ↦
@@ -263,20 +263,20 @@ module _ (scores : List ℕ) (k : ℕ) (falls : IsNonAscending scores) where
               omega (arith, differ, up, over, small x, small y)
         ]
 
-    leads-order : (begun xs ys : List ℕ) (s : ℕ) → (0 < length xs → half_start k begun ≡ s) → length begun + length xs ≡ k → length xs ≡ length ys → Climbs s (length scores) xs → AllFit fits begun xs → AllFit fits begun ys → is_before xs ys ≡ true → is_before (map weight xs) (map weight ys) ≡ true
-    leads-order begun [] [] s start whole same climbs p q h = h
-    leads-order begun [] (y ∷ ys) s start whole same climbs p q h = refl
-    leads-order begun (x ∷ xs) [] s start whole same climbs p q h = h
-    leads-order begun (x ∷ xs) (y ∷ ys) s start whole same climbs p q h =
+    leads-order : (beginning xs ys : List ℕ) (s : ℕ) → (0 < length xs → half_start k beginning ≡ s) → length beginning + length xs ≡ k → length xs ≡ length ys → Climbs s (length scores) xs → AllFit fits beginning xs → AllFit fits beginning ys → is_before xs ys ≡ true → is_before (map weight xs) (map weight ys) ≡ true
+    leads-order beginning [] [] s start whole same climbs p q h = h
+    leads-order beginning [] (y ∷ ys) s start whole same climbs p q h = refl
+    leads-order beginning (x ∷ xs) [] s start whole same climbs p q h = h
+    leads-order beginning (x ∷ xs) (y ∷ ys) s start whole same climbs p q h =
         elim (is_before-cases x y xs ys h) [
           | inl lower ↦
               is_before-lower (weight x) (weight y) (map weight xs) (map weight ys)
-              (leads-lower begun s x y (start (omega arith)) climbs.0 lower (sym (fits-first begun y (omega arith)) ∙ q.0))
+              (leads-lower beginning s x y (start (omega arith)) climbs.0 lower (sym (fits-first beginning y (omega arith)) ∙ q.0))
           | inr rest ↦
-              let later : AllFit fits (begun ++ x ∷ []) ys = subst (λ z. AllFit fits (begun ++ z ∷ []) ys) (sym rest.0) q.1 in
+              let later : AllFit fits (beginning ++ x ∷ []) ys = subst (λ z. AllFit fits (beginning ++ z ∷ []) ys) (sym rest.0) q.1 in
               subst (λ z. is_before (weight x ∷ map weight xs) (weight z ∷ map weight ys) ≡ true) rest.0
               (is_before-equal (weight x) (map weight xs) (map weight ys)
-              ∙ leads-order (begun ++ x ∷ []) xs ys (suc x) (λ more. start-on k begun x (λ e. omega arith)) (omega (arith, whole, length-append begun (x ∷ []))) (omega arith) climbs.2 p.1 later rest.1)
+              ∙ leads-order (beginning ++ x ∷ []) xs ys (suc x) (λ more. start-on k beginning x (λ e. omega arith)) (omega (arith, whole, length-append beginning (x ∷ []))) (omega arith) climbs.2 p.1 later rest.1)
         ]
 
     -- the front of the key of a set
@@ -314,7 +314,7 @@ module _ (scores : List ℕ) (k : ℕ) (falls : IsNonAscending scores) where
         (elim cases [
           | inl equal ↦
               subst (λ z. is_before (map weight C ++ numbers_of A) (map weight z ++ numbers_of B) ≡ true) equal.0
-              (is_before-begun (map weight C) (numbers_of A) (numbers_of B) ∙ is_before-map (λ place. place + 1) (λ x y below. omega arith) A B equal.1)
+              (is_before-beginning (map weight C) (numbers_of A) (numbers_of B) ∙ is_before-map (λ place. place + 1) (λ x y below. omega arith) A B equal.1)
           | inr first ↦
               is_before-join (map weight C) (map weight D) (numbers_of A) (numbers_of B) (length-map C weight ∙ same ∙ sym (length-map D weight))
               (leads-order [] C D 0 (λ more. refl) (zero-add (length C) ∙ halves_p.3.front_length) same halves_p.3.front_climbs halves_p.3.front_fits halves_q.3.front_fits first)

@@ -6,10 +6,10 @@ use Rattle.dutch_order.specs.Prelude.{numbers_from, Plan, Event, entry, below, a
 use Rattle.dutch_order.specs.Trials.{Tried, Hit}
 
 -- nothing follows the empty path
-pub after-nil : (plan : Plan) (open_places : ℕ) (begun : List ℕ) → after plan open_places begun [] ≡ []
+pub after-nil : (plan : Plan) (open_places : ℕ) (beginning : List ℕ) → after plan open_places beginning [] ≡ []
 unfolding after
-after-nil plan zero begun = refl
-after-nil plan (suc open_places) begun = refl
+after-nil plan zero beginning = refl
+after-nil plan (suc open_places) beginning = refl
 
 numbers_from-step : (number stop : ℕ) → number < stop → numbers_from number (stop - number) ≡ number ∷ numbers_from (suc number) (stop - suc number)
 numbers_from-step number stop h =
@@ -35,28 +35,28 @@ below-none plan open_places path number h = ap (flat_map (brings plan open_place
 all_open : (open_places : ℕ) → suc open_places - length {A = ℕ} [] ≡ suc open_places
 all_open open_places = omega arith
 
-pub after-push : (plan : Plan) (open_places : ℕ) (begun path : List ℕ) (number : ℕ) → length path < open_places → after plan open_places begun (path ++ number ∷ []) ≡ below plan (open_places - length path) (begun ++ path) (suc number) ++ after plan open_places begun path
+pub after-push : (plan : Plan) (open_places : ℕ) (beginning path : List ℕ) (number : ℕ) → length path < open_places → after plan open_places beginning (path ++ number ∷ []) ≡ below plan (open_places - length path) (beginning ++ path) (suc number) ++ after plan open_places beginning path
 unfolding after
-after-push plan zero begun path number h = absurd (omega arith)
-after-push plan (suc open_places) begun [] number h =
-    ap (λ events. events ++ below plan (suc open_places) begun (suc number)) (after-nil plan open_places (begun ++ number ∷ []))
+after-push plan zero beginning path number h = absurd (omega arith)
+after-push plan (suc open_places) beginning [] number h =
+    ap (λ events. events ++ below plan (suc open_places) beginning (suc number)) (after-nil plan open_places (beginning ++ number ∷ []))
     ∙ sym
-    (append-nil (below plan (suc open_places - length {A = ℕ} []) (begun ++ []) (suc number))
-    ∙ ap (λ path. below plan (suc open_places - length {A = ℕ} []) path (suc number)) (append-nil begun)
-    ∙ ap (λ left. below plan left begun (suc number)) (all_open open_places))
-after-push plan (suc open_places) begun (first ∷ path) number h =
+    (append-nil (below plan (suc open_places - length {A = ℕ} []) (beginning ++ []) (suc number))
+    ∙ ap (λ path. below plan (suc open_places - length {A = ℕ} []) path (suc number)) (append-nil beginning)
+    ∙ ap (λ left. below plan left beginning (suc number)) (all_open open_places))
+after-push plan (suc open_places) beginning (first ∷ path) number h =
     let shorter : length path < open_places = omega arith in
     let same : suc open_places - length (first ∷ path) ≡ open_places - length path = omega arith in
-    ap (λ events. events ++ below plan (suc open_places) begun (suc first)) (after-push plan open_places (begun ++ first ∷ []) path number shorter)
+    ap (λ events. events ++ below plan (suc open_places) beginning (suc first)) (after-push plan open_places (beginning ++ first ∷ []) path number shorter)
     ∙ append_assoc
-    (below plan (open_places - length path) ((begun ++ first ∷ []) ++ path) (suc number))
-    (after plan open_places (begun ++ first ∷ []) path)
-    (below plan (suc open_places) begun (suc first))
+    (below plan (open_places - length path) ((beginning ++ first ∷ []) ++ path) (suc number))
+    (after plan open_places (beginning ++ first ∷ []) path)
+    (below plan (suc open_places) beginning (suc first))
     ∙ ap
-    (λ path'. below plan (open_places - length path) path' (suc number) ++ after plan (suc open_places) begun (first ∷ path))
-    (append_assoc begun (first ∷ []) path)
+    (λ path'. below plan (open_places - length path) path' (suc number) ++ after plan (suc open_places) beginning (first ∷ path))
+    (append_assoc beginning (first ∷ []) path)
     ∙ ap
-    (λ left. below plan left (begun ++ first ∷ path) (suc number) ++ after plan (suc open_places) begun (first ∷ path))
+    (λ left. below plan left (beginning ++ first ∷ path) (suc number) ++ after plan (suc open_places) beginning (first ∷ path))
     (sym same)
 
 module _ (plan : Plan) (path : List ℕ) (opened : length path < plan.places) where
@@ -170,19 +170,19 @@ pub ahead-whole : (plan : Plan) (path : List ℕ) (number : ℕ) → length path
 ahead-whole plan path number whole fresh = ap (ahead plan path) fresh ∙ ahead-found plan path whole
 
 -- a path that goes on, and one that loses its last number
-pub Walked-push : (plan : Plan) (begun path : List ℕ) (number : ℕ) → Walked plan begun path → number < plan.stop (begun ++ path) → Walked plan begun (path ++ number ∷ [])
-Walked-push plan begun [] number walked low = (subst (λ path. number < plan.stop path) (append-nil begun) low, tt)
-Walked-push plan begun (first ∷ path) number walked low = (
+pub Walked-push : (plan : Plan) (beginning path : List ℕ) (number : ℕ) → Walked plan beginning path → number < plan.stop (beginning ++ path) → Walked plan beginning (path ++ number ∷ [])
+Walked-push plan beginning [] number walked low = (subst (λ path. number < plan.stop path) (append-nil beginning) low, tt)
+Walked-push plan beginning (first ∷ path) number walked low = (
   walked.0,
-  Walked-push plan (begun ++ first ∷ []) path number walked.1
-      (subst (λ path'. number < plan.stop path') (sym (append_assoc begun (first ∷ []) path)) low),
+  Walked-push plan (beginning ++ first ∷ []) path number walked.1
+      (subst (λ path'. number < plan.stop path') (sym (append_assoc beginning (first ∷ []) path)) low),
 )
 
-pub Walked-pop : (plan : Plan) (begun path : List ℕ) (number : ℕ) → Walked plan begun (path ++ number ∷ []) → Walked plan begun path × (number < plan.stop (begun ++ path))
-Walked-pop plan begun [] number walked = (tt, subst (λ path. number < plan.stop path) (sym (append-nil begun)) walked.0)
-Walked-pop plan begun (first ∷ path) number walked =
-    let rest = Walked-pop plan (begun ++ first ∷ []) path number walked.1 in
-    ((walked.0, rest.0), subst (λ path'. number < plan.stop path') (append_assoc begun (first ∷ []) path) rest.1)
+pub Walked-pop : (plan : Plan) (beginning path : List ℕ) (number : ℕ) → Walked plan beginning (path ++ number ∷ []) → Walked plan beginning path × (number < plan.stop (beginning ++ path))
+Walked-pop plan beginning [] number walked = (tt, subst (λ path. number < plan.stop path) (sym (append-nil beginning)) walked.0)
+Walked-pop plan beginning (first ∷ path) number walked =
+    let rest = Walked-pop plan (beginning ++ first ∷ []) path number walked.1 in
+    ((walked.0, rest.0), subst (λ path'. number < plan.stop path') (append_assoc beginning (first ∷ []) path) rest.1)
 
 -- the same, at the paths that the code has
 pub Walked-longer : (plan : Plan) (path longer : List ℕ) (number : ℕ) → longer ≡ path ++ number ∷ [] → Walked plan [] path → number < plan.stop path → Walked plan [] longer
@@ -193,10 +193,10 @@ pub Walked-shorter : (plan : Plan) (path shorter : List ℕ) (number : ℕ) → 
 Walked-shorter plan path shorter number is_longer walked = Walked-pop plan [] shorter number (subst (Walked plan []) is_longer walked)
 
 -- the numbers of a path are below what bounds each place
-pub Walked-below : (plan : Plan) (bound : ℕ) → ((path : List ℕ) → plan.stop path ≤ bound) → (begun path : List ℕ) → Walked plan begun path → AllByRecursion (λ number. number < bound) path
-Walked-below plan bound stops begun [] walked = tt
-Walked-below plan bound stops begun (number ∷ path) walked =
-    (omega (arith, stops begun), Walked-below plan bound stops (begun ++ number ∷ []) path walked.1)
+pub Walked-below : (plan : Plan) (bound : ℕ) → ((path : List ℕ) → plan.stop path ≤ bound) → (beginning path : List ℕ) → Walked plan beginning path → AllByRecursion (λ number. number < bound) path
+Walked-below plan bound stops beginning [] walked = tt
+Walked-below plan bound stops beginning (number ∷ path) walked =
+    (omega (arith, stops beginning), Walked-below plan bound stops (beginning ++ number ∷ []) path walked.1)
 
 -- a part of a path
 pub AllByRecursion-drop : (P : ℕ → Type 0) (n : ℕ) (xs : List ℕ) → AllByRecursion P xs → AllByRecursion P (drop n xs)

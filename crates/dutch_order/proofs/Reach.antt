@@ -90,79 +90,79 @@ module _ (pool : List ℕ) (k : ℕ) (rises : IsStrictlyIncreasing pool) (enough
         (ap (λ n. nat_le n difference) is_least ∙ le-leb least difference low) (ap (λ n. nat_le difference n) is_greatest ∙ le-leb difference greatest high)
 
     -- the places moved out fit, where the difference is that of the whole
-    pub outs-fit : (begun outs ins : List ℕ) (low : ℕ) → length begun + length outs ≡ size → length ins ≡ size → Climbs low k outs → Climbs 0 (length pool - k) ins → difference ≡ total inn ins - total out (begun ++ outs) → AllFit fits begun outs
+    pub outs-fit : (beginning outs ins : List ℕ) (low : ℕ) → length beginning + length outs ≡ size → length ins ≡ size → Climbs low k outs → Climbs 0 (length pool - k) ins → difference ≡ total inn ins - total out (beginning ++ outs) → AllFit fits beginning outs
     unfolding least_at greatest_at
-    outs-fit begun [] ins low whole same p q is = tt
-    outs-fit begun (c ∷ outs) ins low whole same p q is =
-        let short : nat_lt (length begun) size ≡ true = lt-ltb (length begun) size (omega arith) in
-        let rest : size - 1 - length begun ≡ length outs = omega arith in
-        let sum : total out (begun ++ c ∷ outs) ≡ total out begun + (out c + total out outs) = total-append out begun (c ∷ outs) in
+    outs-fit beginning [] ins low whole same p q is = tt
+    outs-fit beginning (c ∷ outs) ins low whole same p q is =
+        let short : nat_lt (length beginning) size ≡ true = lt-ltb (length beginning) size (omega arith) in
+        let rest : size - 1 - length beginning ≡ length outs = omega arith in
+        let sum : total out (beginning ++ c ∷ outs) ≡ total out beginning + (out c + total out outs) = total-append out beginning (c ∷ outs) in
         let least_in : run pool k In 0 size ≤ total inn ins = subst (λ n. run pool k In 0 n ≤ total inn ins) same (inn_least 0 ins q) in
         let most_in : total inn ins ≤ run pool k In (length pool - k - size) size = subst (λ n. total inn ins ≤ run pool k In (length pool - k - n) n) same (inn_most 0 ins q) in
-        let most_out : total out outs ≤ run pool k Out (c + 1) (size - 1 - length begun) =
+        let most_out : total out outs ≤ run pool k Out (c + 1) (size - 1 - length beginning) =
         subst (λ n. total out outs ≤ run pool k Out (c + 1) n) (sym rest) (out_most (c + 1) outs (subst (λ l. Climbs l k outs) (let e : suc c ≡ c + 1 = omega arith in e) p.2)) in
-        let least_out : run pool k Out (k - (size - 1 - length begun)) (size - 1 - length begun) ≤ total out outs =
+        let least_out : run pool k Out (k - (size - 1 - length beginning)) (size - 1 - length beginning) ≤ total out outs =
         subst (λ n. run pool k Out (k - n) n ≤ total out outs) (sym rest) (out_least (suc c) outs p.2) in (
-          reached (run pool k In 0 size - (total out begun + out c + run pool k Out (c + 1) (size - 1 - length begun)))
-              (run pool k In (length pool - k - size) size - (total out begun + out c + run pool k Out (k - (size - 1 - length begun)) (size - 1 - length begun)))
-              begun c
-              (ap (λ b. if b then (run pool k In 0 size - (total out begun + out c + run pool k Out (c + 1) (size - 1 - length begun))) else ((total inn (drop size begun) + inn c + run pool k In (c + 1) (size + size - 1 - length begun)) - total out (take size begun))) short)
-              (ap (λ b. if b then (run pool k In (length pool - k - size) size - (total out begun + out c + run pool k Out (k - (size - 1 - length begun)) (size - 1 - length begun))) else ((total inn (drop size begun) + inn c + run pool k In (length pool - k - (size + size - 1 - length begun)) (size + size - 1 - length begun)) - total out (take size begun))) short)
+          reached (run pool k In 0 size - (total out beginning + out c + run pool k Out (c + 1) (size - 1 - length beginning)))
+              (run pool k In (length pool - k - size) size - (total out beginning + out c + run pool k Out (k - (size - 1 - length beginning)) (size - 1 - length beginning)))
+              beginning c
+              (ap (λ b. if b then (run pool k In 0 size - (total out beginning + out c + run pool k Out (c + 1) (size - 1 - length beginning))) else ((total inn (drop size beginning) + inn c + run pool k In (c + 1) (size + size - 1 - length beginning)) - total out (take size beginning))) short)
+              (ap (λ b. if b then (run pool k In (length pool - k - size) size - (total out beginning + out c + run pool k Out (k - (size - 1 - length beginning)) (size - 1 - length beginning))) else ((total inn (drop size beginning) + inn c + run pool k In (length pool - k - (size + size - 1 - length beginning)) (size + size - 1 - length beginning)) - total out (take size beginning))) short)
               (omega arith) (omega arith),
-          outs-fit (begun ++ c ∷ []) outs ins (suc c) (omega (arith, length-append begun (c ∷ []))) same p.2 q
-              (is ∙ ap (λ xs. total inn ins - total out xs) (sym (append_assoc begun (c ∷ []) outs))),
+          outs-fit (beginning ++ c ∷ []) outs ins (suc c) (omega (arith, length-append beginning (c ∷ []))) same p.2 q
+              (is ∙ ap (λ xs. total inn ins - total out xs) (sym (append_assoc beginning (c ∷ []) outs))),
         )
 
     module _ (outs : List ℕ) (out_size : length outs ≡ size) where
-      least-second : (begun : List ℕ) (a : ℕ) → least_at pool k size (outs ++ begun) a ≡ (total inn begun + inn a + run pool k In (a + 1) (size + size - 1 - length (outs ++ begun))) - total out outs
+      least-second : (beginning : List ℕ) (a : ℕ) → least_at pool k size (outs ++ beginning) a ≡ (total inn beginning + inn a + run pool k In (a + 1) (size + size - 1 - length (outs ++ beginning))) - total out outs
       unfolding least_at
-      least-second begun a =
-          ap (λ b. if b then (run pool k In 0 size - (total out (outs ++ begun) + out a + run pool k Out (a + 1) (size - 1 - length (outs ++ begun)))) else ((total inn (drop size (outs ++ begun)) + inn a + run pool k In (a + 1) (size + size - 1 - length (outs ++ begun))) - total out (take size (outs ++ begun)))) (le-ltb (length (outs ++ begun)) size (omega (arith, length-append outs begun)))
-          ∙ ap (λ xs. (total inn xs + inn a + run pool k In (a + 1) (size + size - 1 - length (outs ++ begun))) - total out (take size (outs ++ begun))) (drop_front outs begun size out_size)
-          ∙ ap (λ xs. (total inn begun + inn a + run pool k In (a + 1) (size + size - 1 - length (outs ++ begun))) - total out xs) (take_front_of outs begun size out_size)
+      least-second beginning a =
+          ap (λ b. if b then (run pool k In 0 size - (total out (outs ++ beginning) + out a + run pool k Out (a + 1) (size - 1 - length (outs ++ beginning)))) else ((total inn (drop size (outs ++ beginning)) + inn a + run pool k In (a + 1) (size + size - 1 - length (outs ++ beginning))) - total out (take size (outs ++ beginning)))) (le-ltb (length (outs ++ beginning)) size (omega (arith, length-append outs beginning)))
+          ∙ ap (λ xs. (total inn xs + inn a + run pool k In (a + 1) (size + size - 1 - length (outs ++ beginning))) - total out (take size (outs ++ beginning))) (drop_front outs beginning size out_size)
+          ∙ ap (λ xs. (total inn beginning + inn a + run pool k In (a + 1) (size + size - 1 - length (outs ++ beginning))) - total out xs) (take_front_of outs beginning size out_size)
 
-      greatest-second : (begun : List ℕ) (a : ℕ) → greatest_at pool k size (outs ++ begun) a ≡ (total inn begun + inn a + run pool k In (length pool - k - (size + size - 1 - length (outs ++ begun))) (size + size - 1 - length (outs ++ begun))) - total out outs
+      greatest-second : (beginning : List ℕ) (a : ℕ) → greatest_at pool k size (outs ++ beginning) a ≡ (total inn beginning + inn a + run pool k In (length pool - k - (size + size - 1 - length (outs ++ beginning))) (size + size - 1 - length (outs ++ beginning))) - total out outs
       unfolding greatest_at
-      greatest-second begun a =
-          ap (λ b. if b then (run pool k In (length pool - k - size) size - (total out (outs ++ begun) + out a + run pool k Out (k - (size - 1 - length (outs ++ begun))) (size - 1 - length (outs ++ begun)))) else ((total inn (drop size (outs ++ begun)) + inn a + run pool k In (length pool - k - (size + size - 1 - length (outs ++ begun))) (size + size - 1 - length (outs ++ begun))) - total out (take size (outs ++ begun)))) (le-ltb (length (outs ++ begun)) size (omega (arith, length-append outs begun)))
-          ∙ ap (λ xs. (total inn xs + inn a + run pool k In (length pool - k - (size + size - 1 - length (outs ++ begun))) (size + size - 1 - length (outs ++ begun))) - total out (take size (outs ++ begun))) (drop_front outs begun size out_size)
-          ∙ ap (λ xs. (total inn begun + inn a + run pool k In (length pool - k - (size + size - 1 - length (outs ++ begun))) (size + size - 1 - length (outs ++ begun))) - total out xs) (take_front_of outs begun size out_size)
+      greatest-second beginning a =
+          ap (λ b. if b then (run pool k In (length pool - k - size) size - (total out (outs ++ beginning) + out a + run pool k Out (k - (size - 1 - length (outs ++ beginning))) (size - 1 - length (outs ++ beginning)))) else ((total inn (drop size (outs ++ beginning)) + inn a + run pool k In (length pool - k - (size + size - 1 - length (outs ++ beginning))) (size + size - 1 - length (outs ++ beginning))) - total out (take size (outs ++ beginning)))) (le-ltb (length (outs ++ beginning)) size (omega (arith, length-append outs beginning)))
+          ∙ ap (λ xs. (total inn xs + inn a + run pool k In (length pool - k - (size + size - 1 - length (outs ++ beginning))) (size + size - 1 - length (outs ++ beginning))) - total out (take size (outs ++ beginning))) (drop_front outs beginning size out_size)
+          ∙ ap (λ xs. (total inn beginning + inn a + run pool k In (length pool - k - (size + size - 1 - length (outs ++ beginning))) (size + size - 1 - length (outs ++ beginning))) - total out xs) (take_front_of outs beginning size out_size)
 
       -- and so do the places moved in
-      pub ins-fit : (begun ins : List ℕ) (low : ℕ) → length begun + length ins ≡ size → Climbs low (length pool - k) ins → difference ≡ total inn (begun ++ ins) - total out outs → AllFit fits (outs ++ begun) ins
-      ins-fit begun [] low whole p is = tt
-      ins-fit begun (a ∷ ins) low whole p is =
-          let n : ℕ = size + size - 1 - length (outs ++ begun) in
-          let rest : n ≡ length ins = omega (arith, length-append outs begun) in
-          let sum : total inn (begun ++ a ∷ ins) ≡ total inn begun + (inn a + total inn ins) = total-append inn begun (a ∷ ins) in
+      pub ins-fit : (beginning ins : List ℕ) (low : ℕ) → length beginning + length ins ≡ size → Climbs low (length pool - k) ins → difference ≡ total inn (beginning ++ ins) - total out outs → AllFit fits (outs ++ beginning) ins
+      ins-fit beginning [] low whole p is = tt
+      ins-fit beginning (a ∷ ins) low whole p is =
+          let n : ℕ = size + size - 1 - length (outs ++ beginning) in
+          let rest : n ≡ length ins = omega (arith, length-append outs beginning) in
+          let sum : total inn (beginning ++ a ∷ ins) ≡ total inn beginning + (inn a + total inn ins) = total-append inn beginning (a ∷ ins) in
           let least : run pool k In (a + 1) n ≤ total inn ins =
           subst (λ n. run pool k In (a + 1) n ≤ total inn ins) (sym rest) (inn_least (a + 1) ins (subst (λ l. Climbs l (length pool - k) ins) (let e : suc a ≡ a + 1 = omega arith in e) p.2)) in
           let most : total inn ins ≤ run pool k In (length pool - k - n) n =
           subst (λ n. total inn ins ≤ run pool k In (length pool - k - n) n) (sym rest) (inn_most (suc a) ins p.2) in (
-            reached ((total inn begun + inn a + run pool k In (a + 1) n) - total out outs) ((total inn begun + inn a + run pool k In (length pool - k - n) n) - total out outs)
-                (outs ++ begun) a (least-second begun a) (greatest-second begun a) (omega arith) (omega arith),
-            subst (λ path. AllFit fits path ins) (sym (append_assoc outs begun (a ∷ [])))
-                (ins-fit (begun ++ a ∷ []) ins (suc a) (omega (arith, length-append begun (a ∷ []))) p.2
-                (is ∙ ap (λ xs. total inn xs - total out outs) (sym (append_assoc begun (a ∷ []) ins)))),
+            reached ((total inn beginning + inn a + run pool k In (a + 1) n) - total out outs) ((total inn beginning + inn a + run pool k In (length pool - k - n) n) - total out outs)
+                (outs ++ beginning) a (least-second beginning a) (greatest-second beginning a) (omega arith) (omega arith),
+            subst (λ path. AllFit fits path ins) (sym (append_assoc outs beginning (a ∷ [])))
+                (ins-fit (beginning ++ a ∷ []) ins (suc a) (omega (arith, length-append beginning (a ∷ []))) p.2
+                (is ∙ ap (λ xs. total inn xs - total out outs) (sym (append_assoc beginning (a ∷ []) ins)))),
           )
 
       -- where all places fit, the difference is the wanted one
-      pub ins-exact : (begun ins : List ℕ) → length begun + length ins ≡ size → 0 < length ins → AllFit fits (outs ++ begun) ins → total inn (begun ++ ins) - total out outs ≡ difference
+      pub ins-exact : (beginning ins : List ℕ) → length beginning + length ins ≡ size → 0 < length ins → AllFit fits (outs ++ beginning) ins → total inn (beginning ++ ins) - total out outs ≡ difference
       unfolding within_reach
-      ins-exact begun [] whole more fit = absurd (omega arith)
-      ins-exact begun (a ∷ []) whole more fit =
-          let n : ℕ = size + size - 1 - length (outs ++ begun) in
-          let rest : n ≡ 0 = omega (arith, length-append outs begun) in
-          let tests = and_parts (nat_le (least_at pool k size (outs ++ begun) a) difference) (nat_le difference (greatest_at pool k size (outs ++ begun) a)) fit.0 in
-          let low : least_at pool k size (outs ++ begun) a ≤ difference = leb-true (least_at pool k size (outs ++ begun) a) difference tests.0 in
-          let high : difference ≤ greatest_at pool k size (outs ++ begun) a = leb-true difference (greatest_at pool k size (outs ++ begun) a) tests.1 in
+      ins-exact beginning [] whole more fit = absurd (omega arith)
+      ins-exact beginning (a ∷ []) whole more fit =
+          let n : ℕ = size + size - 1 - length (outs ++ beginning) in
+          let rest : n ≡ 0 = omega (arith, length-append outs beginning) in
+          let tests = and_parts (nat_le (least_at pool k size (outs ++ beginning) a) difference) (nat_le difference (greatest_at pool k size (outs ++ beginning) a)) fit.0 in
+          let low : least_at pool k size (outs ++ beginning) a ≤ difference = leb-true (least_at pool k size (outs ++ beginning) a) difference tests.0 in
+          let high : difference ≤ greatest_at pool k size (outs ++ beginning) a = leb-true difference (greatest_at pool k size (outs ++ beginning) a) tests.1 in
           let no_least : run pool k In (a + 1) n ≡ 0 = ap (run pool k In (a + 1)) rest in
           let no_most : run pool k In (length pool - k - n) n ≡ 0 = ap (run pool k In (length pool - k - n)) rest in
-          let sum : total inn (begun ++ a ∷ []) ≡ total inn begun + (inn a + 0) = total-append inn begun (a ∷ []) in
-          let l = least-second begun a in
-          let h = greatest-second begun a in
+          let sum : total inn (beginning ++ a ∷ []) ≡ total inn beginning + (inn a + 0) = total-append inn beginning (a ∷ []) in
+          let l = least-second beginning a in
+          let h = greatest-second beginning a in
           omega arith
-      ins-exact begun (a ∷ b ∷ ins) whole more fit =
-          ap (λ xs. total inn xs - total out outs) (sym (append_assoc begun (a ∷ []) (b ∷ ins)))
-          ∙ ins-exact (begun ++ a ∷ []) (b ∷ ins) (omega (arith, length-append begun (a ∷ []))) (omega arith)
-          (subst (λ path. AllFit fits path (b ∷ ins)) (append_assoc outs begun (a ∷ [])) fit.1)
+      ins-exact beginning (a ∷ b ∷ ins) whole more fit =
+          ap (λ xs. total inn xs - total out outs) (sym (append_assoc beginning (a ∷ []) (b ∷ ins)))
+          ∙ ins-exact (beginning ++ a ∷ []) (b ∷ ins) (omega (arith, length-append beginning (a ∷ []))) (omega arith)
+          (subst (λ path. AllFit fits path (b ∷ ins)) (append_assoc outs beginning (a ∷ [])) fit.1)

@@ -11,7 +11,7 @@ use Rattle.std.specs.List.{flat_map}
 use Rattle.dutch_order.proofs.HalfWalks.{Climbs, AllFit, Admitted, halves-split, halves-join, Climbs-room}
 use Rattle.dutch_order.proofs.Orders.{is_before-lower, is_before-equal, is_before-cases, is_before-irreflexive, IsIn-map, map-IsIn, IsIn-append, IsIn-front, IsIn-back, Ascends-append, Ascends-unique, member_has}
 use Rattle.dutch_order.proofs.Found.{found, ahead-new}
-use Rattle.dutch_order.proofs.FoundPaths.{in-numbers, found-admitted, admitted-found, found-ascends, is_before-begun}
+use Rattle.dutch_order.proofs.FoundPaths.{in-numbers, found-admitted, admitted-found, found-ascends, is_before-beginning}
 use Rattle.dutch_order.proofs.LimboSets.{is_before-split, is_before-join, drop_front}
 use Rattle.dutch_order.proofs.Sets.{subsets-climb, subsets-map, subsets-ascend, ascending-sorted, Ascends-map}
 use Rattle.dutch_order.proofs.ExchangeSets.{v, v-raises, pool-is, set-is, set-in_pool, exchange_key-is, exchange-of}
@@ -180,7 +180,7 @@ module _ (pool : List ℕ) (k : ℕ) (rises : IsStrictlyIncreasing pool) (enough
       elim cases [
         | inl equal ↦
             subst (λ z. is_before (map weight C ++ map inn A) (map weight z ++ map inn B) ≡ true) equal.0
-            (is_before-begun (map weight C) (map inn A) (map inn B) ∙ is_before-map_below inn (length pool - k) 0 (inn-raises pool k rises enough) A B two.3.ins_climb equal.1)
+            (is_before-beginning (map weight C) (map inn A) (map inn B) ∙ is_before-map_below inn (length pool - k) 0 (inn-raises pool k rises enough) A B two.3.ins_climb equal.1)
         | inr first ↦
             is_before-join (map weight C) (map weight D) (map inn A) (map inn B) (length-map C weight ∙ same ∙ sym (length-map D weight))
             (is_before-map_below weight k 0 (λ x y below within. omega (arith, out-falls pool k rises enough x y below within, under_sum pool (k - 1 - x), under_sum pool (k - 1 - y))) C D two.3.outs_climb first)
@@ -242,28 +242,28 @@ module _ (pool : List ℕ) (k : ℕ) (rises : IsStrictlyIncreasing pool) (enough
     now = exchange_plan pool k size first
 
     -- a path of a later stage is one of this stage too, or something lies beyond it here that is no more than the later difference
-    noted : (open_places : ℕ) (begun path : List ℕ) → Admitted (exchange_plan pool k size difference) open_places begun path → Admitted now open_places begun path ⊎ AtMost difference (lowest (below now open_places begun (entry now open_places begun)))
+    noted : (open_places : ℕ) (beginning path : List ℕ) → Admitted (exchange_plan pool k size difference) open_places beginning path → Admitted now open_places beginning path ⊎ AtMost difference (lowest (below now open_places beginning (entry now open_places beginning)))
     unfolding below within_reach beyond_reach
-    noted zero begun path admitted = inl admitted
-    noted (suc open_places) begun [] admitted = absurd admitted
-    noted (suc open_places) begun (i ∷ path) admitted =
-        let tests = and_parts (nat_le (least_at pool k size begun i) difference) (nat_le difference (greatest_at pool k size begun i)) admitted.2 in
-        let low : least_at pool k size begun i ≤ difference = leb-true (least_at pool k size begun i) difference tests.0 in
-        let high : difference ≤ greatest_at pool k size begun i = leb-true difference (greatest_at pool k size begun i) tests.1 in
-        let among : IsIn i (numbers_from (now.start begun) (now.stop begun - now.start begun)) = in-numbers i (now.start begun) (now.stop begun - now.start begun) admitted.0 (omega (arith, admitted.0, admitted.1)) in
-        elim (cases_Bool (now.fits begun i)) [
-          | inl fit ↦ elim (noted open_places (begun ++ i ∷ []) path admitted.3) [
+    noted zero beginning path admitted = inl admitted
+    noted (suc open_places) beginning [] admitted = absurd admitted
+    noted (suc open_places) beginning (i ∷ path) admitted =
+        let tests = and_parts (nat_le (least_at pool k size beginning i) difference) (nat_le difference (greatest_at pool k size beginning i)) admitted.2 in
+        let low : least_at pool k size beginning i ≤ difference = leb-true (least_at pool k size beginning i) difference tests.0 in
+        let high : difference ≤ greatest_at pool k size beginning i = leb-true difference (greatest_at pool k size beginning i) tests.1 in
+        let among : IsIn i (numbers_from (now.start beginning) (now.stop beginning - now.start beginning)) = in-numbers i (now.start beginning) (now.stop beginning - now.start beginning) admitted.0 (omega (arith, admitted.0, admitted.1)) in
+        elim (cases_Bool (now.fits beginning i)) [
+          | inl fit ↦ elim (noted open_places (beginning ++ i ∷ []) path admitted.3) [
             | inl here ↦ inl (admitted.0, admitted.1, fit, here)
             | inr deeper ↦
-                inr (lowest-flat_map difference (brought size first open_places begun) i (numbers_from (now.start begun) (now.stop begun - now.start begun)) among
-                (lower-right difference (now.beyond begun i) (lowest (cond (now.fits begun i) (below now open_places (begun ++ i ∷ []) (entry now open_places (begun ++ i ∷ []))) []))
-                (subst (λ b. AtMost difference (lowest (cond b (below now open_places (begun ++ i ∷ []) (entry now open_places (begun ++ i ∷ []))) []))) (sym fit) deeper)))
+                inr (lowest-flat_map difference (brought size first open_places beginning) i (numbers_from (now.start beginning) (now.stop beginning - now.start beginning)) among
+                (lower-right difference (now.beyond beginning i) (lowest (cond (now.fits beginning i) (below now open_places (beginning ++ i ∷ []) (entry now open_places (beginning ++ i ∷ []))) []))
+                (subst (λ b. AtMost difference (lowest (cond b (below now open_places (beginning ++ i ∷ []) (entry now open_places (beginning ++ i ∷ []))) []))) (sym fit) deeper)))
           ]
           | inr barred ↦
-              let over : first < least_at pool k size begun i = barred_over (least_at pool k size begun i) (greatest_at pool k size begun i) first barred (omega arith) in
-              let told : now.beyond begun i ≡ Some (least_at pool k size begun i) = ap (λ b. if b then Some (least_at pool k size begun i) else None) (lt-ltb first (least_at pool k size begun i) over) in
-              inr (lowest-flat_map difference (brought size first open_places begun) i (numbers_from (now.start begun) (now.stop begun - now.start begun)) among
-              (lower-left difference (now.beyond begun i) (lowest (cond (now.fits begun i) (below now open_places (begun ++ i ∷ []) (entry now open_places (begun ++ i ∷ []))) [])) (at_most difference (least_at pool k size begun i) (now.beyond begun i) told low)))
+              let over : first < least_at pool k size beginning i = barred_over (least_at pool k size beginning i) (greatest_at pool k size beginning i) first barred (omega arith) in
+              let told : now.beyond beginning i ≡ Some (least_at pool k size beginning i) = ap (λ b. if b then Some (least_at pool k size beginning i) else None) (lt-ltb first (least_at pool k size beginning i) over) in
+              inr (lowest-flat_map difference (brought size first open_places beginning) i (numbers_from (now.start beginning) (now.stop beginning - now.start beginning)) among
+              (lower-left difference (now.beyond beginning i) (lowest (cond (now.fits beginning i) (below now open_places (beginning ++ i ∷ []) (entry now open_places (beginning ++ i ∷ []))) [])) (at_most difference (least_at pool k size beginning i) (now.beyond beginning i) told low)))
         ]
 
   -- whatever lies beyond the trials of a stage is more than its difference

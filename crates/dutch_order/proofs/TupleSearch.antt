@@ -246,14 +246,14 @@ module _ (meets : ℕ → ℕ → Bool) (first pool : List ℕ) (rises : IsStric
       ∙ ap (λ b. ltb (slice_index pool i) (slice_index pool j) || (b && is_before p q)) (reads_apart i j p-in.0 q-in.0)
       ∙ ap (λ b. ltb (slice_index pool i) (slice_index pool j) || (eqb (slice_index pool i) (slice_index pool j) && b)) (before-numbers p q p-in.1 q-in.1)
 
-  admitted-within : (open_places : ℕ) (begun path : List ℕ) → Admitted plan open_places begun path → AllByRecursion (λ place. place < length pool) path
-  admitted-within zero begun path admitted = subst (AllByRecursion (λ place. place < length pool)) (sym admitted) tt
-  admitted-within (suc open_places) begun [] admitted = absurd admitted
-  admitted-within (suc open_places) begun (i ∷ path) admitted = (admitted.1, admitted-within open_places (begun ++ i ∷ []) path admitted.3)
+  admitted-within : (open_places : ℕ) (beginning path : List ℕ) → Admitted plan open_places beginning path → AllByRecursion (λ place. place < length pool) path
+  admitted-within zero beginning path admitted = subst (AllByRecursion (λ place. place < length pool)) (sym admitted) tt
+  admitted-within (suc open_places) beginning [] admitted = absurd admitted
+  admitted-within (suc open_places) beginning (i ∷ path) admitted = (admitted.1, admitted-within open_places (beginning ++ i ∷ []) path admitted.3)
 
-  reaches-all : (begun path : List ℕ) → Reaches plan begun path
-  reaches-all begun [] = tt
-  reaches-all begun (i ∷ path) = (omega arith, reaches-all (begun ++ i ∷ []) path)
+  reaches-all : (beginning path : List ℕ) → Reaches plan beginning path
+  reaches-all beginning [] = tt
+  reaches-all beginning (i ∷ path) = (omega arith, reaches-all (beginning ++ i ∷ []) path)
 
   and_turned : (a b : Bool) → (a && b) ≡ (b && a)
   and_turned true true = refl

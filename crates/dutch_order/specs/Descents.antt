@@ -5,8 +5,8 @@ use Rattle.dutch_order.specs.declared.search.Descent.{Descent}
 
 -- each number of a path, after what has begun, is below the end of the numbers that its place tries
 abbrev pub Walked : Plan → List ℕ → List ℕ → Type 0
-Walked plan begun [] = Unit {0}
-Walked plan begun (number ∷ path) = (number < plan.stop begun) × Walked plan (begun ++ number ∷ []) path
+Walked plan beginning [] = Unit {0}
+Walked plan beginning (number ∷ path) = (number < plan.stop beginning) × Walked plan (beginning ++ number ∷ []) path
 
 -- a path is one of the search's, and fills no more than its places
 abbrev pub Stands : Plan → List ℕ → Type 0

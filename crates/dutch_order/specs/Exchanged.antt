@@ -8,7 +8,7 @@ use Rattle.dutch_order.specs.Keys.{IsIn}
 
 -- the original S1R and the others of the remainder, both ascending; how many of the others are in S1R; by how much the sum of S1R is
 -- greater than that of the original one; some who are in S1R, and some who are not
-pub record KnownExchange : Type 0 where
+pub record ExchangeClass : Type 0 where
   pub original : List ℕ
   pub others : List ℕ
   pub size : ℕ
@@ -18,7 +18,7 @@ pub record KnownExchange : Type 0 where
 
 -- D.2: an S1R is such an exchange: the remainder ascends; S1R is as many players of it as the original one; so many of them are not in the
 -- original one; the sum of its numbers is so much greater; and it has those who are held, and none of those who are barred
-pub record IsExchange (exchange : KnownExchange) (s1r : List ℕ) : Type 0 where
+pub record IsExchange (exchange : ExchangeClass) (s1r : List ℕ) : Type 0 where
   pub ascends : IsStrictlyIncreasing (exchange.original ++ exchange.others)
   pub set : IsIn s1r (subsets (exchange.original ++ exchange.others) (length exchange.original))
   pub size : length (filter (λ x. not (is_member x exchange.original)) s1r) ≡ exchange.size

@@ -17,9 +17,9 @@ pub record GoesOn (front list : List ℕ) : Type 0 where
 -- an arrangement begins with these lists: before S1 is chosen every one does; while S2 is filled S1 is its own and its S2 goes on;
 -- while S2R is filled S1, S2 and S1R are its own and its S2R goes on
 abbrev pub BeginsAt : Filling → Arrangement → Arrangement → Type 0
-BeginsAt S1 begun a = Unit {0}
-BeginsAt S2 begun a = (begun.s1 ≡ a.s1) × GoesOn begun.s2 a.s2
-BeginsAt S2r begun a = (begun.s1 ≡ a.s1) × (begun.s2 ≡ a.s2) × (begun.s1r ≡ a.s1r) × GoesOn begun.s2r a.s2r
+BeginsAt S1 beginning a = Unit {0}
+BeginsAt S2 beginning a = (beginning.s1 ≡ a.s1) × GoesOn beginning.s2 a.s2
+BeginsAt S2r beginning a = (beginning.s1 ≡ a.s1) × (beginning.s2 ≡ a.s2) × (beginning.s1r ≡ a.s1r) × GoesOn beginning.s2r a.s2r
 
 -- an arrangement begins so
 abbrev pub Begins : Beginning → Arrangement → Type 0

@@ -2,7 +2,7 @@
 -- carries the search, and which a reader of the promises may pass by.
 use Rattle.std.specs.Prelude.{◌≡◌, ℕ, zero, suc, ◌+◌, ◌-◌, ◌≤◌, Bool, true, false, not, ◌&&◌, nat_lt, nat_le, min, List, [], ◌∷◌, ◌++◌, map, filter, reverse, take, drop, length, slice_index, if◌then◌else◌, Option, Some, None}
 use Rattle.dutch_order.specs.Choices.{is_member, numbers_from}
-use Rattle.dutch_order.specs.Exchanged.{KnownExchange}
+use Rattle.dutch_order.specs.Exchanged.{ExchangeClass}
 use Rattle.dutch_order.specs.Keys.{IsIn}
 use Rattle.dutch_order.specs.declared.exchange.Place.{Place}
 use Rattle.dutch_order.specs.declared.exchange.Side.{Side}
@@ -111,12 +111,12 @@ module _ (pool : List ℕ) (k : ℕ) where
 
   -- below which place it is known who is moved out in all paths that begin so
   unfoldable pub out_limit : ℕ → List ℕ → ℕ
-  out_limit size begun = if nat_lt (length begun) size then half_start size begun else k
+  out_limit size beginning = if nat_lt (length beginning) size then half_start size beginning else k
 
   -- and who is moved in
   unfoldable pub in_limit : ℕ → List ℕ → ℕ
-  in_limit size begun =
-      if nat_lt (length begun) size then 0 else (if nat_lt (length begun) (size + size) then half_start size begun else (length pool - k))
+  in_limit size beginning =
+      if nat_lt (length beginning) size then 0 else (if nat_lt (length beginning) (size + size) then half_start size beginning else (length pool - k))
 
   -- the numbers of a side of whose places it is known that they are chosen, or else that they are not
   abbrev pub fixed_numbers : Side → List ℕ → ℕ → Bool → List ℕ
@@ -124,23 +124,23 @@ module _ (pool : List ℕ) (k : ℕ) where
 
   -- who is in the set of each path that begins so: those who are not moved out, and those who are moved in
   abbrev pub held_numbers : ℕ → List ℕ → List ℕ
-  held_numbers size begun =
-      fixed_numbers Out (take size begun) (out_limit size begun) false ++ fixed_numbers In (drop size begun) (in_limit size begun) true
+  held_numbers size beginning =
+      fixed_numbers Out (take size beginning) (out_limit size beginning) false ++ fixed_numbers In (drop size beginning) (in_limit size beginning) true
 
   -- and who is in none of them
   abbrev pub barred_numbers : ℕ → List ℕ → List ℕ
-  barred_numbers size begun =
-      fixed_numbers Out (take size begun) (out_limit size begun) true ++ fixed_numbers In (drop size begun) (in_limit size begun) false
+  barred_numbers size beginning =
+      fixed_numbers Out (take size beginning) (out_limit size beginning) true ++ fixed_numbers In (drop size beginning) (in_limit size beginning) false
 
   -- what is known of the sets of a stage whose paths begin so
-  abbrev pub known_exchange : ℕ → ℕ → List ℕ → KnownExchange
-  known_exchange size difference begun = record {
+  abbrev pub exchange_class : ℕ → ℕ → List ℕ → ExchangeClass
+  exchange_class size difference beginning = record {
     original = take k pool;
     others = drop k pool;
     size = size;
     difference = difference;
-    held = held_numbers size begun;
-    barred = barred_numbers size begun;
+    held = held_numbers size beginning;
+    barred = barred_numbers size beginning;
   }
 
   -- a path is one of those that a stage finds

@@ -59,10 +59,10 @@ module _ (plan : Plan) where
 
   -- the events after all of those below a path
   unfoldable pub after : ℕ → List ℕ → List ℕ → List Event
-  after zero begun path = []
-  after (suc open_places) begun [] = []
-  after (suc open_places) begun (number ∷ path) =
-      after open_places (begun ++ number ∷ []) path ++ below (suc open_places) begun (suc number)
+  after zero beginning path = []
+  after (suc open_places) beginning [] = []
+  after (suc open_places) beginning (number ∷ path) =
+      after open_places (beginning ++ number ∷ []) path ++ below (suc open_places) beginning (suc number)
 
   -- the events to come if a path is taken and a number is the next to be tried at its end
   unfoldable pub ahead : List ℕ → ℕ → List Event

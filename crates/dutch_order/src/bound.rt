@@ -28,13 +28,13 @@ pub trait Bound {
     ghost may_be_left: { Self → ℕ → Bool };
 
     /// A candidate is without interest.
-    ghost is_dull: { Self → Arrangement → Bool };
+    ghost is_unwanted: { Self → Arrangement → Bool };
 
     /// Whether it knows that every candidate with this beginning is without interest. A no says nothing.
     fn cannot_win(&self, prefix: &Prefix<'_>, room: &mut Self::Room) -> bool
         ensures { result ≡ true → (a : Arrangement)
             → IsIn a (candidates (meets self.now) (may_be_left self.now) (frame self.now) (shape self.now))
-            → Begins prefix.now a → is_dull self.now a ≡ true };
+            → Begins prefix.now a → is_unwanted self.now a ≡ true };
 
     /// Whether it knows that every candidate with this beginning, whose S1 and S2 are chosen, and with such an S1R is
     /// without interest. A no says nothing.
@@ -46,5 +46,5 @@ pub trait Bound {
     ) -> bool
         ensures { result ≡ true → (a : Arrangement)
             → IsIn a (candidates (meets self.now) (may_be_left self.now) (frame self.now) (shape self.now))
-            → Begins prefix.now a → IsExchange exchange.now a.s1r → is_dull self.now a ≡ true };
+            → Begins prefix.now a → IsExchange exchange.now a.s1r → is_unwanted self.now a ≡ true };
 }

@@ -178,7 +178,7 @@ fn start_drawing<'a, R: Rule>(
         ≡ in_bracket (R.meets leave.now.rule.now) leave.now.bracket.now shape (option_copied own.entry) }
 {
     drawing.kept.clear();
-    drawing.level.block.is_begun = false;
+    drawing.level.block.has_begun = false;
     let from = InBracket {
         bracket: leave.bracket,
         shape,
@@ -205,7 +205,7 @@ pub struct Candidates<'a, R: Rule> {
     shape: Shape,
     leave: Leave<'a, R>,
     // no arrangement can be legal, and this is known without a step
-    hopeless: bool,
+    too_many_left: bool,
     // `End` was answered
     ended: bool,
     drawing: Drawing<Levels<'a, R>>,
@@ -232,8 +232,8 @@ impl<'a, R: Rule> Model for Candidates<'a, R> {
     } };
 
     ghost invariant = { λ l.
-        (l.hopeless ≡ leaves_too_many l.leave.bracket.now l.shape)
-        × (l.hopeless ≡ true → filter (may_leave (R.may_be_left l.leave.rule.now) l.leave.bracket.now)
+        (l.too_many_left ≡ leaves_too_many l.leave.bracket.now l.shape)
+        × (l.too_many_left ≡ true → filter (may_leave (R.may_be_left l.leave.rule.now) l.leave.bracket.now)
         (listed l.drawing.kept ++ l.drawing.level) ≡ [])
         × AreCandidates (R.meets l.leave.rule.now) (R.may_be_left l.leave.rule.now) l.leave.bracket.now l.shape
         (still_coming l.ended (filter (may_leave (R.may_be_left l.leave.rule.now) l.leave.bracket.now)
@@ -254,7 +254,7 @@ impl<'a, R: Rule> Candidates<'a, R> {
         Candidates {
             shape,
             leave: Leave { bracket, rule },
-            hopeless: leaves_too_many(bracket, shape),
+            too_many_left: leaves_too_many(bracket, shape),
             ended: true,
             drawing: Drawing {
                 kept: Held::none(),
@@ -277,7 +277,7 @@ impl<'a, R: Rule> Candidates<'a, R> {
         ensures latest { self.new.latest ≡ option_copied own.entry }
     {
         self.shape = shape;
-        self.hopeless = leaves_too_many(self.leave.bracket, shape);
+        self.too_many_left = leaves_too_many(self.leave.bracket, shape);
         self.ended = false;
         self.latest.put(own);
         start_drawing(&self.leave, &mut self.drawing, shape, own);
@@ -346,7 +346,7 @@ impl<'a, R: Rule> Candidates<'a, R> {
             (StopsPast self.old self.new (C.Idle cuts.now) budget.new) }
         ensures candidates { AreCandidates (R.meets self.old.rule)
             (R.may_be_left self.old.rule) self.old.frame self.old.shape self.old.coming }
-        ensures hopeless { leaves_too_many self.old.frame self.old.shape ≡ true
+        ensures too_many_left { leaves_too_many self.old.frame self.old.shape ≡ true
             → EndsAtOnce result budget.old budget.new }
         ensures ended { TellsEnd self.old self.new result }
         ensures after_end { self.old.ended ≡ true → EndsAtOnce result budget.old budget.new }
@@ -358,7 +358,7 @@ impl<'a, R: Rule> Candidates<'a, R> {
         if self.ended {
             return Step::End;
         }
-        if self.hopeless || cuts.cuts(&Prefix::nothing()) {
+        if self.too_many_left || cuts.cuts(&Prefix::nothing()) {
             self.ended = true;
             return Step::End;
         }
@@ -383,7 +383,7 @@ impl<'a, R: Rule> Candidates<'a, R> {
     pub fn put_next(&mut self, candidate: &mut Candidate, budget: &mut Budget) -> Step<()>
         ensures answer { MatchStep result (λ _. Gives self.old self.new candidate.new)
             (Ends self.old self.new) (Stops self.old self.new budget.new) }
-        ensures hopeless { leaves_too_many self.old.frame self.old.shape ≡ true
+        ensures too_many_left { leaves_too_many self.old.frame self.old.shape ≡ true
             → EndsAtOnce result budget.old budget.new }
         ensures ended { TellsEnd self.old self.new result }
         ensures after_end { self.old.ended ≡ true → EndsAtOnce result budget.old budget.new }
@@ -402,7 +402,7 @@ impl<'a, R: Rule> Candidates<'a, R> {
     pub fn next(&mut self, budget: &mut Budget) -> Step<Candidate>
         ensures answer { MatchStep result (λ c. Gives self.old self.new c)
             (Ends self.old self.new) (Stops self.old self.new budget.new) }
-        ensures hopeless { leaves_too_many self.old.frame self.old.shape ≡ true
+        ensures too_many_left { leaves_too_many self.old.frame self.old.shape ≡ true
             → EndsAtOnce result budget.old budget.new }
         ensures ended { TellsEnd self.old self.new result }
         ensures after_end { self.old.ended ≡ true → EndsAtOnce result budget.old budget.new }
@@ -435,10 +435,10 @@ impl<'a, R: Rule> Candidates<'a, R> {
         requires meets { B.meets within.now.bound.now ≡ R.meets self.old.rule }
         requires may_be_left { B.may_be_left within.now.bound.now ≡ R.may_be_left self.old.rule }
         ensures answer { MatchStep result
-            (λ _. GivesPast self.old self.new (λ a. B.is_dull within.now.bound.now a ≡ true) candidate.new)
-            (EndsPast self.old self.new (λ a. B.is_dull within.now.bound.now a ≡ true))
-            (StopsPast self.old self.new (λ a. B.is_dull within.now.bound.now a ≡ true) budget.new) }
-        ensures hopeless { leaves_too_many self.old.frame self.old.shape ≡ true
+            (λ _. GivesPast self.old self.new (λ a. B.is_unwanted within.now.bound.now a ≡ true) candidate.new)
+            (EndsPast self.old self.new (λ a. B.is_unwanted within.now.bound.now a ≡ true))
+            (StopsPast self.old self.new (λ a. B.is_unwanted within.now.bound.now a ≡ true) budget.new) }
+        ensures too_many_left { leaves_too_many self.old.frame self.old.shape ≡ true
             → EndsAtOnce result budget.old budget.new }
         ensures ended { TellsEnd self.old self.new result }
         ensures after_end { self.old.ended ≡ true → EndsAtOnce result budget.old budget.new }
@@ -462,10 +462,10 @@ impl<'a, R: Rule> Candidates<'a, R> {
         requires meets { B.meets bound.now ≡ R.meets self.old.rule }
         requires may_be_left { B.may_be_left bound.now ≡ R.may_be_left self.old.rule }
         ensures answer { MatchStep result
-            (λ c. GivesPast self.old self.new (λ a. B.is_dull bound.now a ≡ true) c)
-            (EndsPast self.old self.new (λ a. B.is_dull bound.now a ≡ true))
-            (StopsPast self.old self.new (λ a. B.is_dull bound.now a ≡ true) budget.new) }
-        ensures hopeless { leaves_too_many self.old.frame self.old.shape ≡ true
+            (λ c. GivesPast self.old self.new (λ a. B.is_unwanted bound.now a ≡ true) c)
+            (EndsPast self.old self.new (λ a. B.is_unwanted bound.now a ≡ true))
+            (StopsPast self.old self.new (λ a. B.is_unwanted bound.now a ≡ true) budget.new) }
+        ensures too_many_left { leaves_too_many self.old.frame self.old.shape ≡ true
             → EndsAtOnce result budget.old budget.new }
         ensures ended { TellsEnd self.old self.new result }
         ensures after_end { self.old.ended ≡ true → EndsAtOnce result budget.old budget.new }

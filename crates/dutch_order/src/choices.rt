@@ -422,7 +422,7 @@ impl<'a, R: Rule> Blocks for ByS2<'a, R> {
             residents: &self.residents,
             s2: &self.s2,
         };
-        block.block.is_begun = false;
+        block.block.has_begun = false;
         block.blocks.start(&from, own, self.rule);
         Ok(true)
     }
@@ -536,7 +536,7 @@ impl<'a, R: Rule> Blocks for ByS1<'a, R> {
             residents: &self.residents,
             s1: &self.s1,
         };
-        block.block.is_begun = false;
+        block.block.has_begun = false;
         block.blocks.start(&from, own, self.rule);
         Ok(true)
     }

@@ -44,8 +44,8 @@ pub trait CutsTuples {
     ghost Idle: { Self → List ℕ → Type 0 };
 
     /// Whether all tuples that begin so are known to be idle.
-    fn cuts(&self, begun: &[u16]) -> bool
-        ensures { result ≡ true → (tuple : List ℕ) → GoesOn begun.now tuple → Idle self.now tuple };
+    fn cuts(&self, beginning: &[u16]) -> bool
+        ensures { result ≡ true → (tuple : List ℕ) → GoesOn beginning.now tuple → Idle self.now tuple };
 }
 
 /// Tells of nothing: no arrangement is idle.
@@ -87,7 +87,7 @@ impl<'b, B: Bound> Within<'b, B> {
 impl<'b, B: Bound> Cuts for Within<'b, B> {
     ghost Idle = { λ w a.
         IsIn a (candidates (B.meets w.bound.now) (B.may_be_left w.bound.now) (B.frame w.bound.now)
-        (B.shape w.bound.now)) → B.is_dull w.bound.now a ≡ true };
+        (B.shape w.bound.now)) → B.is_unwanted w.bound.now a ≡ true };
 
     fn cuts(&self, prefix: &Prefix<'_>) -> bool {
         match self.room.try_borrow_mut() {
@@ -114,11 +114,11 @@ pub struct OfS2<'c, C> {
 impl<'c, C: Cuts> CutsTuples for OfS2<'c, C> {
     ghost Idle = { λ o s2. (a : Arrangement) → o.s1.now.items ≡ a.s1 → s2 ≡ a.s2 → C.Idle o.cuts.now a };
 
-    fn cuts(&self, begun: &[u16]) -> bool {
+    fn cuts(&self, beginning: &[u16]) -> bool {
         let prefix = Prefix {
             filling: Filling::S2,
             s1: self.s1,
-            s2: begun,
+            s2: beginning,
             s1r: &[],
             s2r: &[],
         };
@@ -162,13 +162,13 @@ pub struct OfS2r<'c, C> {
 impl<'c, C: Cuts> CutsTuples for OfS2r<'c, C> {
     ghost Idle = { λ o s2r. C.Idle o.cuts.now (arranged o.s1.now.items o.s2.now.items o.s1r.now.items s2r) };
 
-    fn cuts(&self, begun: &[u16]) -> bool {
+    fn cuts(&self, beginning: &[u16]) -> bool {
         let prefix = Prefix {
             filling: Filling::S2r,
             s1: self.s1,
             s2: self.s2,
             s1r: self.s1r,
-            s2r: begun,
+            s2r: beginning,
         };
         self.cuts.cuts(&prefix)
     }
@@ -184,8 +184,8 @@ pub struct Unless<'c, C> {
 impl<'c, C: CutsTuples> CutsTuples for Unless<'c, C> {
     ghost Idle = { λ u tuple. (u.very ≡ false) × C.Idle u.cuts.now tuple };
 
-    fn cuts(&self, begun: &[u16]) -> bool {
-        !self.very && self.cuts.cuts(begun)
+    fn cuts(&self, beginning: &[u16]) -> bool {
+        !self.very && self.cuts.cuts(beginning)
     }
 }
 

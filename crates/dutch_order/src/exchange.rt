@@ -280,21 +280,21 @@ fn put_fixed(stage: &ExchangeStage<'_>, fixed: &FixedSide<'_>, chosen: bool, num
 
 /// What a path tells of those moved out.
 #[tactic(auto, unfolding(crate::specs::Stages::out_limit))]
-fn fixed_out<'a>(stage: &ExchangeStage<'_>, begun: &'a [u16]) -> FixedSide<'a>
+fn fixed_out<'a>(stage: &ExchangeStage<'_>, beginning: &'a [u16]) -> FixedSide<'a>
     ensures side { result.side ≡ Out }
-    ensures taken { result.taken.now ≡ take stage.now.size begun.now }
-    ensures limit { result.limit ≡ out_limit stage.now.pool.now stage.now.k stage.now.size begun.now }
+    ensures taken { result.taken.now ≡ take stage.now.size beginning.now }
+    ensures limit { result.limit ≡ out_limit stage.now.pool.now stage.now.k stage.now.size beginning.now }
 {
-    if begun.len() < stage.size {
+    if beginning.len() < stage.size {
         FixedSide {
             side: Side::Out,
-            taken: begun,
-            limit: first_of_half(stage.size, begun),
+            taken: beginning,
+            limit: first_of_half(stage.size, beginning),
         }
     } else {
         FixedSide {
             side: Side::Out,
-            taken: &begun[..stage.size],
+            taken: &beginning[..stage.size],
             limit: stage.k,
         }
     }
@@ -302,41 +302,41 @@ fn fixed_out<'a>(stage: &ExchangeStage<'_>, begun: &'a [u16]) -> FixedSide<'a>
 
 /// And of those moved in.
 #[tactic(auto, unfolding(crate::specs::Stages::in_limit))]
-fn fixed_in<'a>(stage: &ExchangeStage<'_>, begun: &'a [u16]) -> FixedSide<'a>
+fn fixed_in<'a>(stage: &ExchangeStage<'_>, beginning: &'a [u16]) -> FixedSide<'a>
     ensures side { result.side ≡ In }
-    ensures taken { result.taken.now ≡ drop stage.now.size begun.now }
-    ensures limit { result.limit ≡ in_limit stage.now.pool.now stage.now.k stage.now.size begun.now }
+    ensures taken { result.taken.now ≡ drop stage.now.size beginning.now }
+    ensures limit { result.limit ≡ in_limit stage.now.pool.now stage.now.k stage.now.size beginning.now }
 {
-    if begun.len() < stage.size {
+    if beginning.len() < stage.size {
         return FixedSide {
             side: Side::In,
             taken: &[],
             limit: 0,
         };
     }
-    let limit = if begun.len() < stage.size + stage.size {
-        first_of_half(stage.size, begun)
+    let limit = if beginning.len() < stage.size + stage.size {
+        first_of_half(stage.size, beginning)
     } else {
         stage.pool.len() - stage.k
     };
     FixedSide {
         side: Side::In,
-        taken: begun.split_at(stage.size).1,
+        taken: beginning.split_at(stage.size).1,
         limit,
     }
 }
 
 /// Fills a list with who is in the set of each path that begins so, and behind them with who is in none. The answer is
 /// how many the first are.
-fn put_held_and_barred(stage: &ExchangeStage<'_>, begun: &[u16], numbers: &mut Numbers) -> usize
+fn put_held_and_barred(stage: &ExchangeStage<'_>, beginning: &[u16], numbers: &mut Numbers) -> usize
     ensures held { take result numbers.new.items ≡ held_numbers stage.now.pool.now stage.now.k stage.now.size
-        begun.now }
+        beginning.now }
     ensures barred { drop result numbers.new.items ≡ barred_numbers stage.now.pool.now stage.now.k stage.now.size
-        begun.now }
+        beginning.now }
     ensures within { result ≤ length numbers.new.items }
 {
-    let outs = fixed_out(stage, begun);
-    let ins = fixed_in(stage, begun);
+    let outs = fixed_out(stage, beginning);
+    let ins = fixed_in(stage, beginning);
     numbers.clear();
     put_fixed(stage, &outs, false, numbers);
     put_fixed(stage, &ins, true, numbers);
@@ -348,20 +348,20 @@ fn put_held_and_barred(stage: &ExchangeStage<'_>, begun: &[u16], numbers: &mut N
 
 /// Whether the cuts know that the sets of all paths of a stage are idle that begin so. The original set is not asked
 /// about: it is one set, and no stage of others.
-fn cuts_begun<C: CutsExchanges>(
+fn cuts_beginning<C: CutsExchanges>(
     stage: &ExchangeStage<'_>,
     cuts: &C,
-    begun: &[u16],
+    beginning: &[u16],
     numbers: &mut Numbers,
 ) -> bool
     requires ascends { IsStrictlyIncreasing stage.now.pool.now }
-    ensures { result ≡ true → (path : List ℕ) → GoesOn begun.now path
+    ensures { result ≡ true → (path : List ℕ) → GoesOn beginning.now path
         → IdleAt stage.now.pool.now stage.now.k (C.Idle cuts.now) stage.now.size stage.now.difference path }
 {
     if stage.size == 0 {
         return false;
     }
-    let count = put_held_and_barred(stage, begun, numbers);
+    let count = put_held_and_barred(stage, beginning, numbers);
     let (held, barred) = numbers.split_at(count);
     let (original, others) = stage.pool.split_at(stage.k);
     let exchange = Exchange {
@@ -391,9 +391,9 @@ impl<'c, C: CutsExchanges> CutsPaths for OfStage<'c, C> {
 
     ghost MayAsk = { λ _ _. Unit {0} };
 
-    fn cuts(&self, begun: &[u16], numbers: &mut Numbers) -> bool {
+    fn cuts(&self, beginning: &[u16], numbers: &mut Numbers) -> bool {
         // a whole stage is asked about where it begins, since that is a step
-        !begun.is_empty() && cuts_begun(self.stage, self.cuts, begun, numbers)
+        !beginning.is_empty() && cuts_beginning(self.stage, self.cuts, beginning, numbers)
     }
 }
 
@@ -427,7 +427,7 @@ fn leave_stage<C: CutsExchanges>(
     if budget.used == budget.limit {
         return Err(Stopped);
     }
-    if cuts_begun(&tree.tree, cuts, &descent.path, &mut descent.room) {
+    if cuts_beginning(&tree.tree, cuts, &descent.path, &mut descent.room) {
         budget.used += 1;
         descent.number = stop;
         descent.beyond = Some(0);

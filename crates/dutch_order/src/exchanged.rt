@@ -17,9 +17,9 @@ pub struct Exchange<'a> {
 }
 
 impl<'a> Model for Exchange<'a> {
-    ghost use Rattle.dutch_order.specs.Exchanged.{KnownExchange};
+    ghost use Rattle.dutch_order.specs.Exchanged.{ExchangeClass};
 
-    ghost Value = { KnownExchange };
+    ghost Value = { ExchangeClass };
 
     ghost view = { λ e. record {
       original = e.original.now;

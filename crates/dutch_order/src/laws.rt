@@ -1,6 +1,5 @@
-// Laws of the definitions alone: the orders of choices are orders, and the lists of choices are what they are said to
-// be.
-ghost use Rattle.std.specs.Prelude.{◌≡◌, ◌≤◌, ◌⊎◌, ◌↔◌, ℕ, Bool, List, true, false, ◌++◌, length};
+// Laws of the definitions alone: of the orders of choices, of arrangements and of cursors (C.04.3 B.2, B.3, D).
+ghost use Rattle.std.specs.Prelude.{◌≡◌, ◌≤◌, ◌⊎◌, ◌↔◌, ℕ, Bool, List, true, false, ◌++◌, length, ◌<◌, Ok, Err};
 ghost use Rattle.std.specs.Cmp.{IsTotalOrder};
 ghost use Rattle.std.specs.declared.cmp.Ordering.TheVariants.{Equal};
 ghost use Rattle.std.specs.List.Sorted.{IsStrictlyIncreasing};
@@ -9,8 +8,15 @@ ghost use Rattle.dutch_order.specs.Keys.{lower_first, IsIn, HasEachOnce, Ascends
 ghost use Rattle.dutch_order.specs.Transposition.{all_tuples, transpositions};
 ghost use Rattle.dutch_order.specs.Exchange.{sum_of, moved_out, moved_in, exchange_cmp, exchanges};
 ghost use Rattle.dutch_order.specs.Limbo.{limbo_cmp, limbo_exchanges};
-ghost use Rattle.dutch_order.specs.Arrangements.{Frame, Arrangement, arrangements, behind, candidates, rest};
+ghost use Rattle.dutch_order.specs.Arrangements.{Frame, Arrangement, arrangements, behind, candidates, rest, down};
+ghost use Rattle.dutch_order.specs.Arrangements.{IsBracket};
 ghost use Rattle.dutch_order.specs.declared.bracket.Shape.{Shape};
+ghost use Rattle.dutch_order.specs.Forms.{HasArrangement, IsInForm, TakesPair, pairs_by_number};
+ghost use Rattle.dutch_order.specs.Cursors.{cursor_text, has_syntax, is_of, cursor_of};
+ghost use Rattle.dutch_order.specs.declared.cursor.CursorFault.TheVariants.{Syntax};
+
+// Laws of the definitions alone: the orders of choices are orders, and the lists of choices are what they are said to
+// be.
 
 /// Each order of choices is a total order (D.1, D.2, D.3).
 pub fn orders_are_total()
@@ -70,4 +76,47 @@ pub fn each_arrangement_comes_once()
     ensures rest { (meets : ℕ → ℕ → Bool) (may_be_left : ℕ → Bool) (frame : Frame) (shape : Shape) (a : Arrangement)
         (passed coming : List Arrangement)
         → rest meets may_be_left frame shape a ≡ passed ++ coming → HasEachOnce coming }
+{}
+
+// Laws of the definitions alone: which pairs are those of an arrangement (C.04.3 B.2, B.3), and when there is one with
+// a pair more.
+
+/// Pairs in form are those of some arrangement of their shape, and the pairs of each arrangement are in form.
+pub fn pairs_in_form_are_arranged()
+    ensures arranged { (frame : Frame) (shape : Shape) (pairs : List (ℕ × ℕ)) → frame.mdps ≤ length frame.scores
+        → IsInForm frame shape pairs
+        → HasArrangement frame shape pairs }
+    ensures in_form { (frame : Frame) (shape : Shape) (a : Arrangement) → frame.mdps ≤ length frame.scores
+        → shape.mdps ≤ shape.pairs
+        → IsIn a (arrangements frame shape) → IsInForm frame shape (pairs_by_number a) }
+{}
+
+/// Two downfloaters of an arrangement, not both moved down, can be put among its pairs as a pair, the smaller number
+/// first, and they stay in form.
+pub fn downfloaters_make_a_pair()
+    ensures { (frame : Frame) (shape : Shape) (a : Arrangement) (x y : ℕ) → frame.mdps ≤ length frame.scores
+        → shape.mdps ≤ shape.pairs
+        → IsIn a (arrangements frame shape) → IsIn x (down frame a) → IsIn y (down frame a) → x < y → frame.mdps < y
+        → TakesPair frame shape a (x, y) }
+{}
+
+// Laws of cursors: which arrangements are of a bracket and shape, and that reading takes exactly what printing gives.
+
+/// The arrangements whose lists are of a bracket and shape are those that article D puts in order.
+pub fn arrangements_are_of()
+    ensures { (frame : Frame) (shape : Shape) (a : Arrangement) → IsBracket frame.scores frame.mdps
+        → is_of frame shape a ≡ true ↔ IsIn a (arrangements frame shape) }
+{}
+
+/// A text is read as an arrangement exactly if this is one of the bracket and shape and the text is what printing gives
+/// of it.
+pub fn read_is_print()
+    ensures { (frame : Frame) (shape : Shape) (bytes : List ℕ) (a : Arrangement) → IsBracket frame.scores frame.mdps
+        → cursor_of frame shape bytes ≡ Ok a ↔ (IsIn a (arrangements frame shape) × (bytes ≡ cursor_text a)) }
+{}
+
+/// `Syntax` is answered of exactly the texts that do not have the form of a cursor, of whatever bracket.
+pub fn syntax_is_told()
+    ensures { (frame : Frame) (shape : Shape) (bytes : List ℕ) → cursor_of frame shape bytes ≡ Err Syntax
+        ↔ has_syntax bytes ≡ false }
 {}

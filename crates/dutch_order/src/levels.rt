@@ -57,16 +57,16 @@ pub trait Blocks {
 pub struct Block<T> {
     pub(crate) level: T,
     // whether a block has begun in it
-    pub(crate) is_begun: bool,
+    pub(crate) has_begun: bool,
 }
 
 impl<T: Arranges> Arranges for Block<T> {
     ghost use Rattle.dutch_order.specs.Levels.{within};
 
-    ghost coming = { λ b. within b.is_begun (T.coming b.level) };
+    ghost coming = { λ b. within b.has_begun (T.coming b.level) };
 
     fn next<C: Cuts>(&mut self, cuts: &C, lists: &mut Arrangement, budget: &mut Budget) -> Drawn {
-        Ok(self.is_begun && self.level.next(cuts, lists, budget)?)
+        Ok(self.has_begun && self.level.next(cuts, lists, budget)?)
     }
 }
 
@@ -84,7 +84,7 @@ impl<B: Blocks> Model for Level<B> {
 
     ghost Value = { List Arrangement };
 
-    ghost view = { λ l. within l.block.is_begun (B.Block.coming l.block.level) ++ joined (B.blocks l.blocks) };
+    ghost view = { λ l. within l.block.has_begun (B.Block.coming l.block.level) ++ joined (B.blocks l.blocks) };
 }
 
 impl<B: Blocks> Level<B> {
@@ -96,7 +96,7 @@ impl<B: Blocks> Level<B> {
             blocks,
             block: Block {
                 level,
-                is_begun: false,
+                has_begun: false,
             },
         }
     }
@@ -110,11 +110,11 @@ impl<B: Blocks> Arranges for Level<B> {
             if self.block.next(cuts, lists, budget)? {
                 return Ok(true);
             }
-            self.block.is_begun = false;
+            self.block.has_begun = false;
             if !self.blocks.next_block(cuts, &mut self.block.level, budget)? {
                 return Ok(false);
             }
-            self.block.is_begun = true;
+            self.block.has_begun = true;
         }
     }
 }

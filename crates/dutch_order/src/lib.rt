@@ -17,14 +17,12 @@
 #![tactic(auto)]
 
 mod arrangement;
-pub mod arrangement_laws;
 mod bound;
 mod bracket;
 mod candidate;
 mod candidates;
 mod choices;
 mod cursor;
-pub mod cursor_laws;
 mod cuts;
 mod exchange;
 mod exchanged;

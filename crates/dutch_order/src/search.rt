@@ -66,9 +66,9 @@ pub trait CutsPaths {
     ghost MayAsk: { Self → List ℕ → Type 0 };
 
     /// Whether all paths that begin so are known to be idle. There is a list for the numbers that a path stands for.
-    fn cuts(&self, begun: &[u16], numbers: &mut Numbers) -> bool
-        requires { MayAsk self.now begun.now }
-        ensures { result ≡ true → (path : List ℕ) → GoesOn begun.now path → Idle self.now path };
+    fn cuts(&self, beginning: &[u16], numbers: &mut Numbers) -> bool
+        requires { MayAsk self.now beginning.now }
+        ensures { result ≡ true → (path : List ℕ) → GoesOn beginning.now path → Idle self.now path };
 }
 
 /// Leaves nothing out.
@@ -80,7 +80,7 @@ impl CutsPaths for CutsNothing {
 
     ghost MayAsk = { λ _ _. Unit {0} };
 
-    fn cuts(&self, _begun: &[u16], _numbers: &mut Numbers) -> bool {
+    fn cuts(&self, _beginning: &[u16], _numbers: &mut Numbers) -> bool {
         false
     }
 }

@@ -120,8 +120,8 @@ impl<'a, C: CutsTuples> CutsPaths for CutsPlaces<'a, C> {
 
     ghost MayAsk = { λ t path. AllByRecursion (λ place. place < length t.pool.now.items) path × (length path ≤ LIMIT) };
 
-    fn cuts(&self, begun: &[u16], numbers: &mut Numbers) -> bool {
-        pick(self.pool, begun, numbers);
+    fn cuts(&self, beginning: &[u16], numbers: &mut Numbers) -> bool {
+        pick(self.pool, beginning, numbers);
         self.cuts.cuts(numbers)
     }
 }

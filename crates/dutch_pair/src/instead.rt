@@ -70,7 +70,7 @@ impl<'a> Bound for Wished<'a> {
 
     ghost may_be_left = { λ w. number_may_be_left w.context.now.facts w.context.now.reached };
 
-    ghost is_dull = { λ w a. not (grants w.wish a) };
+    ghost is_unwanted = { λ w a. not (grants w.wish a) };
 
     #[tactic(auto, unfolding(dutch_bracket::specs::Brackets::candidates_of))]
     fn cannot_win(&self, prefix: &Prefix<'_>, _room: &mut ()) -> bool {

@@ -1,7 +1,8 @@
-// Laws over the definitions: of qualities, completable players, shapes, scoregroups, boards and rounds; and laws that
-// give what the calls on a bracket ask for.
+// Laws over the definitions of a round (C.04.3 A.9, B, C), and laws that give what the calls on a bracket ask for.
 ghost use Rattle.std.specs.Prelude.{◌≡◌, ◌≤◌, ◌⊎◌, ◌↔◌, ℕ, Bool, IfSome, List, ◌++◌, Ok, Option, None, Some, false};
-ghost use Rattle.std.specs.Prelude.{length, true};
+ghost use Rattle.std.specs.Prelude.{length, true, is_some};
+ghost use Rattle.std.specs.List.{AllByRecursion, concat};
+ghost use Rattle.std.specs.Option.{IsSomeAnd};
 ghost use Rattle.trf16.specs.declared.limits.TheConstants.{MOST_ROUNDS};
 ghost use Rattle.trf16.specs.Prelude.{CanBePaired, Sheet, verdict};
 ghost use Rattle.trf16.specs.declared.cell.Colour.{Colour};
@@ -9,10 +10,9 @@ ghost use Rattle.dutch_bracket.specs.Prelude.{Quality, is_better, first_differen
 ghost use Rattle.dutch_bracket.specs.Prelude.{HasCandidate, DifferFirstIn, IsInFrontIn, players_counted, who_counts};
 ghost use Rattle.dutch_bracket.specs.Prelude.{IsOfBracket, IsNext, quality, IsAbove, Reached, frame_of, candidates_of};
 ghost use Rattle.dutch_bracket.specs.Prelude.{downfloaters, eligible, first_group, scoregroups, shape_of, IsGreater};
-ghost use Rattle.dutch_bracket.specs.Prelude.{fits, has_member, can_complete, most};
+ghost use Rattle.dutch_bracket.specs.Prelude.{fits, has_member, can_complete, most, completable, seats_meet};
+ghost use Rattle.dutch_bracket.specs.Prelude.{seats_may_be_left};
 ghost use Rattle.dutch_player.specs.Prelude.{Facts, facts_of, CountFromOne};
-ghost use Rattle.std.specs.List.{AllByRecursion, concat};
-ghost use Rattle.std.specs.Option.{IsSomeAnd};
 ghost use Rattle.dutch_pair.specs.Boards.{AreInOrder, boards, ordered};
 ghost use Rattle.dutch_pair.specs.Everybody.{NameEverybodyOnce};
 ghost use Rattle.dutch_order.specs.Prelude.{Fits, Frame, down, Candidate, IsIn};
@@ -22,14 +22,18 @@ ghost use Rattle.dutch_bracket.specs.declared.reached.BracketKind.TheVariants.{C
 ghost use Rattle.dutch_bracket.specs.declared.item.Item.{Item};
 ghost use Rattle.dutch_pair.specs.Lower.{lower_of};
 ghost use Rattle.dutch_pair.specs.Outcomes.{IsStage, shown, visit_of};
-ghost use Rattle.dutch_pair.specs.Round.{Pairing, Visit, round};
+ghost use Rattle.dutch_pair.specs.Round.{Pairing, Visit, round, everybody};
 ghost use Rattle.dutch_bracket.specs.Completion.{Completable};
+ghost use Rattle.dutch_pair.specs.Barriers.{Barrier, Blocks};
 
 use crate::stage::Stage;
 use dutch_bracket::reached::Reached;
 use dutch_order::{Candidate, Shape};
 use dutch_player::Field;
 use dutch_player::laws::scores_do_not_ascend;
+
+// Laws over the definitions: of qualities, completable players, shapes, scoregroups, boards and rounds; and laws that
+// give what the calls on a bracket ask for.
 
 /// Of two qualities one is better, or they are the same: a strict and total order.
 #[tactic(auto, using(dutch_bracket::proofs::QualityOrder::irreflexive, dutch_bracket::proofs::QualityOrder::transitive, dutch_bracket::proofs::QualityOrder::total))]
@@ -193,4 +197,26 @@ pub fn candidates_are_of_the_bracket(
     requires listed { IsIn candidate.now.lists (candidates_of field.now reached.now shape) }
     requires left { candidate.now.down ≡ down (frame_of field.now reached.now) candidate.now.lists }
     ensures { IsOfBracket field.now reached.now candidate.now }
+{}
+
+// Laws of the definitions alone: a round is paired exactly if its players can be paired out (C.04.3 A.9, C.5).
+
+/// There is no dead end: a round is paired exactly if some list of pairs of present players who may meet leaves out at
+/// most one of them, who may have the bye. So each bracket on the way has a candidate that can be chosen.
+#[tactic(auto, using(crate::proofs::NoDeadEnd::unpaired_exactly))]
+pub fn a_round_is_paired_where_it_can_be()
+    ensures paired { (facts : Facts)
+        → Completable (seats_meet facts) (seats_may_be_left facts) (everybody facts) ↔
+        (is_some (round facts).pairing ≡ true) }
+    ensures unpaired { (facts : Facts)
+        → ((round facts).pairing ≡ None) ↔ (completable facts (everybody facts) ≡ false) }
+{}
+
+/// Where a barrier blocks a round, no list of pairs of present players who may meet leaves out at most one of them, who
+/// may have the bye; and the round has no pairing.
+#[tactic(auto, using(crate::proofs::BarrierLemmas::incompletable, crate::proofs::BarrierLemmas::unpaired))]
+pub fn a_round_that_is_blocked_has_no_pairing()
+    ensures incompletable { (facts : Facts) (barrier : Barrier) → Blocks facts barrier
+        → ¬ Completable (seats_meet facts) (seats_may_be_left facts) (everybody facts) }
+    ensures unpaired { (facts : Facts) (barrier : Barrier) → Blocks facts barrier → (round facts).pairing ≡ None }
 {}

@@ -3,8 +3,8 @@
 //!
 //! `pair_round` gives the boards of the round that the definitions name, or that there is no pairing, which it says
 //! only if the present players cannot be paired out. `bracket_at` gives one bracket of that round, `stages` all of
-//! them; `completes`, `choose`, `boards` and `lookahead::quality` give the parts. `laws` and its neighbours hold what
-//! is proved of the definitions alone.
+//! them; `completes`, `choose`, `boards` and `lookahead::quality` give the parts. `laws` holds what is proved of the
+//! definitions alone.
 //!
 //! Each bracket may make so many steps as its budget has. If they are used up, the answer is undecided, and never
 //! another pairing. It is not proved that some number of steps decides a bracket.
@@ -20,7 +20,6 @@
 
 mod barrier;
 pub mod boards;
-pub mod completion_laws;
 pub mod examples;
 mod instead;
 mod items;
@@ -33,9 +32,9 @@ mod walk;
 pub use barrier::{Barrier, barrier_of, lacks_bye};
 pub use dutch_bracket::{
     Answer, BracketKind, ByNumber, ITEMS, Item, NextValue, Pair, PairFault, Quality, Reached,
-    Seats, are_left, completes, is_next, lookahead, order_laws, seats, split_first_group,
+    Seats, are_left, completes, is_next, lookahead, seats, split_first_group,
 };
-pub use dutch_choice::{Choice, Look, LookAhead, Wish, choose, wish_laws};
+pub use dutch_choice::{Choice, Look, LookAhead, Wish, choose};
 pub use instead::{Instead, best_instead};
 pub use items::who_counts;
 pub use lower::lower_of;

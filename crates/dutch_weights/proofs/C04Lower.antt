@@ -27,7 +27,7 @@ use Rattle.dutch_weights.proofs.CandidateMatchings.{each, part_of}
 use Rattle.dutch_bracket.proofs.Covering.{completable_by_test}
 use Rattle.dutch_weights.proofs.D02Orders.{pairs_cost}
 use Rattle.dutch_bracket.proofs.DownLemmas.{down_numbers}
-use Rattle.dutch_bracket.proofs.BegunLemmas.{begun_pairs}
+use Rattle.dutch_bracket.proofs.FixedListsLemmas.{has_fixed_pairs}
 use Rattle.dutch_bracket.proofs.LegalPairs.{legal_of}
 use Rattle.dutch_weights.proofs.ScopedMatchings.{is_matching_in, s1_moved_down}
 
@@ -340,19 +340,19 @@ module _ (facts : Facts) (reached : Reached) (scale : Scale) (lower : List ℕ) 
           (counted (lower_costs s) (numbers_from 1 (length reached.seats + length lower)) all_pairs rest.out all_matched
           ∙ length-numbers 1 (length reached.seats + length lower)) one_left.0
 
-      begun_part : IsPartOf (number_pairs (fixed_lists b)) all_pairs
-      begun_part =
-          let begun = part_of (fixed_lists b) a (begun_pairs b.filling b.lists a begins) in
+      fixed_part : IsPartOf (number_pairs (fixed_lists b)) all_pairs
+      fixed_part =
+          let part = part_of (fixed_lists b) a (has_fixed_pairs b.filling b.lists a begins) in
           record {
-            others = begun.others ++ rest.pairs;
-            whole = λ f. omega (arith, begun.whole f, sum_by-append f begun.others rest.pairs, sum_by-append f (number_pairs a) rest.pairs);
+            others = part.others ++ rest.pairs;
+            whole = λ f. omega (arith, part.whole f, sum_by-append f part.others rest.pairs, sum_by-append f (number_pairs a) rest.pairs);
           }
 
       bound_of : (floor : FloorTable)
           → IsFloor (lower_costs s) (numbers_from 1 (length reached.seats + length lower)) ((length reached.seats + length lower) % 2) floor
           → floor.base + sum_by (extra_in floor) (number_pairs (fixed_lists b)) ≤ floor.debt + (weight_of scale (quality_of facts reached lower a) + added_in order a)
       bound_of floor is =
-          let bound = is all_pairs rest.out all_matched few_out (number_pairs (fixed_lists b)) [] begun_part
+          let bound = is all_pairs rest.out all_matched few_out (number_pairs (fixed_lists b)) [] fixed_part
           (record { others = rest.out; whole = λ f. omega arith }) in
           omega (arith, bound, costs_no_more)
 

@@ -27,7 +27,7 @@ use Rattle.dutch_weights.proofs.C07NextMatchings.{joins_below, next_is_small}
 use Rattle.dutch_weights.proofs.CandidateMatchings.{each, left_over, part_of}
 use Rattle.dutch_weights.proofs.D02Orders.{pairs_cost}
 use Rattle.dutch_bracket.proofs.DownLemmas.{down_numbers}
-use Rattle.dutch_bracket.proofs.BegunLemmas.{begun_pairs}
+use Rattle.dutch_bracket.proofs.FixedListsLemmas.{has_fixed_pairs}
 use Rattle.dutch_bracket.proofs.LegalPairs.{legal_of}
 use Rattle.dutch_bracket.proofs.NextGroups.{first_is_next}
 use Rattle.dutch_weights.proofs.ScopedMatchings.{is_matching_in, s1_moved_down}
@@ -351,19 +351,19 @@ module _ (facts : Facts) (reached : Reached) (scale : Scale) (lower : List ℕ) 
                   (s1_moved_down (frame_of facts reached) shape a above.bracket.sound.within (legal_of facts reached shape a m).arranged),
             )
 
-        begun_part : IsPartOf (number_pairs (fixed_lists b)) all_pairs
-        begun_part =
-            let begun = part_of (fixed_lists b) a (begun_pairs b.filling b.lists a begins) in
+        fixed_part : IsPartOf (number_pairs (fixed_lists b)) all_pairs
+        fixed_part =
+            let part = part_of (fixed_lists b) a (has_fixed_pairs b.filling b.lists a begins) in
             record {
-              others = begun.others ++ joins.pairs;
-              whole = λ f. omega (arith, begun.whole f, sum_by-append f begun.others joins.pairs, sum_by-append f (number_pairs a) joins.pairs);
+              others = part.others ++ joins.pairs;
+              whole = λ f. omega (arith, part.whole f, sum_by-append f part.others joins.pairs, sum_by-append f (number_pairs a) joins.pairs);
             }
 
         bound_of : is_some scale.next ≡ true → IsScaleFor facts reached lower shape scale → (floor : FloorTable)
             → ((count : ℕ) → IsFloor (next_costs s) (numbers_from 1 (count_below facts reached lower)) count floor)
             → floor.base + sum_by (extra_in floor) (number_pairs (fixed_lists b)) ≤ floor.debt + (weight_of scale q + added_in order a)
         bound_of some scaled floor is =
-            let bound = is (length joins.alone) all_pairs joins.alone all_matched refl (number_pairs (fixed_lists b)) [] begun_part
+            let bound = is (length joins.alone) all_pairs joins.alone all_matched refl (number_pairs (fixed_lists b)) [] fixed_part
             (record { others = joins.alone; whole = λ f. omega arith }) in
             omega (arith, bound, costs_no_more some scaled)
 

@@ -5,7 +5,7 @@ use Rattle.std.specs.Option.{IfSome, SomeIff}
 use Rattle.std.proofs.Math.Nat.{mul-add}
 use Rattle.std.proofs.lemmas.Bool.{false_from_ne_true, true≢false}
 use Rattle.std.proofs.lemmas.List.Sums.{sum_by-cons}
-use Rattle.dutch_order.specs.Prelude.{is_member, subsets, sum_of, IsExchange, KnownExchange, IsIn, total}
+use Rattle.dutch_order.specs.Prelude.{is_member, subsets, sum_of, IsExchange, ExchangeClass, IsIn, total}
 use Rattle.dutch_order.proofs.CursorSets.{AreSet, in-member, member-in, subset-from, subset-to}
 use Rattle.dutch_order.proofs.Orders.{IsIn-append, IsIn-back, IsIn-filter, IsIn-front, IsIn-map, Rises, all_members, filter-IsIn, Rises-filter, Rises-from, member_has}
 use Rattle.dutch_weights.specs.Prelude.{Order, added, kept, lesser, more_of, short_of, with_lesser}
@@ -108,7 +108,7 @@ at_most_top : (t : Bool) (m top : ℕ) → m ≤ top → m + (if t then top - m 
 at_most_top true m top le = omega (arith, le)
 at_most_top false m top le = omega (arith, le)
 
-module _ (order : Order) (top : ℕ) (below : (x : ℕ) → more_of order x ≤ top) (e : KnownExchange) (s1r : List ℕ) (is : IsExchange e s1r) where
+module _ (order : Order) (top : ℕ) (below : (x : ℕ) → more_of order x ≤ top) (e : ExchangeClass) (s1r : List ℕ) (is : IsExchange e s1r) where
   abbrev stay : ℕ → Bool
   stay x = is_member x e.original
 
@@ -186,7 +186,7 @@ module _ (order : Order) (top : ℕ) (below : (x : ℕ) → more_of order x ≤ 
       )
 
 -- what is left of a sum, where so much has to be left over
-pub under_rest : (order : Order) (e : KnownExchange) (r : Option ℕ) (all short : ℕ) → SomeIff r (short ≤ all) (all - short)
+pub under_rest : (order : Order) (e : ExchangeClass) (r : Option ℕ) (all short : ℕ) → SomeIff r (short ≤ all) (all - short)
     → ((s1r : List ℕ) → IsExchange e s1r → sum_by (added order) s1r + short ≤ all)
     → IfSome r (λ n. (s1r : List ℕ) → IsExchange e s1r → sum_by (added order) s1r ≤ n)
 under_rest order e None all short left each = tt

@@ -23,7 +23,7 @@ use Rattle.dutch_weights.proofs.C04Lower.{weighs_more_below}
 use Rattle.dutch_weights.proofs.C07NextWeights.{small_below, weighs_more_next}
 use Rattle.dutch_weights.proofs.CandidateMatchings.{digits_are_small, each, left_over, part_of, total_sum}
 use Rattle.dutch_weights.proofs.D02Orders.{pairs_cost}
-use Rattle.dutch_bracket.proofs.BegunLemmas.{begun_pairs}
+use Rattle.dutch_bracket.proofs.FixedListsLemmas.{has_fixed_pairs}
 use Rattle.dutch_bracket.proofs.LegalPairs.{legal_of}
 use Rattle.dutch_bracket.proofs.PsdParts.{down_parts}
 use Rattle.dutch_weights.proofs.ScopedMatchings.{is_matching_in, s1_moved_down}
@@ -124,7 +124,7 @@ module _ (facts : Facts) (reached : Reached) (scale : Scale) (lower : List ℕ) 
       is (number_pairs a) (down frame a) (is_matching_in facts reached scale lower shape a of' fits m b begins scope covers order)
       (left_over facts reached scale lower shape a of' fits m)
       (number_pairs (fixed_lists b)) (left_known b.filling reached.mdps b.lists.s1)
-      (part_of (fixed_lists b) a (begun_pairs b.filling b.lists a begins))
+      (part_of (fixed_lists b) a (has_fixed_pairs b.filling b.lists a begins))
       (left_part frame shape a of'.sound.within (legal_of facts reached shape a m).arranged b.filling b.lists begins) in
       omega (
         arith,

@@ -6,7 +6,7 @@ use Rattle.dual.specs.Prelude.{FloorTable, extra_in, extra_left_in}
 use Rattle.dutch_order.specs.declared.bracket.Shape.{Shape}
 use Rattle.dutch_order.specs.declared.prefix.Filling.{Filling}
 use Rattle.dutch_order.specs.declared.prefix.Filling.TheVariants.{S1, S2, S2r}
-use Rattle.dutch_order.specs.Prelude.{Arrangement, Fits, IsExchange, KnownExchange, IsIn, Begins, Beginning}
+use Rattle.dutch_order.specs.Prelude.{Arrangement, Fits, IsExchange, ExchangeClass, IsIn, Begins, Beginning}
 use Rattle.dutch_player.specs.Prelude.{Facts}
 use Rattle.dutch_bracket.specs.Prelude.{Context, fixed_lists, NextValue, Quality, next_in, IsOf, Reached, frame_of, can_be_chosen, candidates_of, quality_of, Covers, Scope, HasNoBetter, IsOn, IsScale, IsScaleFor, NextScale, Scale, Weighing, number_pairs, weight_above, weight_of}
 use Rattle.dutch_weights.specs.Orders.{Order, added}
@@ -105,11 +105,11 @@ abbrev pub IsLeast : Weighed → Beginning → ℕ → Type 0
 IsLeast weighed b = IsLeastOf (Begins b) weighed
 
 -- an arrangement goes on from a beginning, with an S1R that is such an exchange
-abbrev pub BeginsWith : Beginning → KnownExchange → Arrangement → Type 0
+abbrev pub BeginsWith : Beginning → ExchangeClass → Arrangement → Type 0
 BeginsWith b exchange a = Begins b a × IsExchange exchange a.s1r
 
 -- and of all of those
-abbrev pub IsLeastWith : Weighed → Beginning → KnownExchange → ℕ → Type 0
+abbrev pub IsLeastWith : Weighed → Beginning → ExchangeClass → ℕ → Type 0
 IsLeastWith weighed b exchange = IsLeastOf (BeginsWith b exchange) weighed
 
 -- floors by weight are those of a bracket above lower seats and a shape

@@ -37,7 +37,7 @@ const NEVER_LEFT: u32 = 2048;
 
 /// A table to be checked, and the matching that it comes with.
 #[derive(Drop)]
-struct Told {
+struct Proposal {
     table: Table,
     matched: Matched,
 }
@@ -86,12 +86,12 @@ fn made_pairs(
 }
 
 /// What a matching of players tells; none if a sum does not fit.
-fn told_by(
+fn proposed_by(
     alloc: Global,
     rest: &Rest<'_, '_>,
     last: usize,
     found: &Found,
-) -> Result<Option<Told>, AllocError>
+) -> Result<Option<Proposal>, AllocError>
     requires { last < 65536 }
 {
     let Some(table) = table_of(alloc, rest, last, &found.certificate)? else {
@@ -100,7 +100,7 @@ fn told_by(
     let pairs = made_pairs(rest, &found.partners, true, alloc)?;
     let below = made_pairs(rest, &found.partners, false, alloc)?;
     let matched = Matched { pairs, below };
-    Ok(Some(Told { table, matched }))
+    Ok(Some(Proposal { table, matched }))
 }
 
 /// The number of a seat in a bracket; none if it is not there.
@@ -169,14 +169,14 @@ impl<'a> WeightFloors<'a> {
         Some(Alone { cost, never })
     }
 
-    /// What is told of the players who are in none of some pairs, for the arrangements of a scope; none if nothing was
+    /// What a cheapest matching tells of the players who are in none of some pairs, for the arrangements of a scope; none if nothing was
     /// found, or memory was refused.
-    fn told(
+    fn propose(
         &self,
         asked: &Asked<'_>,
         order: &Order,
         left: &mut u64,
-    ) -> Result<Option<Told>, Stopped>
+    ) -> Result<Option<Proposal>, Stopped>
         ensures falls { left.new ≤ left.old }
         ensures stopped { MatchResult result (λ _. Unit {0}) (λ _. left.new ≡ 0) }
     {
@@ -189,7 +189,7 @@ impl<'a> WeightFloors<'a> {
             return Ok(None);
         };
         match cheapest(context.alloc(), &rest, left) {
-            Ok(found) => Ok(told_by(context.alloc(), &rest, scoped.size(), &found).unwrap_or(None)),
+            Ok(found) => Ok(proposed_by(context.alloc(), &rest, scoped.size(), &found).unwrap_or(None)),
             Err(Fault::Stopped) => Err(Stopped),
             Err(_) => Ok(None),
         }
@@ -214,14 +214,14 @@ impl<'a> WeightFloors<'a> {
         if left < steps_for(free) {
             return Ok(None);
         }
-        let told = self.told(asked, &order, &mut left);
+        let proposal = self.propose(asked, &order, &mut left);
         budget.used = budget.limit - left;
-        let Some(told) = told? else {
+        let Some(proposal) = proposal? else {
             return Ok(None);
         };
         spend((count * count) as u64, budget)?;
-        match self.put(&told.table, asked.scope, order) {
-            Ok(true) => Ok(Some(told.matched)),
+        match self.put(&proposal.table, asked.scope, order) {
+            Ok(true) => Ok(Some(proposal.matched)),
             _ => Ok(None),
         }
     }

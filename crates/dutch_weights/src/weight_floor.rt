@@ -19,7 +19,7 @@ use crate::scoped::{Reach, Scoped};
 use crate::trail::Trail;
 use crate::weighing::Weighing;
 use dual::{Floor, Table};
-use dutch_bracket::begun::fixed_lists;
+use dutch_bracket::fixed_lists::fixed_lists;
 use dutch_bracket::context::Context;
 use dutch_bracket::quality::Quality;
 use dutch_bracket::scope::Scope;
@@ -151,9 +151,9 @@ fn bound_behind(floor: &Floor, mdps: usize, prefix: &Prefix<'_>) -> Option<Wide>
     requires { mdps ≤ LIMIT }
     ensures { IfSome result (λ n. n + floor.now.debt ≡ bound_behind floor.now mdps prefix.now) }
 {
-    let begun = fixed_lists(prefix);
-    let first = plus_pairs(floor, begun.s1, begun.s2, floor.base())?;
-    let second = plus_pairs(floor, begun.s1r, begun.s2r, first)?;
+    let lists = fixed_lists(prefix);
+    let first = plus_pairs(floor, lists.s1, lists.s2, floor.base())?;
+    let second = plus_pairs(floor, lists.s1r, lists.s2r, first)?;
     let all = plus_left(floor, mdps, prefix, second)?;
     all.minus(floor.debt())
 }

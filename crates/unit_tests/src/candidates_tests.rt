@@ -261,7 +261,7 @@ impl<'a> Bound for Keeps<'a> {
 
     ghost may_be_left = { λ k. ⟦<Barred as Rule>⟧.may_be_left k.rule.now };
 
-    ghost is_dull = { λ k a. not k.all && (not (slice_index a.s1r 0 == 1) || not (slice_index a.s1r 1 == 2)) };
+    ghost is_unwanted = { λ k a. not k.all && (not (slice_index a.s1r 0 == 1) || not (slice_index a.s1r 1 == 2)) };
 
     fn cannot_win(&self, prefix: &Prefix<'_>, _room: &mut ()) -> bool {
         if self.all {
@@ -286,7 +286,7 @@ impl<'a> Bound for Keeps<'a> {
     }
 }
 
-// A bound that knows of S1R by their exchange alone: those of 1 and 2 whose sum is greater by 2 are dull.
+// A bound that knows of S1R by their exchange alone: those of 1 and 2 whose sum is greater by 2 are unwanted.
 #[derive(Drop)]
 struct ByDifference<'a> {
     bracket: &'a Bracket,
@@ -308,7 +308,7 @@ impl<'a> Bound for ByDifference<'a> {
 
     ghost may_be_left = { λ b. ⟦<Barred as Rule>⟧.may_be_left b.rule.now };
 
-    ghost is_dull = { λ _ a. sum_of a.s1r == 5 };
+    ghost is_unwanted = { λ _ a. sum_of a.s1r == 5 };
 
     fn cannot_win(&self, _prefix: &Prefix<'_>, _room: &mut ()) -> bool {
         false

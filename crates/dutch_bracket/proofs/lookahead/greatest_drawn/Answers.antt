@@ -12,22 +12,22 @@ drawn_yes : (A B C : Type 0) (b : Bool) → b ≡ true → MatchDrawn {E = Stopp
 drawn_yes A B C true e h = h
 drawn_yes A B C false e h = absurd (cc)
 
-told_of : (facts : Facts) (reached : Reached) (told : Option Shape) (shape : Shape) → told ≡ Some shape → IfSome told (IsAlwaysShape facts reached)
+matched_of : (facts : Facts) (reached : Reached) (matched : Option Shape) (shape : Shape) → matched ≡ Some shape → IfSome matched (IsAlwaysShape facts reached)
     → IsAlwaysShape facts reached shape
-told_of facts reached told shape e known = subst (λ (o : Option Shape). IfSome o (IsAlwaysShape facts reached)) e known
+matched_of facts reached matched shape e known = subst (λ (o : Option Shape). IfSome o (IsAlwaysShape facts reached)) e known
 
 pub first-requires-clause-fits : goal.first-requires-clause-fits
 first-requires-clause-fits c =
     let legal = c.args.legal.now in
     let facts = legal.rule.now.field.now in
     let reached = legal.rule.now.reached.now in
-    always_fits facts reached c.in-Some.shape (told_of facts reached c.args.told c.in-Some.shape c.in-Some.is c.requires.told) legal.bracket.now c.requires.frame
+    always_fits facts reached c.in-Some.shape (matched_of facts reached c.args.matched c.in-Some.shape c.in-Some.is c.requires.matched) legal.bracket.now c.requires.frame
 
 pub returns-clause-answer : goal.returns-clause-answer
 returns-clause-answer c =
     let legal = c.args.legal.now in
     let facts = legal.rule.now.field.now in
     let reached = legal.rule.now.reached.now in (
-      always_greatest facts reached c.in-Some.shape (told_of facts reached c.args.told c.in-Some.shape c.in-Some.is c.requires.told) legal.bracket.now c.requires.frame,
+      always_greatest facts reached c.in-Some.shape (matched_of facts reached c.args.matched c.in-Some.shape c.in-Some.is c.requires.matched) legal.bracket.now c.requires.frame,
       drawn_yes _ _ _ c.in_ok-first.field-0 c.if-branch.true c.in_ok-first.ensures.answer,
     )

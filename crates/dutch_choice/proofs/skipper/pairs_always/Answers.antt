@@ -3,7 +3,7 @@ use Rattle.std.proofs.Common.{◌≡◌, sym, ap, ◌∙◌, arith}
 use Rattle.std.proofs.lemmas.List.{length-map}
 use Rattle.dutch_bracket.specs.Prelude.{residents_down, Reached, frame_of, is_number, score_at}
 use Rattle.dutch_choice.proofs.AllPaired.{equal, moved_down_paired, residents_paired}
-use Rattle.dutch_choice.proofs.KnownByWish.{bounds}
+use Rattle.dutch_choice.proofs.PremiseOfWish.{bounds}
 use Rattle.dutch_bracket.proofs.LegalPairs.{legal_of}
 use Rattle.dutch_choice.proofs.skipper.pairs_always.Goals as goal
 

@@ -10,12 +10,12 @@ use Rattle.dutch_floors.proofs.lonely.put_pool.Goals as goal
 pub returns-clause-items : goal.returns-clause-items
 returns-clause-items c =
     let mdps : c.mdps-mdps.result ≡ c.args.context.now.reached.mdps = c.mdps-mdps.ensures ∙ ap (λ (s : Reached). s.mdps) c.reached.ensures.value in
-    pool_is c.args.context.now.facts c.args.context.now.reached c.args.begun.now c.mark-3.new.marks c.put_unmarked.new.left.items c.saturating_sub-residents.result
+    pool_is c.args.context.now.facts c.args.context.now.reached c.args.lists.now c.mark-3.new.marks c.put_unmarked.new.left.items c.saturating_sub-residents.result
     (omega (arith, c.saturating_sub-residents.ensures, c.len.ensures.value, mdps))
     (λ i.
-    c.mark-3.ensures i ∙ (ap (λ (t : Bool). t || is_member i c.begun.inside.s2r.now) (c.mark-2.ensures i
-    ∙ ap (λ (t : Bool). t || is_member i c.begun.inside.s1r.now) (c.mark.ensures i ∙ ap (λ (t : Bool). t || is_member i c.begun.inside.s2.now) (none_set 17 i)))
-    ∙ ap (λ (b : Arrangement). (is_member i b.s2 || is_member i b.s1r) || is_member i b.s2r) c.begun.view_is))
+    c.mark-3.ensures i ∙ (ap (λ (t : Bool). t || is_member i c.lists.inside.s2r.now) (c.mark-2.ensures i
+    ∙ ap (λ (t : Bool). t || is_member i c.lists.inside.s1r.now) (c.mark.ensures i ∙ ap (λ (t : Bool). t || is_member i c.lists.inside.s2.now) (none_set 17 i)))
+    ∙ ap (λ (b : Arrangement). (is_member i b.s2 || is_member i b.s1r) || is_member i b.s2r) c.lists.view_is))
     (c.put_unmarked.ensures.items ∙ ap (λ k. filter (λ x. not (has_bit c.mark-3.new.marks x)) (numbers_from (k + 1) c.saturating_sub-residents.result)) mdps)
 
 pub returns-clause-numbers : goal.returns-clause-numbers

@@ -60,21 +60,21 @@ returns-clause-held c =
     let pool = c.args.stage.now.pool.now in
     let k = c.args.stage.now.k in
     let size = c.args.stage.now.size in
-    let begun = c.args.begun.now in
+    let beginning = c.args.beginning.now in
     let o = c.fixed_out-outs.result in
     let i = c.fixed_in-ins.result in
     let both : List ℕ = c.put_fixed-2.new.numbers.items in
     let third : List ℕ = fixed_numbers pool k o.side o.taken.now o.limit true in
     let fourth : List ℕ = fixed_numbers pool k i.side i.taken.now i.limit false in
     let second : List ℕ = fixed_numbers pool k i.side i.taken.now i.limit true in
-    let first : List ℕ = fixed_numbers pool k Out (take size begun) (out_limit pool k size begun) false in
+    let first : List ℕ = fixed_numbers pool k Out (take size beginning) (out_limit pool k size beginning) false in
     ap (take c.len-held.result) (c.put_fixed-4.ensures ∙ ap (λ l. l ++ fourth) c.put_fixed-3.ensures ∙ append_assoc both third fourth)
     ∙ take_front_of both (third ++ fourth) c.len-held.result (sym c.len-held.ensures.value)
     ∙ c.put_fixed-2.ensures
     ∙ ap (λ l. l ++ second) (c.put_fixed.ensures ∙ ap (λ l. l ++ fixed_numbers pool k o.side o.taken.now o.limit false) c.clear.ensures)
     ∙ ap (λ s. fixed_numbers pool k s o.taken.now o.limit false ++ second) c.fixed_out-outs.ensures.side
     ∙ ap (λ t. fixed_numbers pool k Out t o.limit false ++ second) c.fixed_out-outs.ensures.taken
-    ∙ ap (λ l. fixed_numbers pool k Out (take size begun) l false ++ second) c.fixed_out-outs.ensures.limit
+    ∙ ap (λ l. fixed_numbers pool k Out (take size beginning) l false ++ second) c.fixed_out-outs.ensures.limit
     ∙ ap (λ s. first ++ fixed_numbers pool k s i.taken.now i.limit true) c.fixed_in-ins.ensures.side
     ∙ ap (λ t. first ++ fixed_numbers pool k In t i.limit true) c.fixed_in-ins.ensures.taken
-    ∙ ap (λ l. first ++ fixed_numbers pool k In (drop size begun) l true) c.fixed_in-ins.ensures.limit
+    ∙ ap (λ l. first ++ fixed_numbers pool k In (drop size beginning) l true) c.fixed_in-ins.ensures.limit

@@ -13,9 +13,9 @@ pub returns : goal.returns
 returns c =
     let f = extra_in c.args.floor.now in
     let lists : Arrangement = fixed_lists c.args.prefix.now in
-    let begun = c.begun.view_is ∙ c.fixed_lists-begun.ensures in
-    let one = ap (λ (l : Arrangement). sum_by f (zip l.s1 l.s2)) begun in
-    let two = ap (λ (l : Arrangement). sum_by f (zip l.s1r l.s2r)) begun in
+    let viewed = c.lists.view_is ∙ c.fixed_lists-lists.ensures in
+    let one = ap (λ (l : Arrangement). sum_by f (zip l.s1 l.s2)) viewed in
+    let two = ap (λ (l : Arrangement). sum_by f (zip l.s1r l.s2r)) viewed in
     let both = sum_by-append f (zip lists.s1 lists.s2) (zip lists.s1r lists.s2r) in
     let same : c.in_ok-all.all ≡ bound_behind c.args.floor.now c.args.mdps c.args.prefix.now =
     omega (arith, c.in_ok-all.ensures, c.in_ok-second.ensures, c.in_ok-first.ensures, c.base.ensures, one, two, both) in

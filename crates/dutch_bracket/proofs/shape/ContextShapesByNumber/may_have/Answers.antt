@@ -13,6 +13,6 @@ returns-in-Ok-clause-answer c =
     let lower = c.args.self.now.lower in
     let penultimate = c.kind.ensures ∙ ap (λ (s : Reached). s.kind) c.reached.ensures.value in
     let count : length (frame_of facts reached).scores ≡ length reached.seats = length-map reached.seats (score_at facts) in
-    no_by_test (Ok c.in-Ok.told) _ _ _ c.in-Ok.ensures.answer (λ cannot.
+    no_by_test (Ok c.in-Ok.found) _ _ _ c.in-Ok.ensures.answer (λ cannot.
     no_shape_with facts reached lower (ap is_penultimate (sym penultimate) ∙ sym c.is_penultimate.ensures ∙ c.if-not-is_penultimate.false)
     (omega (arith, c.reached.ensures.sound.sound.within, count)) c.args.pairs (ap (λ n. can_go_out facts reached.seats (n - 2 * c.args.pairs) lower) (sym c.len.ensures.value) ∙ cannot))

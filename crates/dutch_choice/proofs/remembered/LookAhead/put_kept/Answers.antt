@@ -13,11 +13,11 @@ fill_key-requires c =
 pub invariant_of-self : goal.invariant_of-self
 invariant_of-self c =
     let self = c.self.inside in
-    subst (AreValues self.field.now self.reached.now self.next.items) (sym c.put_recalled.ensures.kept)
+    subst (AreValues self.field.now self.reached.now self.next.items) (sym c.put_remembered.ensures.kept)
     (promoted_values c.fill_key.new.key self.field.now self.reached.now self.next.items self.values c.self.invariant self.is_short)
 
 pub returns : goal.returns
 returns c =
     let self = c.self.inside in
-    recalls c.fill_key.new.key self.field.now self.reached.now self.next.items self.values c.self.invariant self.is_short c.args.down.now c.put_recalled.result
-    (next_in (quality_in c.put_recalled.new.quality)) c.put_recalled.new.values c.args.self.now c.fill_key.ensures c.put_recalled.ensures.put c.put_recalled.ensures.kept c.self.view_is
+    recalls c.fill_key.new.key self.field.now self.reached.now self.next.items self.values c.self.invariant self.is_short c.args.down.now c.put_remembered.result
+    (next_in (quality_in c.put_remembered.new.quality)) c.put_remembered.new.values c.args.self.now c.fill_key.ensures c.put_remembered.ensures.put c.put_remembered.ensures.kept c.self.view_is

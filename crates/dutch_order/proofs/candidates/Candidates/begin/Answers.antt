@@ -1,8 +1,8 @@
 use Rattle.std.proofs.Common.{◌∙◌, ◌++◌, filter, ap, sym, subst, length, ◌-◌, ◌*◌, nat_lt, option_copied}
 use Rattle.std.proofs.lemmas.Bool.{and_parts, ltb-true}
 use Rattle.dutch_order.specs.Prelude.{Fits, arrangements, IsIn, Of, may_leave, AreCandidates, Listing, candidates_from, listed}
-use Rattle.dutch_order.proofs.Behind.{candidates-all, levels-begun, none-from}
-use Rattle.dutch_order.proofs.Hopeless.{none-legal}
+use Rattle.dutch_order.proofs.Behind.{candidates-all, levels-beginning, none-from}
+use Rattle.dutch_order.proofs.TooManyLeft.{none-legal}
 use Rattle.dutch_order.proofs.candidates.Candidates.begin.Goals as goal
 
 pub invariant_of-self : goal.invariant_of-self
@@ -17,10 +17,10 @@ invariant_of-self g c =
     let coming =
     ap (λ kept. filter (may_leave may_be_left frame) (listed kept ++ c.start_drawing.new.drawing.level)) c.start_drawing.ensures.kept
     ∙ ap (filter (may_leave may_be_left frame)) c.start_drawing.ensures.level
-    ∙ levels-begun frame shape meets may_be_left own given in (
+    ∙ levels-beginning frame shape meets may_be_left own given in (
       c.leaves_too_many-self-inside.ensures,
-      λ hopeless.
-          let many = and_parts frame.last (nat_lt 1 (length frame.scores - 2 * shape.pairs)) (sym c.leaves_too_many-self-inside.ensures ∙ hopeless) in
+      λ too_many_left.
+          let many = and_parts frame.last (nat_lt 1 (length frame.scores - 2 * shape.pairs)) (sym c.leaves_too_many-self-inside.ensures ∙ too_many_left) in
           coming
           ∙ none-from frame shape meets may_be_left own
           (none-legal frame shape meets may_be_left fits many.0 (ltb-true 1 (length frame.scores - 2 * shape.pairs) many.1)),
@@ -37,5 +37,5 @@ returns-clause-coming g c =
     let given = subst (λ (l : Listing g.row.R.Denot). Of (λ cursor. IsIn cursor (arrangements l.frame shape)) own) (sym c.self.view_is) c.requires.given in
     ap (λ kept. filter (may_leave may_be_left frame) (listed kept ++ c.start_drawing.new.drawing.level)) c.start_drawing.ensures.kept
     ∙ ap (filter (may_leave may_be_left frame)) c.start_drawing.ensures.level
-    ∙ levels-begun frame shape meets may_be_left own given
+    ∙ levels-beginning frame shape meets may_be_left own given
     ∙ ap (λ (l : Listing g.row.R.Denot). candidates_from (g.R.Rule.meets l.rule) (g.R.Rule.may_be_left l.rule) l.frame shape own) c.self.view_is

@@ -33,7 +33,7 @@ invariant_of-self g c = (c.self.invariant.0, c.self.invariant.1, no-candidates _
 pub invariant_of-self-in-Ok-false : goal.invariant_of-self-in-Ok-false
 invariant_of-self-in-Ok-false g c = (
   c.self.invariant.0,
-  λ hopeless. absurd (true≢false (sym hopeless ∙ c.if-self-2.false)),
+  λ too_many_left. absurd (true≢false (sym too_many_left ∙ c.if-self-2.false)),
   no-candidates _ _ _ _,
 )
 
@@ -46,7 +46,7 @@ invariant_of-self-in-Ok-true g c =
     let after = filter may (listed c.draw_legal.new.drawing.kept ++ c.draw_legal.new.drawing.level) in
     let all = subst (λ told. IsOne (still_coming told before)) c.if-self.false c.self.invariant.2 in (
       c.self.invariant.0,
-      λ hopeless. absurd (true≢false (sym hopeless ∙ c.if-self-2.false)),
+      λ too_many_left. absurd (true≢false (sym too_many_left ∙ c.if-self-2.false)),
       subst (λ told. IsOne (still_coming told after)) (sym c.if-self.false)
           (later-candidates _ _ _ _ (g.C.Cuts.Idle c.args.cuts.now) before _ _ (drawn _ _ _ c.in-Ok-true.field-0-test c.in-Ok-true.ensures.answer).0 all),
     )
@@ -60,7 +60,7 @@ invariant_of-self-in-Err g c =
     let after = filter may (listed c.draw_legal.new.drawing.kept ++ c.draw_legal.new.drawing.level) in
     let all = subst (λ told. IsOne (still_coming told before)) c.if-self.false c.self.invariant.2 in (
       c.self.invariant.0,
-      λ hopeless. absurd (true≢false (sym hopeless ∙ c.if-self-2.false)),
+      λ too_many_left. absurd (true≢false (sym too_many_left ∙ c.if-self-2.false)),
       subst (λ told. IsOne (still_coming told after)) (sym c.if-self.false)
           (still-candidates _ _ _ _ (g.C.Cuts.Idle c.args.cuts.now) before after c.in-Err.ensures.answer.0 all),
     )

@@ -8,11 +8,11 @@ returns-clause-answer g c =
     let gave = c.put_next_within-step.new in
     step-holding _ _ _ gave.candidate c.put_next_within-step.result c.holding.result c.holding.ensures
     (subst
-    (λ bound. MatchStep c.put_next_within-step.result (λ _. GivesPast c.args.self.now gave.self (λ a. g.B.Bound.is_dull bound a ≡ true) gave.candidate) (EndsPast c.args.self.now gave.self (λ a. g.B.Bound.is_dull bound a ≡ true)) (StopsPast c.args.self.now gave.self (λ a. g.B.Bound.is_dull bound a ≡ true) gave.budget))
+    (λ bound. MatchStep c.put_next_within-step.result (λ _. GivesPast c.args.self.now gave.self (λ a. g.B.Bound.is_unwanted bound a ≡ true) gave.candidate) (EndsPast c.args.self.now gave.self (λ a. g.B.Bound.is_unwanted bound a ≡ true)) (StopsPast c.args.self.now gave.self (λ a. g.B.Bound.is_unwanted bound a ≡ true) gave.budget))
     c.new.ensures c.put_next_within-step.ensures.answer)
 
-pub returns-clause-hopeless : goal.returns-clause-hopeless
-returns-clause-hopeless g c many = step-holding _ _ _ c.put_next_within-step.new.candidate c.put_next_within-step.result c.holding.result c.holding.ensures (c.put_next_within-step.ensures.hopeless many)
+pub returns-clause-too_many_left : goal.returns-clause-too_many_left
+returns-clause-too_many_left g c many = step-holding _ _ _ c.put_next_within-step.new.candidate c.put_next_within-step.result c.holding.result c.holding.ensures (c.put_next_within-step.ensures.too_many_left many)
 
 pub returns-clause-ended : goal.returns-clause-ended
 returns-clause-ended g c = step-holding _ _ _ c.put_next_within-step.new.candidate c.put_next_within-step.result c.holding.result c.holding.ensures c.put_next_within-step.ensures.ended

@@ -7,21 +7,21 @@ use Rattle.dutch_order.proofs.Nexts.{step-each}
 use Rattle.dutch_order.proofs.candidates.Candidates.put_next_within.Goals as goal
 
 -- of the candidates of a listing, which are those that a bound knows, those that are idle are without interest
-dull-passed : (meets own_meets : ℕ → ℕ → Bool) (may_be_left own_left : ℕ → Bool) (frame own_frame : Frame) (shape own_shape : Shape) → meets ≡ own_meets → may_be_left ≡ own_left → frame ≡ own_frame → shape ≡ own_shape
-    → (IsDull : Arrangement → Type 0) (before after : List Arrangement) → AreCandidates own_meets own_left own_frame own_shape before
-    → Passes (λ a. IsIn a (candidates meets may_be_left frame shape) → IsDull a) before after → Passes IsDull before after
+unwanted-passed : (meets own_meets : ℕ → ℕ → Bool) (may_be_left own_left : ℕ → Bool) (frame own_frame : Frame) (shape own_shape : Shape) → meets ≡ own_meets → may_be_left ≡ own_left → frame ≡ own_frame → shape ≡ own_shape
+    → (IsUnwanted : Arrangement → Type 0) (before after : List Arrangement) → AreCandidates own_meets own_left own_frame own_shape before
+    → Passes (λ a. IsIn a (candidates meets may_be_left frame shape) → IsUnwanted a) before after → Passes IsUnwanted before after
 unfolding AreCandidates
-dull-passed meets own_meets may_be_left own_left frame own_frame shape own_shape e0 e1 e2 e3 IsDull before after known passed =
+unwanted-passed meets own_meets may_be_left own_left frame own_frame shape own_shape e0 e1 e2 e3 IsUnwanted before after known passed =
     let all = candidates meets may_be_left frame shape in
     let same : all ≡ candidates own_meets own_left own_frame own_shape = cc in
-    passes-weaker (λ a. IsIn a all → IsDull a) IsDull (λ a. IsIn a all) before after (λ a m idle. idle m)
+    passes-weaker (λ a. IsIn a all → IsUnwanted a) IsUnwanted (λ a. IsIn a all) before after (λ a m idle. idle m)
     (subst (λ own. AllByRecursion (λ a. IsIn a own) before) (sym same) known) passed
 
 pub returns-clause-answer : goal.returns-clause-answer
 returns-clause-answer g c =
-    let dull = dull-passed _ _ _ _ _ _ _ _ c.requires.meets c.requires.may_be_left c.requires.frame c.requires.shape (λ a. g.B.Bound.is_dull c.args.within.now.bound.now a ≡ true) in
+    let unwanted = unwanted-passed _ _ _ _ _ _ _ _ c.requires.meets c.requires.may_be_left c.requires.frame c.requires.shape (λ a. g.B.Bound.is_unwanted c.args.within.now.bound.now a ≡ true) in
     step-each _ _ _ _ _ _
-    (λ _ given. (dull _ _ c.go_on.ensures.candidates given.0, given.1, given.2))
-    (λ given. (dull _ _ c.go_on.ensures.candidates given.0, given.1, given.2))
-    (λ given. (dull _ _ c.go_on.ensures.candidates given.0, given.1, given.2))
+    (λ _ given. (unwanted _ _ c.go_on.ensures.candidates given.0, given.1, given.2))
+    (λ given. (unwanted _ _ c.go_on.ensures.candidates given.0, given.1, given.2))
+    (λ given. (unwanted _ _ c.go_on.ensures.candidates given.0, given.1, given.2))
     c.go_on.result c.go_on.ensures.answer
