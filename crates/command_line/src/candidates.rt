@@ -10,7 +10,7 @@ ghost use Rattle.round_lines.specs.CandidateTexts.{bracket_text};
 ghost use Rattle.replies.specs.Prelude.{answer_of, not_of_bracket, not_reached};
 
 use dutch_order::{Budget, Candidates, Cursor, Rule, Shape};
-use dutch_pair::{BracketAt, PairFault, Reached, bracket_at};
+use dutch_pair::{BracketAt, Reached, bracket_at};
 use dutch_player::{Field, FieldFault};
 use replies::refusal::{cannot_be_paired, no_pairing, refused, undecided};
 use replies::{Reply, Status, texts};
@@ -61,10 +61,8 @@ fn of_field(
 ) -> Result<Reply, AllocError>
     ensures { IfOk result (λ reply. InField options.now (Ok field.now) (answer_of reply)) }
 {
-    match bracket_at(alloc, field, options.steps, options.bracket) {
-        Ok(found) => tell(alloc, options, field, &found),
-        Err(PairFault::OutOfMemory) => Err(AllocError),
-    }
+    let found = bracket_at(alloc, field, options.steps, options.bracket)?;
+    tell(alloc, options, field, &found)
 }
 
 // What is said of it.

@@ -11,7 +11,7 @@ ghost use Rattle.replies.specs.Prelude.{answer_of, done};
 
 use dutch_pair::boards::Board;
 use dutch_pair::laws::boards_can_be_the_next_round;
-use dutch_pair::{Outcome, PairFault, pair_round};
+use dutch_pair::{Outcome, pair_round};
 use dutch_player::{Field, FieldFault};
 use replies::format::rewritten;
 use replies::refusal::{cannot_be_paired, no_pairing, refused, undecided};
@@ -67,10 +67,8 @@ fn of_field(
 {
     // So `tell` may put them into the report.
     boards_can_be_the_next_round();
-    match pair_round(alloc, field, options.steps) {
-        Ok(outcome) => tell(alloc, options, report, &outcome),
-        Err(PairFault::OutOfMemory) => Err(AllocError),
-    }
+    let outcome = pair_round(alloc, field, options.steps)?;
+    tell(alloc, options, report, &outcome)
 }
 
 // What is said of the outcome of pairing.

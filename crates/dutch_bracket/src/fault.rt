@@ -17,6 +17,14 @@ impl From<AllocError> for PairFault {
     }
 }
 
+impl From<PairFault> for AllocError {
+    fn from(fault: PairFault) -> AllocError {
+        match fault {
+            PairFault::OutOfMemory => AllocError,
+        }
+    }
+}
+
 impl<T: Drop> From<AllocFailed<T>> for PairFault {
     fn from(_e: AllocFailed<T>) -> PairFault {
         PairFault::OutOfMemory

@@ -9,7 +9,7 @@ ghost use Rattle.explained.specs.ExplainAnswers.{TellsWhy, no_pairing_with};
 ghost use Rattle.replies.specs.Prelude.{answer_of};
 
 use dutch_order::{Numbers, numbered_from};
-use dutch_pair::{Barrier, PairFault, barrier_of, lacks_bye};
+use dutch_pair::{Barrier, barrier_of, lacks_bye};
 use dutch_player::Field;
 use replies::refusal::no_pairing;
 use replies::{Reply, Status};
@@ -19,10 +19,9 @@ use std::alloc::{AllocError, Global};
 pub fn no_pairing_because(alloc: Global, field: &Field, steps: u64) -> Result<Reply, AllocError>
     ensures { IfOk result (λ reply. TellsWhy field.now (answer_of reply)) }
 {
-    match barrier_of(alloc, field, steps) {
-        Ok(Some(barrier)) => because(alloc, field, &barrier),
-        Ok(None) => Ok(no_pairing()),
-        Err(PairFault::OutOfMemory) => Err(AllocError),
+    match barrier_of(alloc, field, steps)? {
+        Some(barrier) => because(alloc, field, &barrier),
+        None => Ok(no_pairing()),
     }
 }
 

@@ -10,7 +10,7 @@ ghost use Rattle.explained.specs.ExplainTexts.{stage_text, stages_text};
 
 use crate::item_lines::put_items;
 use dutch_pair::boards::Board;
-use dutch_pair::{PairFault, Reached, Stage};
+use dutch_pair::{Reached, Stage};
 use dutch_player::{ColourRule, Field};
 use replies::points::HalfPoints;
 use round_lines::bracket_texts;
@@ -183,10 +183,8 @@ fn put_pairs(
     ensures { OnOk result (string_bytes text.new ≡ string_bytes text.old ++ pairs_text field.now whose stage.now) }
 {
     let mut pairs: Vec<Board> = Vec::new(*text.allocator());
-    match stage.put_pairs(field, &mut pairs) {
-        Ok(()) => put_boards(text, field, &pairs, whose),
-        Err(PairFault::OutOfMemory) => Err(AllocError),
-    }
+    stage.put_pairs(field, &mut pairs)?;
+    put_boards(text, field, &pairs, whose)
 }
 
 // Puts the boards of pairs.

@@ -12,7 +12,7 @@ ghost use Rattle.replies.specs.Prelude.{answer_of};
 use crate::barrier_lines::no_pairing_because;
 use crate::bracket_lines::{put_stages, round_line};
 use crate::instead::{Paired, Question, instead};
-use dutch_pair::{AllStages, PairFault, stages};
+use dutch_pair::{AllStages, stages};
 use dutch_player::{Field, FieldFault};
 use replies::refusal::{cannot_be_asked, cannot_be_paired, refused, undecided};
 use replies::{Reply, Status, question_fault};
@@ -77,8 +77,8 @@ fn of_round(
 ) -> Result<Reply, AllocError>
     ensures { IfOk result (λ reply. IsExplained options report.now field.now (answer_of reply)) }
 {
-    match stages(alloc, field, options.steps) {
-        Ok(AllStages::Paired { stages, bye }) => {
+    match stages(alloc, field, options.steps)? {
+        AllStages::Paired { stages, bye } => {
             let round = Paired {
                 report,
                 field,
@@ -87,9 +87,8 @@ fn of_round(
             };
             tell_paired(alloc, options, &round)
         }
-        Ok(AllStages::NoPairing) => no_pairing_because(alloc, field, options.steps),
-        Ok(AllStages::Undecided { bracket, used }) => undecided(alloc, bracket, used),
-        Err(PairFault::OutOfMemory) => Err(AllocError),
+        AllStages::NoPairing => no_pairing_because(alloc, field, options.steps),
+        AllStages::Undecided { bracket, used } => undecided(alloc, bracket, used),
     }
 }
 

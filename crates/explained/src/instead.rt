@@ -11,7 +11,7 @@ ghost use Rattle.explained.specs.InsteadTexts.{in_bracket, instead_text, search_
 ghost use Rattle.round_lines.specs.Obstacles.{obstacle_text};
 ghost use Rattle.replies.specs.Prelude.{answer_of, done};
 
-use dutch_pair::{Instead, PairFault, Stage, Wish, best_instead};
+use dutch_pair::{Instead, Stage, Wish, best_instead};
 use dutch_player::Field;
 use replies::refusal::undecided;
 use replies::{Reply, Status};
@@ -249,10 +249,8 @@ fn by_search(
         (answer_of reply)) }
 {
     let (stage, wish) = decided;
-    match best_instead(alloc, field, stage, wish, asked.steps) {
-        Ok(found) => tell(alloc, asked.number, stage, &found),
-        Err(PairFault::OutOfMemory) => Err(AllocError),
-    }
+    let found = best_instead(alloc, field, stage, wish, asked.steps)?;
+    tell(alloc, asked.number, stage, &found)
 }
 
 // What is told of what a search in a bracket found.
