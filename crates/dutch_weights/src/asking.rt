@@ -169,8 +169,8 @@ impl<'a> WeightFloors<'a> {
         Some(Alone { cost, never })
     }
 
-    /// What a cheapest matching tells of the players who are in none of some pairs, for the arrangements of a scope; none if nothing was
-    /// found, or memory was refused.
+    /// The table that a cheapest matching of the players who are in none of some pairs gives, for the arrangements of a
+    /// scope, to be checked; none if nothing was found, or memory was refused.
     fn propose(
         &self,
         asked: &Asked<'_>,

@@ -1,7 +1,7 @@
 // Certificates, barriers and witnesses of a few players, worked by hand.
 //
-// Each question to a certificate or a floor stands once, in a function that answers whether it says what it must: so the
-// tests themselves hold no certificate and no wide number, and are proved in little time.
+// Each question to a certificate or a floor stands once, in a function that answers whether it says what it must. So
+// the tests themselves hold no certificate and no wide number, and are proved in little time.
 ghost use Rattle.std.specs.Prelude.{◌≤◌, IfSome, length};
 
 use dual::{Floor, MarkedSet, Pool, Rule, Table, tells_completable, tells_incompletable};
