@@ -204,7 +204,7 @@ fn holding(step: Step<()>, filled: Candidate) -> Step<Candidate>
 pub struct Candidates<'a, R: Rule> {
     shape: Shape,
     leave: Leave<'a, R>,
-    // no arrangement can be legal, and this is known without a step
+    // every arrangement leaves over more than the bracket may, so that none is legal
     too_many_left: bool,
     // `End` was answered
     ended: bool,
