@@ -1,4 +1,4 @@
--- What a path that has begun tells of the sets of its stage: who is in each of them, and who is in none.
+-- What the beginning of a path tells of the sets of its stage: who is in each of them, and who is in none.
 use Rattle.std.proofs.Common.{◌≡◌, ℕ, zero, suc, ◌+◌, ◌-◌, ◌<◌, ◌≤◌, Bool, true, false, not, ◌&&◌, nat_lt, eqb, cond, List, [], ◌∷◌, ◌++◌, map, length, take, drop, refl, sym, ◌∙◌, ap, append_assoc, append-nil, arith, subst, ◌⊎◌, inl, inr, if◌then◌else◌, length-append}
 use Rattle.std.specs.List.{AllByRecursion, filter}
 use Rattle.std.specs.List.Sorted.{IsStrictlyIncreasing}
@@ -238,8 +238,8 @@ module _ (pool : List ℕ) (k : ℕ) (rises : IsStrictlyIncreasing pool) (enough
       barred-out : (x : ℕ) → is_member x set ≡ false → ¬ IsIn x set
       barred-out x no' m = true≢false (sym (in-member x set m) ∙ no')
 
-      exchange-is_known : IsExchange (exchange_class pool k size difference beginning) set
-      exchange-is_known = record {
+      exchange-of_class : IsExchange (exchange_class pool k size difference beginning) set
+      exchange-of_class = record {
         ascends = subst IsStrictlyIncreasing (sym (take-append-drop k pool)) rises;
         set = exchange-set;
         size = exchange-size;
@@ -252,11 +252,11 @@ module _ (pool : List ℕ) (k : ℕ) (rises : IsStrictlyIncreasing pool) (enough
             (all-told (λ x. ¬ IsIn x set) inn (is_fixed (drop size beginning) (in_limit pool k size beginning) false) (length pool - k) (λ place low told. barred-out (inn place) (in-told false place low told)));
       }
 
-  -- what is known of the set of a path that goes on from what has begun
-  pub path-known : (size difference : ℕ) (beginning path : List ℕ) → 0 < size → IsOfStage pool k size difference path → GoesOn beginning path → IsExchange (exchange_class pool k size difference beginning) (set_of pool k size path)
-  path-known size difference beginning path some of on =
+  -- the set of a path that goes on from a beginning is of the class that the beginning tells
+  pub path-of_class : (size difference : ℕ) (beginning path : List ℕ) → 0 < size → IsOfStage pool k size difference path → GoesOn beginning path → IsExchange (exchange_class pool k size difference beginning) (set_of pool k size path)
+  path-of_class size difference beginning path some of on =
       let by = path-exchange pool k rises enough size difference (λ none. absurd (omega (arith, some, none))) path (subst (IsIn path) (stage-hits pool k rises enough size difference) of) in
-      exchange-is_known size difference (set_of pool k size path) by.0 by.1 by.3 beginning on.rest (sym by.2 ∙ on.is)
+      exchange-of_class size difference (set_of pool k size path) by.0 by.1 by.3 beginning on.rest (sym by.2 ∙ on.is)
 
 -- there is room for one more that passes
 pub filter-room : (q : ℕ → Bool) (i count : ℕ) → i < count → q i ≡ true → length (filter q (numbers_from 0 i)) < length (filter q (numbers_from 0 count))

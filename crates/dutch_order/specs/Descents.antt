@@ -3,7 +3,7 @@ use Rattle.std.specs.Prelude.{◌≡◌, ◌⊎◌, ℕ, ◌-◌, ◌<◌, ◌�
 use Rattle.dutch_order.specs.Trials.{Plan, below, ahead, lower, lowest}
 use Rattle.dutch_order.specs.declared.search.Descent.{Descent}
 
--- each number of a path, after what has begun, is below the end of the numbers that its place tries
+-- each number of a path, after a beginning, is below the end of the numbers that its place tries
 abbrev pub Walked : Plan → List ℕ → List ℕ → Type 0
 Walked plan beginning [] = Unit {0}
 Walked plan beginning (number ∷ path) = (number < plan.stop beginning) × Walked plan (beginning ++ number ∷ []) path

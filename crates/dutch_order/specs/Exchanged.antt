@@ -1,4 +1,4 @@
--- What is known of the S1R of arrangements whose S1 and S2 are chosen: how far it is from the original one (C.04.3 D.2).
+-- Classes of the S1R of arrangements whose S1 and S2 are chosen: by how far they are from the original one (C.04.3 D.2).
 use Rattle.std.specs.Prelude.{◌≡◌, ℕ, ◌+◌, not, List, ◌++◌, filter, length}
 use Rattle.std.specs.List.{AllByRecursion}
 use Rattle.std.specs.List.Sorted.{IsStrictlyIncreasing}
@@ -6,8 +6,8 @@ use Rattle.dutch_order.specs.Choices.{is_member, subsets}
 use Rattle.dutch_order.specs.Exchange.{sum_of}
 use Rattle.dutch_order.specs.Keys.{IsIn}
 
--- the original S1R and the others of the remainder, both ascending; how many of the others are in S1R; by how much the sum of S1R is
--- greater than that of the original one; some who are in S1R, and some who are not
+-- a class: the original S1R and the others of the remainder, both ascending; how many of the others are in S1R; by how much the sum of
+-- S1R is greater than that of the original one; some who are in S1R, and some who are not
 pub record ExchangeClass : Type 0 where
   pub original : List ℕ
   pub others : List ℕ
@@ -16,7 +16,7 @@ pub record ExchangeClass : Type 0 where
   pub held : List ℕ
   pub barred : List ℕ
 
--- D.2: an S1R is such an exchange: the remainder ascends; S1R is as many players of it as the original one; so many of them are not in the
+-- D.2: an S1R is an exchange of such a class: the remainder ascends; S1R is as many players of it as the original one; so many of them are not in the
 -- original one; the sum of its numbers is so much greater; and it has those who are held, and none of those who are barred
 pub record IsExchange (exchange : ExchangeClass) (s1r : List ℕ) : Type 0 where
   pub ascends : IsStrictlyIncreasing (exchange.original ++ exchange.others)

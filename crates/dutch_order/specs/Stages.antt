@@ -132,7 +132,7 @@ module _ (pool : List ℕ) (k : ℕ) where
   barred_numbers size beginning =
       fixed_numbers Out (take size beginning) (out_limit size beginning) true ++ fixed_numbers In (drop size beginning) (in_limit size beginning) false
 
-  -- what is known of the sets of a stage whose paths begin so
+  -- the class of the sets of a stage whose paths begin so
   abbrev pub exchange_class : ℕ → ℕ → List ℕ → ExchangeClass
   exchange_class size difference beginning = record {
     original = take k pool;

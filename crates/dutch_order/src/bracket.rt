@@ -1,7 +1,7 @@
 // A bracket and the shape of its arrangements, specified by the list of its players' scores.
 ghost use Rattle.std.specs.Prelude.{◌≡◌, ◌≤◌, length};
 ghost use Rattle.std.specs.List.Sorted.{IsStrictlyIncreasing};
-ghost use Rattle.dutch_order.specs.Arrangements.{IsBracket, players_of, residents_of};
+ghost use Rattle.dutch_order.specs.Arrangements.{Fits, IsBracket, players_of, residents_of};
 ghost use Rattle.dutch_order.specs.Cursors.{moved_down_of};
 ghost use Rattle.dutch_order.specs.declared.numbers.TheConstants.{LIMIT};
 
@@ -120,4 +120,12 @@ impl Bracket {
         self.put_residents(&mut residents);
         residents
     }
+}
+
+/// A shape that fits its bracket: the bracket has players enough for it.
+#[derive(Clone, Copy)]
+pub struct FittingShape<'a> {
+    pub bracket: &'a Bracket,
+    pub shape: Shape,
+    ghost fits: { Fits bracket.now shape },
 }

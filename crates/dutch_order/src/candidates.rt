@@ -17,9 +17,9 @@ ghost use Rattle.dutch_order.specs.declared.steps.Step.TheVariants.{Found, End, 
 
 use crate::arrangement::{Arrangement, Held};
 use crate::bound::Bound;
-use crate::bracket::{Bracket, Shape};
+use crate::bracket::{Bracket, FittingShape, Shape};
 use crate::candidate::Candidate;
-use crate::choices::{InBracket, Levels, no_levels};
+use crate::choices::{Levels, no_levels};
 use crate::cursor::Cursor;
 use crate::cuts::{Cuts, NoCuts, Within};
 use crate::levels::Arranges;
@@ -51,13 +51,6 @@ fn put_left_over(bracket: &Bracket, lists: &Arrangement, left: &mut Numbers)
             left.push(number);
         }
     }
-}
-
-/// A bracket and the rule that says who may be left over in it.
-#[derive(Drop)]
-struct Leave<'a, R> {
-    bracket: &'a Bracket,
-    rule: &'a R,
 }
 
 /// Where arrangements are drawn: from a level, but first the one that was drawn before and is still to be asked about.
@@ -94,11 +87,10 @@ fn ask_leave<R: Rule>(rule: &R, last: bool, down: &[u16], budget: &mut Budget) -
 
 /// Whether every arrangement leaves over more than its bracket may leave: two or more, while the bracket may leave at
 /// most one.
-fn leaves_too_many(bracket: &Bracket, shape: Shape) -> bool
-    requires { Fits bracket.now shape }
-    ensures { result ≡ leaves_too_many bracket.now shape }
+fn leaves_too_many(fitting: &FittingShape<'_>) -> bool
+    ensures { result ≡ leaves_too_many fitting.now.bracket.now fitting.now.shape }
 {
-    bracket.is_last() && bracket.len() - 2 * shape.pairs > 1
+    fitting.bracket.is_last() && fitting.bracket.len() - 2 * fitting.shape.pairs > 1
 }
 
 /// Draws the next arrangement: the one that is kept, or else the level's next.
@@ -120,40 +112,45 @@ fn draw_listed<L: Arranges, C: Cuts>(
     Ok(drawing.kept.take(lists) || drawing.level.next(cuts, lists, budget)?)
 }
 
-/// What an arrangement is asked: whom it leaves over, and whether it is idle.
+/// What an arrangement is asked: whom it leaves over in its bracket, whether the rule lets it, and whether it is idle.
 #[derive(Drop)]
-struct Asking<'q, 'a, R, C> {
-    leave: &'q Leave<'a, R>,
+struct Asking<'q, R, C> {
+    bracket: &'q Bracket,
+    rule: &'q R,
     cuts: &'q C,
 }
 
 /// Draws the next arrangement that leaves over whom its bracket may leave. It may skip those that the cuts know to be
 /// idle.
 fn draw_legal<R: Rule, L: Arranges, C: Cuts>(
-    asking: &Asking<'_, '_, R, C>,
+    asking: &Asking<'_, R, C>,
     drawing: &mut Drawing<L>,
     candidate: &mut Candidate,
     budget: &mut Budget,
 ) -> Drawn
-    ensures answer { let leave = asking.now.leave.now in
-        let may = may_leave (R.may_be_left leave.rule.now) leave.bracket.now in
+    ensures answer { let frame = asking.now.bracket.now in
+        let may = may_leave (R.may_be_left asking.now.rule.now) frame in
         let before = filter may (listed drawing.old.kept ++ L.coming drawing.old.level) in
         let after = filter may (listed drawing.new.kept ++ L.coming drawing.new.level) in
         let Idle = C.Idle asking.now.cuts.now in
         MatchDrawn result
         (Passes Idle before (candidate.new.lists ∷ after)
-        × (candidate.new.down ≡ down leave.bracket.now candidate.new.lists))
+        × (candidate.new.down ≡ down frame candidate.new.lists))
         (Passes Idle before [])
         (Passes Idle before after × (budget.new.used ≡ budget.new.limit)) }
     ensures spends { Spends budget.old budget.new }
 {
-    let leave = asking.leave;
     loop {
         if !draw_listed(drawing, asking.cuts, &mut candidate.lists, budget)? {
             return Ok(false);
         }
-        put_left_over(leave.bracket, &candidate.lists, &mut candidate.down);
-        match ask_leave(leave.rule, leave.bracket.is_last(), &candidate.down, budget) {
+        put_left_over(asking.bracket, &candidate.lists, &mut candidate.down);
+        match ask_leave(
+            asking.rule,
+            asking.bracket.is_last(),
+            &candidate.down,
+            budget,
+        ) {
             Ok(true) => return Ok(true),
             Ok(false) => {}
             Err(Stopped) => {
@@ -166,24 +163,20 @@ fn draw_legal<R: Rule, L: Arranges, C: Cuts>(
 
 /// Begins anew, in place, with a shape: all its arrangements whose pairs may meet, or those that stand behind a cursor.
 fn start_drawing<'a, R: Rule>(
-    leave: &Leave<'a, R>,
     drawing: &mut Drawing<Levels<'a, R>>,
-    shape: Shape,
+    fitting: &FittingShape<'_>,
     own: Option<&'a Cursor>,
+    rule: &'a R,
 )
-    requires fits { Fits leave.now.bracket.now shape }
-    requires given { Of (λ cursor. IsIn cursor (arrangements leave.now.bracket.now shape)) (option_copied own) }
+    requires given { Of (λ cursor. IsIn cursor (arrangements fitting.now.bracket.now fitting.now.shape))
+        (option_copied own) }
     ensures kept { drawing.new.kept ≡ None }
     ensures level { drawing.new.level
-        ≡ in_bracket (R.meets leave.now.rule.now) leave.now.bracket.now shape (option_copied own.entry) }
+        ≡ in_bracket (R.meets rule.now) fitting.now.bracket.now fitting.now.shape (option_copied own.entry) }
 {
     drawing.kept.clear();
     drawing.level.block.has_begun = false;
-    let from = InBracket {
-        bracket: leave.bracket,
-        shape,
-    };
-    drawing.level.blocks.start(&from, own, leave.rule);
+    drawing.level.blocks.start(fitting, own, rule);
 }
 
 /// The same answer, with the candidate that was filled where one was found.
@@ -202,9 +195,9 @@ fn holding(step: Step<()>, filled: Candidate) -> Step<Candidate>
 /// collapsed bracket tried for C.2. It takes no memory.
 #[derive(Drop)]
 pub struct Candidates<'a, R: Rule> {
-    shape: Shape,
-    leave: Leave<'a, R>,
-    // no arrangement can be legal, and this is known without a step
+    fitting: FittingShape<'a>,
+    rule: &'a R,
+    // every arrangement leaves over more than the bracket may, so that none is legal
     too_many_left: bool,
     // `End` was answered
     ended: bool,
@@ -222,21 +215,21 @@ impl<'a, R: Rule> Model for Candidates<'a, R> {
     ghost Value = { Listing R };
 
     ghost view = { λ l. record {
-      frame = l.leave.bracket.now;
-      shape = l.shape;
-      rule = l.leave.rule.now;
-      coming = still_coming l.ended (filter (may_leave (R.may_be_left l.leave.rule.now) l.leave.bracket.now)
+      frame = l.fitting.bracket.now;
+      shape = l.fitting.shape;
+      rule = l.rule.now;
+      coming = still_coming l.ended (filter (may_leave (R.may_be_left l.rule.now) l.fitting.bracket.now)
           (listed l.drawing.kept ++ l.drawing.level));
       latest = l.latest;
       ended = l.ended;
     } };
 
     ghost invariant = { λ l.
-        (l.too_many_left ≡ leaves_too_many l.leave.bracket.now l.shape)
-        × (l.too_many_left ≡ true → filter (may_leave (R.may_be_left l.leave.rule.now) l.leave.bracket.now)
+        (l.too_many_left ≡ leaves_too_many l.fitting.bracket.now l.fitting.shape)
+        × (l.too_many_left ≡ true → filter (may_leave (R.may_be_left l.rule.now) l.fitting.bracket.now)
         (listed l.drawing.kept ++ l.drawing.level) ≡ [])
-        × AreCandidates (R.meets l.leave.rule.now) (R.may_be_left l.leave.rule.now) l.leave.bracket.now l.shape
-        (still_coming l.ended (filter (may_leave (R.may_be_left l.leave.rule.now) l.leave.bracket.now)
+        × AreCandidates (R.meets l.rule.now) (R.may_be_left l.rule.now) l.fitting.bracket.now l.fitting.shape
+        (still_coming l.ended (filter (may_leave (R.may_be_left l.rule.now) l.fitting.bracket.now)
         (listed l.drawing.kept ++ l.drawing.level))) };
 }
 
@@ -251,10 +244,11 @@ impl<'a, R: Rule> Candidates<'a, R> {
         ensures latest { result.latest ≡ None }
     {
         let shape = Shape { pairs: 0, mdps: 0 };
+        let fitting = FittingShape { bracket, shape };
         Candidates {
-            shape,
-            leave: Leave { bracket, rule },
-            too_many_left: leaves_too_many(bracket, shape),
+            fitting,
+            rule,
+            too_many_left: leaves_too_many(&fitting),
             ended: true,
             drawing: Drawing {
                 kept: Held::none(),
@@ -265,22 +259,22 @@ impl<'a, R: Rule> Candidates<'a, R> {
     }
 
     // Begins anew with a shape: all its candidates, or those that stand behind a cursor.
-    fn begin(&mut self, shape: Shape, own: Option<&'a Cursor>)
-        requires fits { Fits self.old.frame shape }
-        requires given { Of (λ cursor. IsIn cursor (arrangements self.old.frame shape)) (option_copied own) }
-        ensures coming { self.new.coming ≡ candidates_from (R.meets self.old.rule)
-            (R.may_be_left self.old.rule) self.old.frame shape (option_copied own.entry) }
-        ensures frame { self.new.frame ≡ self.old.frame }
-        ensures shape { self.new.shape ≡ shape }
+    fn begin(&mut self, fitting: FittingShape<'a>, own: Option<&'a Cursor>)
+        requires given { Of (λ cursor. IsIn cursor (arrangements fitting.bracket.now fitting.shape))
+            (option_copied own) }
+        ensures coming { self.new.coming ≡ candidates_from (R.meets self.old.rule) (R.may_be_left self.old.rule)
+            fitting.entry.bracket.now fitting.entry.shape (option_copied own.entry) }
+        ensures frame { self.new.frame ≡ fitting.entry.bracket.now }
+        ensures shape { self.new.shape ≡ fitting.entry.shape }
         ensures rule { self.new.rule ≡ self.old.rule }
         ensures ended { self.new.ended ≡ false }
         ensures latest { self.new.latest ≡ option_copied own.entry }
     {
-        self.shape = shape;
-        self.too_many_left = leaves_too_many(self.leave.bracket, shape);
+        self.fitting = fitting;
+        self.too_many_left = leaves_too_many(&fitting);
         self.ended = false;
         self.latest.put(own);
-        start_drawing(&self.leave, &mut self.drawing, shape, own);
+        start_drawing(&mut self.drawing, &fitting, own, self.rule);
     }
 
     /// All candidates. The bracket has players enough for the shape.
@@ -294,7 +288,7 @@ impl<'a, R: Rule> Candidates<'a, R> {
         ensures latest { result.latest ≡ None }
     {
         let mut candidates = Candidates::ended(bracket, rule);
-        candidates.begin(shape, None);
+        candidates.begin(FittingShape { bracket, shape }, None);
         candidates
     }
 
@@ -315,7 +309,7 @@ impl<'a, R: Rule> Candidates<'a, R> {
         ensures latest { result.latest ≡ Some cursor.now }
     {
         let mut candidates = Candidates::ended(bracket, rule);
-        candidates.begin(shape, Some(cursor));
+        candidates.begin(FittingShape { bracket, shape }, Some(cursor));
         candidates
     }
 
@@ -330,7 +324,8 @@ impl<'a, R: Rule> Candidates<'a, R> {
         ensures ended { self.new.ended ≡ false }
         ensures latest { self.new.latest ≡ None }
     {
-        self.begin(shape, None);
+        let bracket = self.fitting.bracket;
+        self.begin(FittingShape { bracket, shape }, None);
     }
 
     // The next candidate. Those that `cuts` knows to be idle may be skipped.
@@ -363,7 +358,8 @@ impl<'a, R: Rule> Candidates<'a, R> {
             return Step::End;
         }
         let asking = Asking {
-            leave: &self.leave,
+            bracket: self.fitting.bracket,
+            rule: self.rule,
             cuts,
         };
         match draw_legal(&asking, &mut self.drawing, candidate, budget) {

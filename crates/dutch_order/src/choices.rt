@@ -8,14 +8,14 @@ ghost use Rattle.std.specs.Prelude.{◌≡◌, ◌+◌, ◌≤◌, ℕ, List, No
 ghost use Rattle.std.specs.List.{AllByRecursion};
 ghost use Rattle.std.specs.List.Sorted.{IsStrictlyIncreasing};
 ghost use Rattle.dutch_order.specs.declared.numbers.TheConstants.{LIMIT};
-ghost use Rattle.dutch_order.specs.Arrangements.{Arrangement, Fits, arrangements, left_of};
+ghost use Rattle.dutch_order.specs.Arrangements.{Arrangement, arrangements, left_of};
 ghost use Rattle.dutch_order.specs.Keys.{IsIn};
 ghost use Rattle.dutch_order.specs.Levels.{HasS1r, HasS2, HasS2r, Of, if_own, in_bracket, in_s1, in_s1r, in_s2, joined};
 ghost use Rattle.dutch_order.specs.Levels.{without_own};
 ghost use Rattle.dutch_order.specs.Steps.{MatchDrawn, Passes, Spends};
 
 use crate::arrangement::Arrangement;
-use crate::bracket::{Bracket, Shape};
+use crate::bracket::FittingShape;
 use crate::cursor::Cursor;
 use crate::cuts::{Cuts, CutsTuples, OfS1r, OfS2, OfS2r, Unless};
 use crate::exchange::Exchanges;
@@ -441,13 +441,6 @@ pub struct ByS1<'a, R: Rule> {
     resume: Option<&'a Cursor>,
 }
 
-/// A bracket and a shape for which it has room, from which the levels begin.
-#[derive(Drop)]
-pub struct InBracket<'s> {
-    pub bracket: &'s Bracket,
-    pub shape: Shape,
-}
-
 impl<'a, R: Rule> Model for ByS1<'a, R> {
     ghost use Rattle.std.specs.Prelude.{◌+◌, ◌≤◌, List, length, option_copied};
     ghost use Rattle.std.specs.List.{AllByRecursion};
@@ -482,8 +475,7 @@ impl<'a, R: Rule> ByS1<'a, R> {
 
     /// Begins anew: all arrangements, or those that stand behind a cursor.
     #[tactic(auto, unfolding(crate::specs::Levels::in_bracket))]
-    pub fn start(&mut self, from: &InBracket<'_>, own: Option<&'a Cursor>, rule: &'a R)
-        requires fits { Fits from.now.bracket.now from.now.shape }
+    pub fn start(&mut self, from: &FittingShape<'_>, own: Option<&'a Cursor>, rule: &'a R)
         requires given { Of (λ cursor. IsIn cursor (arrangements from.now.bracket.now from.now.shape))
             (option_copied own) }
         ensures { joined self.new

@@ -10,9 +10,9 @@
 // A search that begins at a set begins in that set's stage, at the set's own path, and then tries the very next
 // difference, since what lies beyond the paths before the set was not seen.
 //
-// A search past idle sets asks about a whole stage where it begins, and about each path of a stage as far as it has
-// begun: what it tells is who is in each set whose path begins so, and who is in none. What lies beyond paths that were
-// left is not known, so then it tries the very next difference too.
+// A search past idle sets asks about a whole stage where it begins, and about each beginning of its paths at which it
+// arrives: what it tells is who is in each set whose path begins so, and who is in none. What lies beyond paths that
+// were left is not known, so then it tries the very next difference too.
 ghost use Rattle.dutch_order.specs.declared.numbers.TheConstants.{LIMIT};
 ghost use Rattle.std.specs.Prelude.{◌≡◌, ◌+◌, ◌*◌, ◌-◌, ◌<◌, ◌≤◌, ℕ, List, suc, true, false, Some, [], ◌∷◌, ◌++◌};
 ghost use Rattle.std.specs.Prelude.{length, map, take, drop};
@@ -162,7 +162,8 @@ fn next_stage(pool: &[u16], k: usize, place: &mut Place) -> bool
     requires few { length pool.now ≤ LIMIT }
     requires enough { k ≤ length pool.now }
     requires spent { ahead (hinted place.old.hint.items
-        (exchange_plan pool.now k place.old.size place.old.difference)) place.old.descent.path.items place.old.descent.number
+        (exchange_plan pool.now k place.old.size place.old.difference)) place.old.descent.path.items
+        place.old.descent.number
         ≡ [] }
     requires standing { IsPlace pool.now k place.old }
     ensures stands { IsPlace pool.now k place.new }
@@ -228,7 +229,7 @@ fn next_set(pool: &[u16], k: usize, place: &mut Place, budget: &mut Budget) -> D
     }
 }
 
-/// What a path that has begun tells of one side: the places that it has chosen, and below which place it is known of
+/// What the beginning of a path tells of one side: the places that it has chosen, and below which place it is known of
 /// all others that they are not chosen.
 #[derive(Drop)]
 struct FixedSide<'a> {
@@ -262,7 +263,8 @@ fn is_fixed(fixed: &FixedSide<'_>, chosen: bool, place: usize) -> bool
 /// Puts the numbers behind others of whose places it is known that they are chosen, or else that they are not.
 fn put_fixed(stage: &ExchangeStage<'_>, fixed: &FixedSide<'_>, chosen: bool, numbers: &mut Numbers)
     requires room { length numbers.old.items
-        + length (fixed_numbers stage.now.pool.now stage.now.k fixed.now.side fixed.now.taken.now fixed.now.limit chosen)
+        + length (fixed_numbers stage.now.pool.now stage.now.k fixed.now.side fixed.now.taken.now fixed.now.limit
+        chosen)
         ≤ LIMIT }
     ensures { numbers.new.items ≡ numbers.old.items
         ++ fixed_numbers stage.now.pool.now stage.now.k fixed.now.side fixed.now.taken.now fixed.now.limit chosen }
@@ -278,7 +280,7 @@ fn put_fixed(stage: &ExchangeStage<'_>, fixed: &FixedSide<'_>, chosen: bool, num
     }
 }
 
-/// What a path tells of those moved out.
+/// What a beginning tells of those moved out.
 #[tactic(auto, unfolding(crate::specs::Stages::out_limit))]
 fn fixed_out<'a>(stage: &ExchangeStage<'_>, beginning: &'a [u16]) -> FixedSide<'a>
     ensures side { result.side ≡ Out }
@@ -375,7 +377,7 @@ fn cuts_beginning<C: CutsExchanges>(
     cuts.cuts(&exchange)
 }
 
-/// What is told of exchanges, told of the paths of a stage that have begun.
+/// What is told of exchanges, told of the beginnings of a stage's paths.
 #[derive(Drop)]
 struct OfStage<'c, C> {
     stage: &'c ExchangeStage<'c>,
@@ -453,7 +455,8 @@ fn climb_stage<C: CutsExchanges>(
         let before = hits (ahead plan descent.old.path.items descent.old.number) in
         let after = hits (ahead plan descent.new.path.items descent.new.number) in
         MatchDrawn result
-        (Passes Idle before (descent.new.path.items ∷ after) × (length descent.new.path.items ≡ stage.size + stage.size))
+        (Passes Idle before (descent.new.path.items ∷ after)
+        × (length descent.new.path.items ≡ stage.size + stage.size))
         (Passes Idle before [] × (ahead plan descent.new.path.items descent.new.number ≡ []))
         (Passes Idle before after × (budget.new.used ≡ budget.new.limit)) }
     ensures known { KeepsBeyond (hinted tree.now.hint.now.items (exchange_plan tree.now.tree.pool.now tree.now.tree.k
@@ -468,8 +471,8 @@ fn climb_stage<C: CutsExchanges>(
     climb_past(tree, &paths, descent, budget)
 }
 
-/// Goes on to the next set, whose path the descent then has, past such as are known to be idle. All that was passed over
-/// is idle.
+/// Goes on to the next set, whose path the descent then has, past such as are known to be idle. All that was passed
+/// over is idle.
 fn next_set_past<C: CutsExchanges>(
     sides: &Sides<'_>,
     cuts: &C,

@@ -1,11 +1,11 @@
-// What is known of an exchange, specified by its lists and numbers.
+// A class of exchanges, specified by its lists and numbers.
 ghost use Rattle.std.specs.Prelude.{◌≡◌};
 
 use std::marker::Model;
 
-/// What is known of the S1R of arrangements whose S1 and S2 are chosen (C.04.3 D.2): by how many players it differs
-/// from the original one, and by how much the sum of its numbers is greater; some who are in it; and some who are not.
-/// Players are named by their numbers in the bracket.
+/// A class of S1R, of arrangements whose S1 and S2 are chosen (C.04.3 D.2): by how many players each differs from the
+/// original one, and by how much the sum of its numbers is greater; some who are in it; and some who are not. Players
+/// are named by their numbers in the bracket.
 #[derive(Drop)]
 pub struct Exchange<'a> {
     pub(crate) original: &'a [u16],
@@ -60,14 +60,14 @@ impl<'a> Exchange<'a> {
         self.difference
     }
 
-    /// Some who are known to be in S1R.
+    /// Some who are in S1R.
     pub fn held(&self) -> &[u16]
         ensures { result.now ≡ self.now.held }
     {
         self.held
     }
 
-    /// Some who are known not to be in it.
+    /// Some who are not in it.
     pub fn barred(&self) -> &[u16]
         ensures { result.now ≡ self.now.barred }
     {

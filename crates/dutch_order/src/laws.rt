@@ -15,8 +15,7 @@ ghost use Rattle.dutch_order.specs.Forms.{HasArrangement, IsInForm, TakesPair, p
 ghost use Rattle.dutch_order.specs.Cursors.{cursor_text, has_syntax, is_of, cursor_of};
 ghost use Rattle.dutch_order.specs.declared.cursor.CursorFault.TheVariants.{Syntax};
 
-// Laws of the definitions alone: the orders of choices are orders, and the lists of choices are what they are said to
-// be.
+// The orders of choices are orders, and the lists of choices are what they are said to be.
 
 /// Each order of choices is a total order (D.1, D.2, D.3).
 pub fn orders_are_total()
@@ -64,6 +63,8 @@ pub fn exchanges_lower_no_sum()
         → sum_of (moved_out pool k set) ≤ sum_of (moved_in pool k set) }
 {}
 
+// Each arrangement comes once; which pairs are those of one (B.2, B.3), and when there is one with a pair more.
+
 /// Each arrangement of a bracket and shape comes once, and none stands behind itself; so each candidate comes once: of
 /// all of them, of those behind an arrangement, and of what is still to come of either.
 pub fn each_arrangement_comes_once()
@@ -77,9 +78,6 @@ pub fn each_arrangement_comes_once()
         (passed coming : List Arrangement)
         → rest meets may_be_left frame shape a ≡ passed ++ coming → HasEachOnce coming }
 {}
-
-// Laws of the definitions alone: which pairs are those of an arrangement (C.04.3 B.2, B.3), and when there is one with
-// a pair more.
 
 /// Pairs in form are those of some arrangement of their shape, and the pairs of each arrangement are in form.
 pub fn pairs_in_form_are_arranged()
@@ -100,7 +98,7 @@ pub fn downfloaters_make_a_pair()
         → TakesPair frame shape a (x, y) }
 {}
 
-// Laws of cursors: which arrangements are of a bracket and shape, and that reading takes exactly what printing gives.
+// Which arrangements are of a bracket and shape, and that reading a cursor takes exactly what printing gives.
 
 /// The arrangements whose lists are of a bracket and shape are those that article D puts in order.
 pub fn arrangements_are_of()

@@ -299,9 +299,9 @@ fn go_back<T: Tree>(tree: &T, descent: &mut Descent) -> bool
     }
 }
 
-/// Goes on to the next whole path, which the descent then has, unless the budget or the search ends before it. It leaves
-/// out beginnings that are known to be idle: it asks at the start, and wherever a number was taken or given back. No
-/// question is a step.
+/// Goes on to the next whole path, which the descent then has, unless the budget or the search ends before it. It
+/// leaves out beginnings that are known to be idle: it asks at the start, and wherever a number was taken or given
+/// back. No question is a step.
 pub fn climb_past<T: Tree, C: CutsPaths>(
     tree: &T,
     cuts: &C,
@@ -375,7 +375,8 @@ pub fn climb_on<T: Tree>(tree: &T, descent: &mut Descent, budget: &mut Budget) -
         × (0 < trials (ahead (T.plan tree.now) descent.new.path.items descent.new.number))) }
     ensures steps { budget.new.used + trials (ahead (T.plan tree.now) descent.new.path.items descent.new.number)
         ≡ budget.old.used + trials (ahead (T.plan tree.now) descent.old.path.items descent.old.number) }
-    ensures beyond { lower descent.new.beyond (lowest (ahead (T.plan tree.now) descent.new.path.items descent.new.number))
+    ensures beyond { lower descent.new.beyond
+        (lowest (ahead (T.plan tree.now) descent.new.path.items descent.new.number))
         ≡ lower descent.old.beyond (lowest (ahead (T.plan tree.now) descent.old.path.items descent.old.number)) }
     ensures spends { Spends budget.old budget.new }
 {

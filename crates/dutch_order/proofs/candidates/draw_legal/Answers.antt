@@ -13,13 +13,13 @@ loop-candidate-init g c = record {
 pub returns-then-not-branch-clause-answer : goal.returns-then-not-branch-clause-answer
 returns-then-not-branch-clause-answer g c =
     let Idle = g.C.Cuts.Idle c.args.asking.now.cuts.now in
-    let may = may_leave (g.R.Rule.may_be_left c.args.asking.now.leave.now.rule.now) c.args.asking.now.leave.now.bracket.now in
+    let may = may_leave (g.R.Rule.may_be_left c.args.asking.now.rule.now) c.args.asking.now.bracket.now in
     passes-more Idle _ _ _ c.loop-candidate.invariant.passes (passes-filter Idle may _ _ (drawn _ _ _ c.if-not-branch.true c.in_ok-draw_listed.ensures.answer))
 
 pub returns-in_err-draw_listed-clause-answer : goal.returns-in_err-draw_listed-clause-answer
 returns-in_err-draw_listed-clause-answer g c =
     let Idle = g.C.Cuts.Idle c.args.asking.now.cuts.now in
-    let may = may_leave (g.R.Rule.may_be_left c.args.asking.now.leave.now.rule.now) c.args.asking.now.leave.now.bracket.now in
+    let may = may_leave (g.R.Rule.may_be_left c.args.asking.now.rule.now) c.args.asking.now.bracket.now in
     let kept = passes-none Idle _ _ (ap (λ kept. filter may (listed kept ++ g.L.Arranges.coming c.draw_listed.new.drawing.level)) (sym c.in_err-draw_listed.ensures.taken)) in
     let passed = passes-more Idle _ _ _ (passes-filter Idle may _ _ c.in_err-draw_listed.ensures.answer.0) kept in
     drawn-stopped _ _ _ _ c.from_residual.ensures.0 (passes-more Idle _ _ _ c.loop-candidate.invariant.passes passed, c.in_err-draw_listed.ensures.answer.1)
@@ -28,8 +28,8 @@ pub returns-in-Ok-true-clause-answer : goal.returns-in-Ok-true-clause-answer
 unfolding may_leave
 returns-in-Ok-true-clause-answer g c =
     let Idle = g.C.Cuts.Idle c.args.asking.now.cuts.now in
-    let may_be_left = g.R.Rule.may_be_left c.args.asking.now.leave.now.rule.now in
-    let frame = c.args.asking.now.leave.now.bracket.now in
+    let may_be_left = g.R.Rule.may_be_left c.args.asking.now.rule.now in
+    let frame = c.args.asking.now.bracket.now in
     let may = may_leave may_be_left frame in
     let asked = ap (λ last. not last || leaves_one may_be_left c.deref.result.now) c.is_last.ensures ∙ ap (λ left. not frame.last || leaves_one may_be_left left) (c.deref.ensures.0 ∙ c.put_left_over.ensures) in (
       passes-more Idle _ _ _ c.loop-candidate.invariant.passes
@@ -43,7 +43,7 @@ returns-in-Ok-true-clause-answer g c =
 pub returns-in-Err-clause-answer : goal.returns-in-Err-clause-answer
 returns-in-Err-clause-answer g c =
     let Idle = g.C.Cuts.Idle c.args.asking.now.cuts.now in
-    let may = may_leave (g.R.Rule.may_be_left c.args.asking.now.leave.now.rule.now) c.args.asking.now.leave.now.bracket.now in (
+    let may = may_leave (g.R.Rule.may_be_left c.args.asking.now.rule.now) c.args.asking.now.bracket.now in (
       passes-more Idle _ _ _ c.loop-candidate.invariant.passes
           (passes-more Idle _ _ _ (passes-filter Idle may _ _ (drawn _ _ _ c.if-not-branch.false c.in_ok-draw_listed.ensures.answer))
           (passes-none Idle _ _ (ap (λ kept. filter may (listed kept ++ g.L.Arranges.coming c.draw_listed.new.drawing.level)) (sym c.hold.ensures)))),
@@ -54,8 +54,8 @@ pub loop-candidate-preserved : goal.loop-candidate-preserved
 unfolding may_leave
 loop-candidate-preserved g c =
     let Idle = g.C.Cuts.Idle c.args.asking.now.cuts.now in
-    let may_be_left = g.R.Rule.may_be_left c.args.asking.now.leave.now.rule.now in
-    let frame = c.args.asking.now.leave.now.bracket.now in
+    let may_be_left = g.R.Rule.may_be_left c.args.asking.now.rule.now in
+    let frame = c.args.asking.now.bracket.now in
     let may = may_leave may_be_left frame in
     let asked = ap (λ last. not last || leaves_one may_be_left c.deref.result.now) c.is_last.ensures ∙ ap (λ left. not frame.last || leaves_one may_be_left left) (c.deref.ensures.0 ∙ c.put_left_over.ensures) in
     record {

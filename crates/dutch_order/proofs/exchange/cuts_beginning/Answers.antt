@@ -1,6 +1,6 @@
 use Rattle.std.proofs.Common.{rules, ◌<◌, ◌≤◌, length, take, drop, ap, ◌∙◌}
 use Rattle.dutch_order.specs.Prelude.{exchange_class, set_of}
-use Rattle.dutch_order.proofs.Asked.{exchange-at, path-known}
+use Rattle.dutch_order.proofs.Asked.{exchange-at, path-of_class}
 use Rattle.dutch_order.proofs.exchange.cuts_beginning.Goals as goal
 
 pub returns : goal.returns
@@ -10,7 +10,7 @@ returns g c = λ yes' path on of.
     let k = stage.k in
     let enough : k ≤ length pool = search rules in
     let some : 0 < stage.size = search rules in
-    let known = path-known pool k c.requires.ascends enough stage.size stage.difference c.args.beginning.now path some of on in
+    let known = path-of_class pool k c.requires.ascends enough stage.size stage.difference c.args.beginning.now path some of on in
     c.cuts.ensures yes' (set_of pool k stage.size path)
     (exchange-at (exchange_class pool k stage.size stage.difference c.args.beginning.now) (set_of pool k stage.size path) _ _ _ _ known
     c.split_at-2.ensures.front c.split_at-2.ensures.back

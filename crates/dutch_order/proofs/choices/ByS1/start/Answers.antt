@@ -27,7 +27,7 @@ invariant_of-self g c =
     let room = length c.put_residents.new.residents.items in
     let sets = limbo_exchanges (take c.mdps.result c.scores.result.now) shape.mdps in
     let enough : shape.mdps + k ≤ room =
-    omega (arith, c.requires.fits.within_pairs, c.requires.fits.residents_enough, ap length c.put_residents.ensures.items, length-numbers (frame.mdps + 1) (length frame.scores - frame.mdps)) in (
+    omega (arith, c.args.from.now.fits.within_pairs, c.args.from.now.fits.residents_enough, ap length c.put_residents.ensures.items, length-numbers (frame.mdps + 1) (length frame.scores - frame.mdps)) in (
       c.put_residents.ensures.ascends,
       subst (AllByRecursion (λ (s1 : List ℕ). length s1 + k ≤ room)) (sym c.start_from.ensures.coming)
           (from_on-all (λ s1. length s1 + k ≤ room) c.deref.result.now sets (sets-fit (take c.mdps.result c.scores.result.now) shape.mdps k room enough)),
@@ -42,7 +42,7 @@ invariant_of-self-in-None g c =
     let k = shape.pairs - shape.mdps in
     let room = length c.put_residents.new.residents.items in
     let enough : shape.mdps + k ≤ room =
-    omega (arith, c.requires.fits.within_pairs, c.requires.fits.residents_enough, ap length c.put_residents.ensures.items, length-numbers (frame.mdps + 1) (length frame.scores - frame.mdps)) in (
+    omega (arith, c.args.from.now.fits.within_pairs, c.args.from.now.fits.residents_enough, ap length c.put_residents.ensures.items, length-numbers (frame.mdps + 1) (length frame.scores - frame.mdps)) in (
       c.put_residents.ensures.ascends,
       subst (AllByRecursion (λ (s1 : List ℕ). length s1 + k ≤ room)) (sym c.start.ensures.coming)
           (sets-fit (take c.mdps.result c.scores.result.now) shape.mdps k room enough),
