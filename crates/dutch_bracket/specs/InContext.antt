@@ -1,7 +1,7 @@
 -- What is said of a bracket above its lower seats, by the one record that holds its field, the bracket and those seats: each word here is
 -- the definition of the same name over the three.
 use Rattle.std.specs.Prelude.{ℕ, Bool, List, Option}
-use Rattle.dutch_order.specs.Prelude.{Frame, Arrangement, Fits, IsIn, Listing, Beginning, Begins}
+use Rattle.dutch_order.specs.Prelude.{Frame, Arrangement, Fits, Listing}
 use Rattle.dutch_order.specs.declared.bracket.Shape.{Shape}
 use Rattle.dutch_bracket.specs.declared.reached.ByNumber.{ByNumber}
 use Rattle.dutch_bracket.specs.Context.{Context}
@@ -45,7 +45,3 @@ ListsHere context listing = Lists context.facts context.reached listing
 -- C.6 to C.19: the quality of a candidate in it
 abbrev pub quality_here : Context → Arrangement → Quality
 quality_here context a = quality_of context.facts context.reached context.lower a
-
--- something is said of each of its candidates of a shape that have a beginning
-abbrev pub OfEachWithBeginning : Context → Shape → Beginning → (Arrangement → Type 0) → Type 0
-OfEachWithBeginning context shape beginning says = (a : Arrangement) → IsIn a (candidates_here context shape) → Begins beginning a → says a

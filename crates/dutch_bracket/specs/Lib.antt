@@ -15,6 +15,7 @@ pub mod Stops
 pub mod Reached
 pub mod Context
 pub mod InContext
+pub mod Shaped
 pub mod Choice
 pub mod Brackets
 pub mod Groups

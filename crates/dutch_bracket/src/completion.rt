@@ -6,8 +6,8 @@
 ghost use Rattle.std.specs.Prelude.{◌≡◌, ◌+◌, ◌-◌, ◌*◌, ◌<◌, ◌≤◌, ◌&&◌, ◌||◌, Ok, true, false, [], ◌++◌, take, drop};
 ghost use Rattle.std.specs.Prelude.{length, slice_index, if◌then◌else◌};
 ghost use Rattle.std.specs.Result.{IsErr};
-ghost use Rattle.dutch_bracket.specs.Completion.{Completable, most, SpendsAtMost, IsStopped, Takes, MatchAnswer, most_of_bye};
-ghost use Rattle.dutch_bracket.specs.Completion.{most_of_one, most_taking};
+ghost use Rattle.dutch_bracket.specs.Completion.{Completable, most, SpendsAtMost, IsStopped, Takes, MatchAnswer};
+ghost use Rattle.dutch_bracket.specs.Completion.{most_of_bye, most_of_one, most_taking};
 ghost use Rattle.dutch_bracket.specs.CompletionSearch.{Searched, can_go, left_over, meets_one, some_partner, takes_one};
 ghost use Rattle.dutch_bracket.specs.declared.completion.Answer.TheVariants.{No};
 

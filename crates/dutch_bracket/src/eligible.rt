@@ -5,7 +5,8 @@ ghost use Rattle.dutch_order.specs.Prelude.{down, MatchDrawn, MatchFound, Spends
 ghost use Rattle.dutch_bracket.specs.Seated.{seat_of, AllNumbers};
 ghost use Rattle.dutch_bracket.specs.Shapes.{IsFirst, has_member};
 ghost use Rattle.dutch_bracket.specs.Brackets.{is_penultimate, completable};
-ghost use Rattle.dutch_bracket.specs.InContext.{FitsHere, ListsHere, can_be_chosen_here, eligible_here, frame_here};
+ghost use Rattle.dutch_bracket.specs.InContext.{ListsHere, can_be_chosen_here, frame_here};
+ghost use Rattle.dutch_bracket.specs.Shaped.{eligible_in};
 ghost use Rattle.dutch_bracket.specs.Stops.{Decides};
 
 use crate::completion::completes;
@@ -15,7 +16,8 @@ use crate::matched::decided_by_matching;
 use crate::reached::{BracketKind, ByNumber, Reached, Seats, push_all};
 use crate::seated::push_seats;
 use crate::seats::seats;
-use dutch_order::{Budget, Candidate, Shape, Stopped};
+use crate::shaped::ShapedBracket;
+use dutch_order::{Budget, Candidate, Stopped};
 use dutch_player::Field;
 use std::alloc::Global;
 
@@ -147,28 +149,26 @@ pub fn can_be_chosen(
 /// Draws the first candidate of a shape that can be chosen. No says that there is none.
 #[tactic(auto, using(crate::proofs::EligibleLemmas::first_fit, crate::proofs::EligibleLemmas::passes_unfit, crate::proofs::EligibleLemmas::has_none))]
 pub(crate) fn first_eligible(
-    context: &Context<'_>,
+    shaped: &ShapedBracket<'_>,
     lister: &mut Lister<'_, ByNumber<'_>>,
-    shape: Shape,
     budget: &mut Budget,
 ) -> Result<bool, Stopped>
-    requires fits { FitsHere context.now shape }
-    requires lists { ListsHere context.now lister.old.listing }
+    requires lists { ListsHere shaped.now.context.now lister.old.listing }
     ensures answer { MatchDrawn result
-        (IsFirst (eligible_here context.now shape) (frame_here context.now) lister.new.drawn)
-        (has_member (eligible_here context.now shape) ≡ false)
+        (IsFirst (eligible_in shaped.now) (frame_here shaped.now.context.now) lister.new.drawn)
+        (has_member (eligible_in shaped.now) ≡ false)
         (budget.new.used ≡ budget.new.limit) }
-    ensures lists { ListsHere context.now lister.new.listing }
+    ensures lists { ListsHere shaped.now.context.now lister.new.listing }
     ensures spends { Spends budget.old budget.new }
 {
-    lister.listing.restart(shape);
+    lister.listing.restart(shaped.shape);
     let mut left = Seats::new();
     loop {
         let drawn = lister.listing.put_next(&mut lister.drawn, budget);
         if drawn.found()?.is_none() {
             return Ok(false);
         }
-        if can_be_chosen(context, &lister.drawn, &mut left, budget)? {
+        if can_be_chosen(shaped.context, &lister.drawn, &mut left, budget)? {
             return Ok(true);
         }
     }

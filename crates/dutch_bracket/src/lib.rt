@@ -34,6 +34,7 @@ pub mod seated;
 pub mod seats;
 pub mod shape;
 mod shape_bound;
+pub mod shaped;
 pub mod spending;
 mod takers;
 

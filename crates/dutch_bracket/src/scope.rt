@@ -7,7 +7,8 @@ ghost use Rattle.std.specs.Prelude.{◌≡◌, ◌<◌, ◌≤◌, IfSome, true}
 ghost use Rattle.dutch_order.specs.declared.prefix.Filling.TheVariants.{S2r};
 ghost use Rattle.dutch_bracket.specs.Beginnings.{has_s1};
 ghost use Rattle.dutch_order.specs.Prelude.{is_member};
-ghost use Rattle.dutch_bracket.specs.Scopes.{Covers, is_joined, may_stay, moved_down_standing, resident_standing, standing_of};
+ghost use Rattle.dutch_bracket.specs.Scopes.{Covers, is_joined, may_stay, moved_down_standing, resident_standing};
+ghost use Rattle.dutch_bracket.specs.Scopes.{standing_of};
 
 use crate::fixed_lists::has_s1;
 use crate::reached::copied;

@@ -11,8 +11,9 @@ use crate::context::Context;
 use crate::eligible::{at_most, first_eligible};
 use crate::greatest::{Lister, Shapes, greatest_shape};
 use crate::reached::ByNumber;
-use crate::takers::can_go_out;
 use crate::shape_bound::{ShapeBound, bound_by_matchings};
+use crate::shaped::ShapedBracket;
+use crate::takers::can_go_out;
 use dutch_order::{Bracket, Budget, Rule, Shape, Stopped};
 
 impl<'a, 'b> Shapes<ByNumber<'b>> for Context<'a> {
@@ -59,7 +60,11 @@ impl<'a, 'b> Shapes<ByNumber<'b>> for Context<'a> {
         shape: Shape,
         budget: &mut Budget,
     ) -> Result<bool, Stopped> {
-        first_eligible(self, lister, shape, budget)
+        let shaped = ShapedBracket {
+            context: self,
+            shape,
+        };
+        first_eligible(&shaped, lister, budget)
     }
 }
 
@@ -111,7 +116,11 @@ impl<'a, 'b, 'c> Shapes<ByNumber<'c>> for Bounded<'a, 'b> {
         if self.most.mdps < shape.mdps {
             return Ok(false);
         }
-        first_eligible(self.context, lister, shape, budget)
+        let shaped = ShapedBracket {
+            context: self.context,
+            shape,
+        };
+        first_eligible(&shaped, lister, budget)
     }
 }
 
@@ -144,7 +153,7 @@ pub(crate) fn decided_in_few_steps<R: Rule, S: Shapes<R>>(
     }
 }
 
-/// The shape, where matchings bound it or tell it.
+/// The shape, within the bound that matchings give.
 #[tactic(auto, unfolding(crate::specs::Brackets::shape_of))]
 fn found_within<'b>(
     context: &Context<'_>,

@@ -1,5 +1,5 @@
-// The shape of a bracket (C.04.3 C.5, B.1), told by matchings: a barrier says that no candidate has more pairs, or more
-// moved-down players in pairs, and a matching that has as many of both is the pairs of a candidate.
+// A bound of the shape of a bracket (C.04.3 C.5, B.1), by matchings: a barrier says that no candidate has more pairs,
+// or more moved-down players in pairs, and a matching that has as many of both is the pairs of a candidate.
 //
 // Whoever finds the matchings is not trusted: a barrier counts only if the check of it confirms it, and a matching is
 // one by its contract.
@@ -137,16 +137,16 @@ fn matched(alloc: Global, joins: &Joins<'_>, budget: &mut Budget) -> Result<Opti
     }
 }
 
-/// What two matchings tell of the shapes of a bracket. They are looked for only if the most steps that they may take
-/// are left. None says that they were not looked for, or that memory was refused.
+/// The bound of a bracket's shape by two matchings. They are looked for only if the most steps that they may take are
+/// left. None says that they were not looked for, or that memory was refused.
 pub(crate) fn bound_by_matchings(
     alloc: Global,
     rule: ByNumber<'_>,
     budget: &mut Budget,
 ) -> Result<Option<ShapeBound>, Stopped>
     ensures answer { MatchFound result
-        (λ told. IsMost rule.entry.field.now rule.entry.reached.now told.most
-        × IfSome told.shape (IsAlwaysShape rule.entry.field.now rule.entry.reached.now))
+        (λ bound. IsMost rule.entry.field.now rule.entry.reached.now bound.most
+        × IfSome bound.shape (IsAlwaysShape rule.entry.field.now rule.entry.reached.now))
         (Unit {0})
         (budget.new.used ≡ budget.new.limit) }
     ensures spends { Spends budget.old budget.new }

@@ -11,16 +11,18 @@ use Rattle.dutch_bracket.proofs.eligible.first_eligible.Goals as goal
 pub loop-left-init : goal.loop-left-init
 unfolding candidates_of
 loop-left-init c =
-    let facts = c.args.context.now.facts in
-    let reached = c.args.context.now.reached in
-    let lower = c.args.context.now.lower in
+    let context = c.args.shaped.now.context.now in
+    let facts = context.facts in
+    let reached = context.reached in
+    let lower = context.lower in
+    let shape = c.args.shaped.now.shape in
     let coming = c.restart.new.self.coming in
     let before = c.args.lister.now.listing in
-    let listed : candidates_of facts reached c.args.shape ≡ coming =
-    listed_as facts before.rule.field.now reached before.rule.reached.now before.frame c.args.shape coming coming
+    let listed : candidates_of facts reached shape ≡ coming =
+    listed_as facts before.rule.field.now reached before.rule.reached.now before.frame shape coming coming
     c.restart.ensures.coming c.requires.lists.field c.requires.lists.bracket c.requires.lists.frame refl in
     record {
-      same = eligible_is facts reached lower c.args.shape ∙ ap (filter (can_be_chosen facts reached lower)) listed;
+      same = eligible_is facts reached lower shape ∙ ap (filter (can_be_chosen facts reached lower)) listed;
       lists = record {
         frame = c.restart.ensures.frame ∙ c.requires.lists.frame;
         field = ap (λ (rule : ByNumber). rule.field.now) c.restart.ensures.rule ∙ c.requires.lists.field;
