@@ -7,11 +7,11 @@ use Rattle.std.specs.Cmp.Lexicographic.{slice_cmp}
 use Rattle.std.proofs.lemmas.Bool.{false_from_ne_true, true≢false}
 use Rattle.std.proofs.lemmas.Cmp.{nat_list_cmp_total}
 use Rattle.std.proofs.Math.Logic.{∥∥₁_elim}
-use Rattle.dutch_order.specs.declared.bracket.Shape.{Shape}
 use Rattle.dutch_order.specs.Prelude.{Arrangement, IsIn, Beginning}
 use mathlib.Core.Bool.{Bool-set}
-use Rattle.dutch_floors.specs.FloorOf.{Basis, IsBasis, s1_by, s1_of}
-use Rattle.dutch_bracket.specs.Prelude.{is_uniform, fixed_lists, has_s1, is_lower, HasNoBetter, IsNoBetter, Context, NextValue, Quality, is_better, next_in, quality_in, OfEachWithBeginning, candidates_here, quality_here, IsOf}
+use Rattle.dutch_floors.specs.FloorOf.{Basis, IsBasisFor, s1_by, s1_of}
+use Rattle.dutch_bracket.specs.declared.shaped.ShapedBracket.{ShapedBracket}
+use Rattle.dutch_bracket.specs.Prelude.{is_uniform, fixed_lists, has_s1, is_lower, HasNoBetter, IsNoBetter, NextValue, Quality, is_better, next_in, quality_in, OfEachWithBeginning, candidates_in, quality_here, IsOf}
 use Rattle.dutch_floors.specs.Outlooks.{awaited}
 use Rattle.dutch_choice.specs.Prelude.{aim_in, beats, wins, kept_in, HasNoBetterNext, IsBehindAim, IsBehindKept, Weighs, context_of, pass_of}
 use Rattle.dutch_choice.specs.declared.pass.Best.{Best}
@@ -46,7 +46,7 @@ none_better_on q next other first second = (
 
 -- ---- what bars tell
 
-module _ (s : Skipper) (a : Arrangement) (m : IsIn a (candidates_here (context_of s) (pass_of s).shape)) (least : ℕ) (weighs : Weighs s least a) where
+module _ (s : Skipper) (a : Arrangement) (m : IsIn a (candidates_in (pass_of s).shaped)) (least : ℕ) (weighs : Weighs s least a) where
   abbrev it : Quality
   it = quality_here (context_of s) a
 
@@ -57,15 +57,15 @@ module _ (s : Skipper) (a : Arrangement) (m : IsIn a (candidates_here (context_o
   module _ (w : Weighed) (there : s.weights.now ≡ Some w) (f : Quality) (bar : Bar) (at' : IsBar w.scale f bar) where
     no_better_here : Reaches bar f → is_better it f ≡ false
     no_better_here (inl beyond) =
-        behind_all (context_of s).facts (context_of s).reached w.scale (context_of s).lower (pass_of s).shape a (pass_of s).of (pass_of s).fits m at'.falls (weighs w there).0 f at'.on
+        behind_all (context_of s).facts (context_of s).reached w.scale (context_of s).lower (pass_of s).shaped.shape a (pass_of s).of (pass_of s).shaped.fits m at'.falls (weighs w there).0 f at'.on
         (omega (arith, at'.above, beyond, (weighs w there).1))
     no_better_here (inr both) =
-        no_lighter (context_of s).facts (context_of s).reached w.scale (context_of s).lower (pass_of s).shape a (pass_of s).of (pass_of s).fits m at'.falls (weighs w there).0 f at'.on
+        no_lighter (context_of s).facts (context_of s).reached w.scale (context_of s).lower (pass_of s).shaped.shape a (pass_of s).of (pass_of s).shaped.fits m at'.falls (weighs w there).0 f at'.on
         (omega (arith, at'.weight, both.0, (weighs w there).1)) (both.1 w there)
 
     better_here : bar.weight < least → Reaches bar f → is_better f it ≡ true
     better_here passed reaches =
-        then_worse (context_of s).facts (context_of s).reached w.scale (context_of s).lower (pass_of s).shape a (pass_of s).of (pass_of s).fits m at'.falls (weighs w there).0 f at'.on
+        then_worse (context_of s).facts (context_of s).reached w.scale (context_of s).lower (pass_of s).shaped.shape a (pass_of s).of (pass_of s).shaped.fits m at'.falls (weighs w there).0 f at'.on
         (omega (arith, at'.weight, passed, (weighs w there).1)) (no_better_here reaches)
 
   no_better_by : (weights : Option Weighed) → s.weights.now ≡ weights → (f : Quality) (bar : Bar) → HasBar weights (Some f) (Some bar) → Reaches bar f → is_better it f ≡ false
@@ -97,16 +97,17 @@ module _ (s : Skipper) (a : Arrangement) (m : IsIn a (candidates_here (context_o
 -- ---- what is awaited
 
 -- C.7: where what is awaited behind a beginning is not better than what a quality says, no candidate is
-pub awaited_by : (context : Context) (shape : Shape) (basis : Basis) → IsBasis context.facts context.reached context.lower shape basis → IsOf context.facts context.reached
+pub awaited_by : (shaped : ShapedBracket) (basis : Basis) → IsBasisFor shaped basis → IsOf shaped.context.now.facts shaped.context.now.reached
     → (b : Beginning) (other : NextValue)
     → ((has_s1 b.filling || is_uniform basis.facts basis.reached basis.shape) ≡ true)
     × IsNoBetter (awaited basis.facts basis.reached basis.shape basis.outlook (s1_of basis b)) other
-    → OfEachWithBeginning context shape b (λ a. HasNoBetter (quality_here context a) other)
-awaited_by context shape basis is of' b other known a m begins =
+    → OfEachWithBeginning shaped b (λ a. HasNoBetter (quality_here shaped.context.now a) other)
+awaited_by shaped basis is of' b other known a m begins =
+    let context = shaped.context.now in
     let Tells : Basis → Type 0 = λ k. ((has_s1 b.filling || is_uniform k.facts k.reached k.shape) ≡ true)
     × IsNoBetter (awaited k.facts k.reached k.shape k.outlook (s1_of k b)) other in
-    let made : basis ≡ record { facts = context.facts; reached = context.reached; shape = shape; outlook = basis.outlook } =
+    let made : basis ≡ record { facts = context.facts; reached = context.reached; shape = shaped.shape; outlook = basis.outlook } =
     λ i. record { facts = is.facts_are i; reached = is.stand_is i; shape = is.shape_is i; outlook = basis.outlook } in
     let told = subst Tells made known in
-    none_better_on (quality_here context a) (awaited context.facts context.reached shape basis.outlook (s1_by b.filling shape (fixed_lists b).s1)) other
-    (awaited_holds context.facts context.reached context.lower shape basis.outlook of' is.outlook b.filling b.lists a (legal_of context.facts context.reached shape a m).arranged begins told.0) told.1
+    none_better_on (quality_here context a) (awaited context.facts context.reached shaped.shape basis.outlook (s1_by b.filling shaped.shape (fixed_lists b).s1)) other
+    (awaited_holds context.facts context.reached context.lower shaped.shape basis.outlook of' is.outlook b.filling b.lists a (legal_of context.facts context.reached shaped.shape a m).arranged begins told.0) told.1

@@ -5,14 +5,14 @@ use Rattle.std.specs.List.{list_any}
 use Rattle.std.proofs.lemmas.Bool.{true≢false}
 use Rattle.std.proofs.lemmas.Bool.Decides.{nat_tests}
 use Rattle.dutch_order.specs.declared.prefix.Filling.{Filling}
-use Rattle.dutch_order.specs.declared.bracket.Shape.{Shape}
 use Rattle.dutch_order.specs.Prelude.{Arrangement, arrangements, IsIn, BeginsAt, Beginning}
 use Rattle.dutch_order.proofs.Orders.{IsIn-append, IsIn-back, IsIn-front}
 use Rattle.dutch_player.specs.Prelude.{Facts}
 use Rattle.dutch_floors.specs.declared.premise.Premise.{Premise}
 use Rattle.dutch_floors.specs.declared.premise.Premise.TheVariants.{Down, Meet}
-use Rattle.dutch_bracket.specs.Prelude.{seated_so, is_uniform, has_s1, lists_by, is_lower, quality, psd_with, Quality, is_better, psd, quality_with, Context, OfEachWithBeginning, quality_here, IsOf, Reached, frame_of, candidates_of, downfloaters, quality_of, all_pairs, floor_over}
-use Rattle.dutch_floors.specs.FloorOf.{Basis, IsBasis, floor_by_seats, floor_given, is_flat, is_known, more_in, psd_over, residents_score, s1_by}
+use Rattle.dutch_bracket.specs.declared.shaped.ShapedBracket.{ShapedBracket}
+use Rattle.dutch_bracket.specs.Prelude.{seated_so, is_uniform, has_s1, lists_by, is_lower, quality, psd_with, Quality, is_better, psd, quality_with, OfEachWithBeginning, quality_here, IsOf, Reached, frame_of, candidates_of, downfloaters, quality_of, all_pairs, floor_over}
+use Rattle.dutch_floors.specs.FloorOf.{Basis, IsBasisFor, floor_by_seats, floor_given, is_flat, is_known, more_in, psd_over, residents_score, s1_by}
 use Rattle.dutch_floors.specs.Premises.{Holds, seated_given, with_pair}
 use Rattle.dutch_floors.specs.Outlooks.{IsOutlook, awaited}
 use Rattle.dutch_choice.specs.Prelude.{HoldsHere}
@@ -121,12 +121,13 @@ module _ (basis : Basis) (lower : List ℕ) (filling : Filling) (lists a : Arran
       stays fixed_pairs (p ∷ []) fixed_beside (known_more p [] (downfloaters facts reached a) (none_known (downfloaters facts reached a)) holds (λ none. none))
 
 -- the same of the bracket that floors are for
-pub none_better : (context : Context) (shape : Shape) (basis : Basis) (known : Premise) (b : Beginning) (floor : Quality)
-    → IsBasis context.facts context.reached context.lower shape basis → IsOf context.facts context.reached → is_known basis b ≡ true → floor ≡ floor_given basis known b
-    → OfEachWithBeginning context shape b (λ a. HoldsHere context known a → is_better (quality_here context a) floor ≡ false)
+pub none_better : (shaped : ShapedBracket) (basis : Basis) (known : Premise) (b : Beginning) (floor : Quality)
+    → IsBasisFor shaped basis → IsOf shaped.context.now.facts shaped.context.now.reached → is_known basis b ≡ true → floor ≡ floor_given basis known b
+    → OfEachWithBeginning shaped b (λ a. HoldsHere shaped.context.now known a → is_better (quality_here shaped.context.now a) floor ≡ false)
 unfolding floor_given floor_by_seats
-none_better context shape basis known b floor is of' there' e a m h holds =
-    from_basis context.facts context.reached context.lower shape basis is
+none_better shaped basis known b floor is of' there' e a m h holds =
+    let context = shaped.context.now in
+    from_basis context.facts context.reached context.lower shaped.shape basis is
     (λ fs st sh. IsOf fs st → IsOutlook fs st context.lower sh basis.outlook → IsIn a (candidates_of fs st sh) → Holds fs st known a
     → is_better (quality_of fs st context.lower a) floor ≡ false)
     (λ of'' outlook m' holds'. ap (is_better (quality_of basis.facts basis.reached context.lower a)) e

@@ -9,8 +9,9 @@ use Rattle.dutch_order.specs.declared.prefix.Filling.TheVariants.{S1, S2, S2r}
 use Rattle.dutch_order.specs.Prelude.{Arrangement, arrangements, left_of, remainder_pairs, numbers_from, IsIn, Begins, BeginsAt, Beginning}
 use Rattle.dutch_player.specs.Prelude.{Facts}
 use Rattle.dutch_bracket.specs.declared.colours_missed.Miss.TheVariants.{Preference}
-use Rattle.dutch_bracket.specs.Prelude.{HasPairsOf, fixed, fixed_lists, has_s1, is_of_shape, lists_by, residents_down, is_uniform, psd_with, repeated, IsFlat, is_lower, quality, Quality, count_in_pairs, highest_first, is_better, misses, psd, quality_with, Context, OfEachWithBeginning, quality_here, IsOf, Reached, frame_of, candidates_of, downfloaters, quality_of, all_pairs, difference, score_at, seat_of, floor_over}
-use Rattle.dutch_floors.specs.FloorOf.{Basis, IsBasis, floor_of, is_flat, is_known, more_by, more_in, psd_over, residents_score, s1_by, s1_of}
+use Rattle.dutch_bracket.specs.declared.shaped.ShapedBracket.{ShapedBracket}
+use Rattle.dutch_bracket.specs.Prelude.{HasPairsOf, fixed, fixed_lists, has_s1, is_of_shape, lists_by, residents_down, is_uniform, psd_with, repeated, IsFlat, is_lower, quality, Quality, count_in_pairs, highest_first, is_better, misses, psd, quality_with, OfEachWithBeginning, quality_here, IsOf, Reached, frame_of, candidates_of, downfloaters, quality_of, all_pairs, difference, score_at, seat_of, floor_over}
+use Rattle.dutch_floors.specs.FloorOf.{Basis, IsBasis, IsBasisFor, floor_of, is_flat, is_known, more_by, more_in, psd_over, residents_score, s1_by, s1_of}
 use Rattle.dutch_floors.specs.Outlooks.{IsOutlook, awaited}
 use Rattle.dutch_bracket.proofs.C06Psd.{psd_by_first, psd_of_all, psd_of_beginning, uniform_of}
 use Rattle.dutch_floors.proofs.C07Outlook.{awaited_holds, flat_residents}
@@ -121,11 +122,12 @@ pub known_s1 : (basis : Basis) (b : Beginning) → is_known basis b ≡ true →
 known_s1 basis b h = (and_parts (is_of_shape basis.reached basis.shape (fixed_lists b)) _ h).1
 
 -- the same of the bracket that floors are for
-pub no_better : (context : Context) (shape : Shape) (basis : Basis) (b : Beginning) (floor : Quality) → IsBasis context.facts context.reached context.lower shape basis
-    → IsOf context.facts context.reached → is_known basis b ≡ true → floor ≡ floor_of basis b
-    → OfEachWithBeginning context shape b (λ a. is_better (quality_here context a) floor ≡ false)
-no_better context shape basis b floor is of' known e a m h =
-    from_basis context.facts context.reached context.lower shape basis is
+pub no_better : (shaped : ShapedBracket) (basis : Basis) (b : Beginning) (floor : Quality) → IsBasisFor shaped basis
+    → IsOf shaped.context.now.facts shaped.context.now.reached → is_known basis b ≡ true → floor ≡ floor_of basis b
+    → OfEachWithBeginning shaped b (λ a. is_better (quality_here shaped.context.now a) floor ≡ false)
+no_better shaped basis b floor is of' known e a m h =
+    let context = shaped.context.now in
+    from_basis context.facts context.reached context.lower shaped.shape basis is
     (λ fs st sh. IsOf fs st → IsOutlook fs st context.lower sh basis.outlook → IsIn a (candidates_of fs st sh) → is_better (quality_of fs st context.lower a) floor ≡ false)
     (λ of'' outlook m'. ap (is_better (quality_of basis.facts basis.reached context.lower a)) e
     ∙ floor_stands basis context.lower a of'' m' b h (known_s1 basis b known) outlook) of' is.outlook m

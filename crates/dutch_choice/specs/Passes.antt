@@ -11,6 +11,7 @@ use Rattle.dutch_choice.specs.declared.pass.Pass.{Pass}
 use Rattle.dutch_choice.specs.declared.pass.Search.{Search}
 use Rattle.dutch_choice.specs.Aims.{aim_in, best_near, best_wished, best_yet, is_unwanted, is_idle}
 use Rattle.dutch_choice.specs.Kept.{IsBest}
+use Rattle.dutch_choice.specs.Remembered.{LooksBelow, Remembered}
 use Rattle.dutch_floors.specs.declared.premise.Premise.{Premise}
 use Rattle.dutch_floors.specs.Premises.{Holds}
 use Rattle.dutch_weights.specs.Prelude.{AreOf, Weighed}
@@ -18,11 +19,11 @@ use Rattle.dutch_weights.specs.Prelude.{AreOf, Weighed}
 -- for how many steps each one of a pass counts: for one alone in the few steps that come first, and behind them once more for each so many
 -- pairs of the shape
 abbrev pub price : Pass → ℕ
-price pass = if pass.is_long then 1 + pass.shape.pairs / PAIRS_FOR_A_STEP else 1
+price pass = if pass.is_long then 1 + pass.shaped.shape.pairs / PAIRS_FOR_A_STEP else 1
 
 -- floors by weight are those of the bracket and the shape of a pass
 abbrev pub AreFor : Pass → Weighed → Type 0
-AreFor pass = AreOf pass.context.now pass.shape
+AreFor pass = AreOf pass.shaped.context.now pass.shaped.shape
 
 -- so are those that there are
 abbrev pub HasWeights : Pass → Option Weighed → Type 0
@@ -30,7 +31,11 @@ HasWeights pass weights = ForSome weights (AreFor pass)
 
 -- a listing is of the bracket of a pass
 abbrev pub ListsFor : Pass → Listing ByNumber → Type 0
-ListsFor pass listing = Lists pass.context.now.facts pass.context.now.reached listing
+ListsFor pass listing = Lists pass.shaped.context.now.facts pass.shaped.context.now.reached listing
+
+-- a look-ahead is that of the bracket of a pass
+abbrev pub LooksFor : Pass → Option Remembered → Type 0
+LooksFor pass look = LooksBelow pass.shaped.context.now look
 
 -- a candidate is one of a bracket
 abbrev pub IsHere : Context → Candidate → Type 0
@@ -42,15 +47,15 @@ HoldsHere context premise a = Holds context.facts context.reached premise a
 
 -- a search, beside what it keeps, finds no interest in a candidate's quality
 abbrev pub IsIdle : Search → Arrangement → Type 0
-IsIdle search a = is_idle (aim_in search.pass.now.aim) search.kept.now (quality_here search.pass.now.context.now a) ≡ true
+IsIdle search a = is_idle (aim_in search.pass.now.aim) search.kept.now (quality_here search.pass.now.shaped.context.now a) ≡ true
 
 -- the same of a candidate that can be chosen
 abbrev pub IsIdleIfFit : Search → Arrangement → Type 0
-IsIdleIfFit search a = can_be_chosen_here search.pass.now.context.now a ≡ true → IsIdle search a
+IsIdleIfFit search a = can_be_chosen_here search.pass.now.shaped.context.now a ≡ true → IsIdle search a
 
 -- it finds no interest in the candidate
 abbrev pub is_unwanted_to : Search → Arrangement → Bool
-is_unwanted_to search = is_unwanted search.pass.now.context.now search.pass.now.wish (aim_in search.pass.now.aim) search.kept.now
+is_unwanted_to search = is_unwanted search.pass.now.shaped.context.now search.pass.now.wish (aim_in search.pass.now.aim) search.kept.now
 
 -- a list of candidates goes on as another one does, once some of its beginning is skipped, each of which is of no interest to a search
 abbrev pub PassesUnwanted : Search → List Arrangement → List Arrangement → Type 0
@@ -63,7 +68,7 @@ Draws search old new = PassesUnwanted search old.listing.coming (new.drawn.lists
 
 -- what a pass chooses of what it keeps and of the candidates to come
 abbrev pub best_of_pass : Pass → Option Best → List Arrangement → Option Arrangement
-best_of_pass pass kept coming = best_yet pass.context.now pass.wish (aim_in pass.aim) kept coming
+best_of_pass pass kept coming = best_yet pass.shaped.context.now pass.wish (aim_in pass.aim) kept coming
 
 -- once a candidate was looked at, what is kept then makes the choice that was to come before
 abbrev pub IsChosenNext : Pass → Option Best → Option Best → Arrangement → Type 0
@@ -71,19 +76,19 @@ IsChosenNext pass before after candidate = (coming : List Arrangement) → best_
 
 -- what a pass chooses of all
 abbrev pub near_of : Pass → Option Arrangement
-near_of pass = best_near pass.context.now pass.wish (aim_in pass.aim) pass.shape
+near_of pass = best_near pass.shaped.context.now pass.wish (aim_in pass.aim) pass.shaped.shape
 
 -- what the passes end with, whatever is aimed at: of the candidates that grant what is wished, and that can be chosen, the first that none is
 -- better than
 abbrev pub wished_of : Pass → Option Arrangement
-wished_of pass = best_wished pass.context.now pass.wish pass.shape
+wished_of pass = best_wished pass.shaped.context.now pass.wish pass.shaped.shape
 
 -- it is found; nothing is found only if there is no such candidate
 abbrev pub IsEnd : Pass → Option Best → Type 0
-IsEnd pass found = MatchOption found (wished_of pass ≡ None) (IsBest pass.context.now (wished_of pass))
+IsEnd pass found = MatchOption found (wished_of pass ≡ None) (IsBest pass.shaped.context.now (wished_of pass))
 
 -- a pass goes on in the same bracket, with the same shape and the same wish
 pub record SeeksTheSame (old new : Pass) : Type 0 where
-  pub context : new.context.now ≡ old.context.now
-  pub shape : new.shape ≡ old.shape
+  pub context : new.shaped.context.now ≡ old.shaped.context.now
+  pub shape : new.shaped.shape ≡ old.shaped.shape
   pub wish : new.wish ≡ old.wish

@@ -1,7 +1,7 @@
 -- What a skipper tells of the candidates that it leaves out (C.04.3 B.8). Only private functions' clauses cite these.
 use Rattle.std.specs.Prelude.{◌≡◌, ℕ, not, true}
 use Rattle.dutch_order.specs.Prelude.{Arrangement, ExchangeClass, IsIn, Beginning}
-use Rattle.dutch_bracket.specs.Prelude.{Context, OfEachWithBeginning, candidates_here, quality_here, NextValue}
+use Rattle.dutch_bracket.specs.Prelude.{Context, OfEachWithBeginning, candidates_in, quality_here, NextValue}
 use Rattle.dutch_choice.specs.declared.pass.Pass.{Pass}
 use Rattle.dutch_choice.specs.declared.bars.Skipper.{Skipper}
 use Rattle.dutch_choice.specs.Aims.{aim_in, beats}
@@ -13,20 +13,20 @@ module _ (skipper : Skipper) where
   pass_of = skipper.search.pass.now
 
   abbrev pub context_of : Context
-  context_of = pass_of.context.now
+  context_of = pass_of.shaped.context.now
 
   -- something is said of each candidate with a beginning
   abbrev pub OfEach : Beginning → (Arrangement → Type 0) → Type 0
-  OfEach beginning says = OfEachWithBeginning context_of pass_of.shape beginning says
+  OfEach beginning says = OfEachWithBeginning pass_of.shaped beginning says
 
   -- and of each with a beginning and such an S1R
   abbrev pub OfEachWith : Beginning → ExchangeClass → (Arrangement → Type 0) → Type 0
   OfEachWith beginning exchange says =
-      (a : Arrangement) → IsIn a (candidates_here context_of pass_of.shape) → BeginsWith beginning exchange a → says a
+      (a : Arrangement) → IsIn a (candidates_in pass_of.shaped) → BeginsWith beginning exchange a → says a
 
   -- a candidate weighs no less than so much, by the floors that are there
   abbrev pub Weighs : ℕ → Arrangement → Type 0
-  Weighs least a = WeighsNoLess context_of pass_of.shape skipper.weights.now least (quality_here context_of a)
+  Weighs least a = WeighsNoLess context_of pass_of.shaped.shape skipper.weights.now least (quality_here context_of a)
 
   -- C.7: a candidate has no better value of the next bracket than this, or its weight tells of that
   abbrev pub HasNoBetterNext : NextValue → Arrangement → Type 0

@@ -106,7 +106,7 @@ fn value_below(context: &Context<'_>, matched: &Matched) -> NextValue {
 /// What the next bracket is in a matching; where the weights do not tell of it, the best that it can be.
 fn next_by(pass: &Pass<'_>, weights: &WeightFloors<'_>, matched: &Matched) -> NextValue {
     if weights.counts_next() {
-        value_below(pass.context, matched)
+        value_below(pass.shaped.context, matched)
     } else {
         pass.floors.awaited_first().copied()
     }
@@ -119,7 +119,7 @@ fn aim_by(
     matched: &Matched,
     room: &mut Room,
 ) -> Quality {
-    let context = pass.context;
+    let context = pass.shaped.context;
     seat_matching(context, &matched.pairs, &mut room.seated);
     fill_seated(context.field(), &room.seated, &mut room.quality);
     let next = next_by(pass, weights, matched);
@@ -140,9 +140,11 @@ pub(crate) fn aim_for(
     room: &mut Room,
 ) -> Option<Quality> {
     match (found, pass.wish) {
-        (Some(matched), None) if matched.pairs.len() == pass.shape.pairs => Some(aim_by(
+        (Some(matched), None) if matched.pairs.len() == pass.shaped.shape.pairs => Some(aim_by(
             pass, weights, matched, room,
         )),
-        _ => pass.floors.aim(premise_with(pass.context, pass.wish)),
+        _ => pass
+            .floors
+            .aim(premise_with(pass.shaped.context, pass.wish)),
     }
 }

@@ -2,14 +2,13 @@
 ghost use Rattle.std.specs.Prelude.{◌≡◌, ◌+◌, ◌-◌, ◌*◌, ◌≤◌, [], None, Some, IfOk, IfSome, min};
 ghost use Rattle.std.specs.Result.{MatchResult};
 ghost use Rattle.dutch_order.specs.Prelude.{MatchDrawn, MatchFound, MatchStep, Spends};
-ghost use Rattle.dutch_bracket.specs.Prelude.{IsAbove, HasCandidate, FitsHere};
-ghost use Rattle.dutch_floors.specs.Outlooks.{IsOutlook};
+ghost use Rattle.dutch_bracket.specs.Prelude.{IsAbove, HasCandidate};
+ghost use Rattle.dutch_floors.specs.Outlooks.{IsOutlookFrom};
 ghost use Rattle.dutch_choice.specs.Aims.{best_wished};
 ghost use Rattle.dutch_choice.specs.Chosen.{IsChoice};
 ghost use Rattle.dutch_choice.specs.Kept.{IsBest, IsKept};
 ghost use Rattle.dutch_choice.specs.Passes.{AreFor, Draws, HasWeights, IsChosenNext, IsEnd, IsHere, ListsFor};
-ghost use Rattle.dutch_choice.specs.Passes.{PassesUnwanted, SeeksTheSame, near_of, price, wished_of};
-ghost use Rattle.dutch_choice.specs.Remembered.{LooksBelow};
+ghost use Rattle.dutch_choice.specs.Passes.{LooksFor, PassesUnwanted, SeeksTheSame, near_of, price, wished_of};
 
 use crate::aiming::aim_for;
 use crate::bars::{Skipper, bars_of};
@@ -25,6 +24,7 @@ use dutch_bracket::quality::{Quality, Room};
 use dutch_bracket::reached::{BracketKind, ByNumber, Reached, Seats};
 use dutch_bracket::scope::Scope;
 use dutch_bracket::shape::shape_of;
+use dutch_bracket::shaped::ShapedBracket;
 use dutch_bracket::spending::spend;
 use dutch_floors::floor::Floors;
 use dutch_floors::outlook::Outlook;
@@ -57,8 +57,8 @@ pub enum Choice {
     Undecided,
 }
 
-/// Keeps a candidate in place of the one before it if it grants what is wished, is of interest and can be chosen. (It is
-/// put where that one stands, and not handed out: a candidate is large, and most are passed over.)
+/// Keeps a candidate in place of the one before it if it grants what is wished, is of interest and can be chosen. (It
+/// is put where that one stands, and not handed out: a candidate is large, and most are passed over.)
 #[tactic(auto, using(crate::proofs::AimLemmas::unwished_passed, crate::proofs::AimLemmas::idle_passed, crate::proofs::AimLemmas::winner_kept, crate::proofs::AimLemmas::unfit_passed))]
 fn consider(
     pass: &Pass<'_>,
@@ -67,24 +67,24 @@ fn consider(
     judge: &mut Judge<'_>,
     budget: &mut Budget,
 ) -> Result<(), Stopped>
-    requires candidate { IsHere pass.now.context.now candidate.now }
-    requires kept { IsKept pass.now.context.now kept.old }
-    requires look { LooksBelow pass.now.context.now judge.old.look }
+    requires candidate { IsHere pass.now.shaped.context.now candidate.now }
+    requires kept { IsKept pass.now.shaped.context.now kept.old }
+    requires look { LooksFor pass.now judge.old.look }
     ensures answer { MatchResult result (λ _. IsChosenNext pass.now kept.old kept.new candidate.now.lists)
         (λ _. budget.new.used ≡ budget.new.limit) }
-    ensures kept { IsKept pass.now.context.now kept.new }
-    ensures look { LooksBelow pass.now.context.now judge.new.look }
+    ensures kept { IsKept pass.now.shaped.context.now kept.new }
+    ensures look { LooksFor pass.now judge.new.look }
     ensures weights { judge.new.weights ≡ judge.old.weights }
     ensures spends { Spends budget.old budget.new }
 {
     if !is_wished(pass.wish, candidate) {
         return Ok(());
     }
-    judge_candidate(pass.context, candidate, judge, budget)?;
+    judge_candidate(pass.shaped.context, candidate, judge, budget)?;
     if is_idle(&judge.room.quality, &pass.aim, kept) {
         return Ok(());
     }
-    if can_be_chosen(pass.context, candidate, &mut judge.left, budget)? {
+    if can_be_chosen(pass.shaped.context, candidate, &mut judge.left, budget)? {
         let quality = take(&mut judge.room.quality);
         let candidate = candidate.copied();
         *kept = Some(Best { candidate, quality });
@@ -100,7 +100,7 @@ fn draw_once(
     budget: &mut Budget,
 ) -> Step<()>
     requires lists { ListsFor search.pass.now lister.old.listing }
-    requires shape { lister.old.listing.shape ≡ search.pass.now.shape }
+    requires shape { lister.old.listing.shape ≡ search.pass.now.shaped.shape }
     requires weights { HasWeights search.pass.now judge.old.weights }
     ensures answer { MatchStep result
         (λ _. Draws search.entry lister.old lister.new)
@@ -127,7 +127,7 @@ fn price(pass: &Pass<'_>) -> u64
     ensures { result ≡ price pass.now }
 {
     if pass.is_long {
-        1 + (pass.shape.pairs / PAIRS_FOR_A_STEP) as u64
+        1 + (pass.shaped.shape.pairs / PAIRS_FOR_A_STEP) as u64
     } else {
         1
     }
@@ -191,7 +191,7 @@ fn draw(
     budget: &mut Budget,
 ) -> Result<bool, Stopped>
     requires lists { ListsFor search.pass.now lister.old.listing }
-    requires shape { lister.old.listing.shape ≡ search.pass.now.shape }
+    requires shape { lister.old.listing.shape ≡ search.pass.now.shaped.shape }
     requires weights { HasWeights search.pass.now judge.old.weights }
     ensures answer { MatchDrawn result (Draws search.entry lister.old lister.new)
         (PassesUnwanted search.entry lister.old.listing.coming [])
@@ -227,18 +227,18 @@ fn best_near<'a>(
     budget: &mut Budget,
 ) -> Result<Option<Best>, Stopped>
     requires lists { ListsFor pass.now lister.old.listing }
-    requires look { LooksBelow pass.now.context.now judge.old.look }
+    requires look { LooksFor pass.now judge.old.look }
     requires weights { HasWeights pass.now judge.old.weights }
     ensures answer { MatchFound result
-        (IsBest pass.now.context.now (near_of pass.now))
+        (IsBest pass.now.shaped.context.now (near_of pass.now))
         (near_of pass.now ≡ None)
         (budget.new.used ≡ budget.new.limit) }
     ensures lists { ListsFor pass.now lister.new.listing }
-    ensures look { LooksBelow pass.now.context.now judge.new.look }
+    ensures look { LooksFor pass.now judge.new.look }
     ensures weights { judge.new.weights ≡ judge.old.weights }
     ensures spends { Spends budget.old budget.new }
 {
-    lister.listing.restart(pass.shape);
+    lister.listing.restart(pass.shaped.shape);
     let mut kept = None;
     while draw(Search { pass, kept: &kept }, lister, judge, budget)? {
         consider(pass, &lister.drawn, &mut kept, judge, budget)?;
@@ -255,14 +255,14 @@ fn best_by_aim<'a>(
     budget: &mut Budget,
 ) -> Result<Option<Best>, Stopped>
     requires lists { ListsFor pass.now lister.old.listing }
-    requires look { LooksBelow pass.now.context.now judge.old.look }
+    requires look { LooksFor pass.now judge.old.look }
     requires weights { HasWeights pass.now judge.old.weights }
     ensures answer { MatchFound result
-        (IsBest pass.now.context.now (wished_of pass.now))
+        (IsBest pass.now.shaped.context.now (wished_of pass.now))
         (Unit {0})
         (budget.new.used ≡ budget.new.limit) }
     ensures lists { ListsFor pass.now lister.new.listing }
-    ensures look { LooksBelow pass.now.context.now judge.new.look }
+    ensures look { LooksFor pass.now judge.new.look }
     ensures weights { judge.new.weights ≡ judge.old.weights }
     ensures spends { Spends budget.old budget.new }
 {
@@ -281,15 +281,15 @@ fn best_in_passes(
     judge: &mut Judge<'_>,
     budget: &mut Budget,
 ) -> Result<Option<Best>, Stopped>
-    requires look { LooksBelow pass.old.context.now judge.old.look }
+    requires look { LooksFor pass.old judge.old.look }
     requires weights { HasWeights pass.old judge.old.weights }
     ensures answer { MatchResult result (IsEnd pass.old) (λ _. budget.new.used ≡ budget.new.limit) }
-    ensures look { LooksBelow pass.old.context.now judge.new.look }
+    ensures look { LooksFor pass.old judge.new.look }
     ensures pass { SeeksTheSame pass.old pass.new }
     ensures spends { Spends budget.old budget.new }
 {
-    let rule = pass.context.rule();
-    let mut lister = Lister::new(pass.context.frame(), &rule);
+    let rule = pass.shaped.context.rule();
+    let mut lister = Lister::new(pass.shaped.context.frame(), &rule);
     let by_aim = best_by_aim(pass, &mut lister, judge, budget)?;
     if by_aim.is_some() {
         return Ok(by_aim);
@@ -362,14 +362,20 @@ fn weigh<'a>(
     ensures stopped { MatchResult result (λ _. Unit {0}) (λ _. budget.new.used ≡ budget.new.limit) }
     ensures spends { Spends budget.old budget.new }
 {
-    let count = pass.context.len();
-    if is_weighed(pass.context, next) {
+    let count = pass.shaped.context.len();
+    if is_weighed(pass.shaped.context, next) {
         spend((count * count) as u64, budget)?;
-        if let Ok(Some(weights)) = WeightFloors::weighed(pass.context, pass.shape, next) {
+        if let Ok(Some(weights)) = WeightFloors::weighed(
+            pass.shaped.context,
+            pass.shaped.shape,
+            next,
+        ) {
             return weighed_by(pass, weights, room, budget);
         }
     }
-    let aim = pass.floors.aim(premise_with(pass.context, pass.wish));
+    let aim = pass
+        .floors
+        .aim(premise_with(pass.shaped.context, pass.wish));
     Ok(Weighed { weights: None, aim })
 }
 
@@ -380,11 +386,11 @@ fn best_within<'a>(
     steps: u64,
     budget: &mut Budget,
 ) -> Result<Option<Option<Best>>, Stopped>
-    requires look { LooksBelow pass.old.context.now judge.old.look }
+    requires look { LooksFor pass.old judge.old.look }
     requires weights { HasWeights pass.old judge.old.weights }
     ensures answer { MatchResult result (λ found. IfSome found (IsEnd pass.old))
         (λ _. budget.new.used ≡ budget.new.limit) }
-    ensures look { LooksBelow pass.old.context.now judge.new.look }
+    ensures look { LooksFor pass.old judge.new.look }
     ensures pass { SeeksTheSame pass.old pass.new }
     ensures spends { Spends budget.old budget.new }
 {
@@ -406,10 +412,10 @@ fn best_by_weight<'a>(
     next: bool,
     budget: &mut Budget,
 ) -> Result<Option<Option<Best>>, Stopped>
-    requires look { LooksBelow pass.old.context.now judge.old.look }
+    requires look { LooksFor pass.old judge.old.look }
     ensures answer { MatchResult result (λ found. IfSome found (IsEnd pass.old))
         (λ _. budget.new.used ≡ budget.new.limit) }
-    ensures look { LooksBelow pass.old.context.now judge.new.look }
+    ensures look { LooksFor pass.old judge.new.look }
     ensures pass { SeeksTheSame pass.old pass.new }
     ensures spends { Spends budget.old budget.new }
 {
@@ -431,8 +437,8 @@ fn best_by_weight<'a>(
 /// Whether weights can tell more of the bracket of a pass that wishes nothing: C.7 counts there, and the next lower
 /// scoregroup is not too large.
 fn tells_next(pass: &Pass<'_>) -> bool {
-    match (pass.context.reached().kind(), pass.wish) {
-        (BracketKind::Ordinary, None) => is_weighed(pass.context, true),
+    match (pass.shaped.context.reached().kind(), pass.wish) {
+        (BracketKind::Ordinary, None) => is_weighed(pass.shaped.context, true),
         _ => false,
     }
 }
@@ -444,12 +450,12 @@ fn best_in_time<'a>(
     judge: &mut Judge<'a>,
     budget: &mut Budget,
 ) -> Result<Option<Best>, Stopped>
-    requires look { LooksBelow pass.old.context.now judge.old.look }
+    requires look { LooksFor pass.old judge.old.look }
     requires weights { HasWeights pass.old judge.old.weights }
     ensures answer { MatchResult result (IsEnd pass.old) (λ _. budget.new.used ≡ budget.new.limit) }
     ensures spends { Spends budget.old budget.new }
 {
-    let few = few_steps(pass.context.len());
+    let few = few_steps(pass.shaped.context.len());
     if let Some(found) = best_within(pass, judge, few, budget)? {
         return Ok(found);
     }
@@ -466,14 +472,12 @@ fn best_in_time<'a>(
 }
 
 /// The best that the next bracket can be, as far as a quarter of the steps that are left tells it.
-fn outlook_of(context: &Context<'_>, shape: Shape, budget: &mut Budget) -> Result<Outlook, Stopped>
-    requires fits { FitsHere context.now shape }
-    ensures answer { MatchResult result (IsOutlook context.now.facts context.now.reached context.now.lower shape)
-        (λ _. budget.new.used ≡ budget.new.limit) }
+fn outlook_of(shaped: &ShapedBracket<'_>, budget: &mut Budget) -> Result<Outlook, Stopped>
+    ensures answer { MatchResult result (IsOutlookFrom shaped.now) (λ _. budget.new.used ≡ budget.new.limit) }
     ensures spends { Spends budget.old budget.new }
 {
     let mut few = at_most((budget.limit - budget.used) / 4, budget);
-    let found = Outlook::find(context, shape, &mut few);
+    let found = Outlook::find(shaped, &mut few);
     budget.used = few.used;
     if let Ok(outlook) = found {
         return Ok(outlook);
@@ -481,39 +485,36 @@ fn outlook_of(context: &Context<'_>, shape: Shape, budget: &mut Budget) -> Resul
     if budget.used == budget.limit {
         return Err(Stopped);
     }
-    Ok(Outlook::by_counts(context, shape))
+    Ok(Outlook::by_counts(shaped))
 }
 
 /// Of the candidates of a shape that can be chosen, and that grant the wish if there is one, the first that none of
 /// them is better than: what a pass with an aim ends with, or if that is nothing, one without. `End` says that there is
 /// none.
 pub fn best_of<'a>(
-    context: &'a Context<'a>,
-    shape: Shape,
+    shaped: &ShapedBracket<'a>,
     wish: Option<Wish>,
     budget: &mut Budget,
 ) -> Result<Step<Best>, PairFault>
-    requires fits { FitsHere context.now shape }
-    ensures answer { IfOk result (λ step. MatchStep step
-        (IsBest context.now (best_wished context.now wish shape))
-        (best_wished context.now wish shape ≡ None)
+    ensures answer { let context = shaped.now.context.now in IfOk result (λ step. MatchStep step
+        (IsBest context (best_wished context wish shaped.now.shape))
+        (best_wished context wish shaped.now.shape ≡ None)
         (budget.new.used ≡ budget.new.limit)) }
     ensures spends { Spends budget.old budget.new }
 {
     let mut judge = Judge {
-        look: look_below(context)?,
+        look: look_below(shaped.context)?,
         room: Room::default(),
         left: Seats::new(),
         weights: None,
     };
-    let Ok(outlook) = outlook_of(context, shape, budget) else {
+    let Ok(outlook) = outlook_of(shaped, budget) else {
         return Ok(Step::Undecided);
     };
-    let floors = Floors::new(context, shape, outlook);
-    let premise = premise_with(context, wish);
+    let floors = Floors::new(shaped, outlook);
+    let premise = premise_with(shaped.context, wish);
     let mut pass = Pass {
-        context,
-        shape,
+        shaped: *shaped,
         wish,
         aim: floors.aim(premise),
         is_long: false,
@@ -538,7 +539,8 @@ pub fn choose_in<'a>(context: &'a Context<'a>, budget: &mut Budget) -> Result<Ch
         Ok(None) => unreachable!(),
         Err(Stopped) => return Ok(Choice::Undecided),
     };
-    match best_of(context, shape, None, budget)? {
+    let shaped = ShapedBracket { context, shape };
+    match best_of(&shaped, None, budget)? {
         Step::Found(best) => Ok(Choice::Chosen {
             shape,
             candidate: best.candidate,

@@ -1,4 +1,4 @@
-// Laws of wishes, and of the weight of a candidate (C.04.3 B.3, C.6 to C.19).
+// Laws of wishes (C.04.3 B.3, B.8), and of the weight of a candidate (C.6 to C.19).
 ghost use Rattle.std.specs.Prelude.{◌≡◌, ◌⊎◌, ◌↔◌, ℕ, List, Some, false, true, ◌+◌, ◌-◌, ◌*◌, ◌<◌, ◌≤◌, ◌++◌, ◌%◌};
 ghost use Rattle.std.specs.Prelude.{is_some, length, sum_by, nat_lt};
 ghost use Rattle.std.specs.List.{list_any};
@@ -20,8 +20,8 @@ ghost use Rattle.dutch_weights.specs.declared.scoped.Reach.TheVariants.{Bracket,
 ghost use Rattle.dutch_choice.specs.Costs.{costs_here};
 ghost use Rattle.dual.specs.Prelude.{FloorTable, IsFloor, extra_in, cost};
 
-// Laws over the definitions of a wish: when it is granted, and what the best candidate that grants it is, among those
-// that grant it and beside the choice.
+// When a wish is granted, and what the best candidate that grants it is, among those that grant it and beside the
+// choice (B.3, B.8).
 
 /// That two meet is granted exactly if they are one of an arrangement's pairs. That a player of the bracket is left
 /// over is granted exactly if they are one of its downfloaters. None of some candidates grants a wish exactly if each
@@ -60,9 +60,8 @@ pub fn the_choice_is_better_or_before()
         → (is_better_here context chosen a ≡ true) ⊎ IsAsGoodBefore context shape chosen a }
 {}
 
-// Laws of the weight of a candidate: its items that are sums, C.6 and C.8 to C.19, and what the next bracket can be
-// where that is measured, C.7, as the digits of one number (C.04.3). A floor of `dual` bounds it for all candidates
-// with a beginning.
+// The weight of a candidate has its items that are sums, C.6 and C.8 to C.19, and what the next bracket can be where
+// that is measured, C.7, as the digits of one number. A floor of `dual` bounds it for all candidates with a beginning.
 
 /// C.6 to C.19: the weight of a candidate is the sum of what each of its pairs and each of its downfloaters weighs
 /// alone, and, where C.7 is measured, of what its value of the next bracket weighs.

@@ -1,14 +1,14 @@
 // One pass over the candidates of a shape (C.04.3 B.8): what it seeks, and the best candidate that it has found so far.
 ghost use Rattle.std.specs.Prelude.{◌≡◌};
-ghost use Rattle.dutch_bracket.specs.Prelude.{FitsHere, quality_in, IsOf};
-ghost use Rattle.dutch_floors.specs.FloorOf.{IsBasis};
+ghost use Rattle.dutch_bracket.specs.Prelude.{quality_in, IsOf};
+ghost use Rattle.dutch_floors.specs.FloorOf.{IsBasisFor};
 ghost use Rattle.dutch_choice.specs.Aims.{aim_in, is_idle};
 
 use crate::wish::Wish;
-use dutch_bracket::context::Context;
 use dutch_bracket::quality::Quality;
+use dutch_bracket::shaped::ShapedBracket;
 use dutch_floors::floor::Floors;
-use dutch_order::{Candidate, Shape};
+use dutch_order::Candidate;
 
 /// The best candidate so far, with its quality.
 #[derive(Drop)]
@@ -21,16 +21,14 @@ pub struct Best {
 /// alone that the aim is not better than, and with a wish those alone that grant it.
 #[derive(Drop)]
 pub(crate) struct Pass<'a> {
-    pub context: &'a Context<'a>,
-    pub shape: Shape,
+    pub shaped: ShapedBracket<'a>,
     pub wish: Option<Wish>,
     pub(crate) aim: Option<Quality>,
     /// The few steps that come first did not suffice.
     pub(crate) is_long: bool,
     pub(crate) floors: Floors<'a>,
-    ghost of: { IsOf context.now.facts context.now.reached },
-    ghost fits: { FitsHere context.now shape },
-    ghost basis: { IsBasis context.now.facts context.now.reached context.now.lower shape floors },
+    ghost of: { IsOf shaped.context.now.facts shaped.context.now.reached },
+    ghost basis: { IsBasisFor shaped floors },
 }
 
 /// A pass, beside the candidate that it keeps.

@@ -7,9 +7,10 @@
 // of these candidates is better than. With a wish, a floor is enough that holds only for those that grant it: it counts
 // the pair that is wished, or the one who is to go down, from the first question on.
 ghost use Rattle.std.specs.Prelude.{◌≡◌, ◌⊎◌, IfSome, Some, length, true, false};
+ghost use Rattle.dutch_order.specs.declared.bracket.Shape.{Shape};
 ghost use Rattle.dutch_order.specs.Prelude.{Arrangement, IsIn, Begins};
-ghost use Rattle.dutch_bracket.specs.Prelude.{FitsHere, OfEachWithBeginning, candidates_here, quality_here, HasNoBetter};
-ghost use Rattle.dutch_bracket.specs.Prelude.{is_better, next_in, quality_in};
+ghost use Rattle.dutch_bracket.specs.Prelude.{FitsHere, OfEachWithBeginning, candidates_here, candidates_in};
+ghost use Rattle.dutch_bracket.specs.Prelude.{quality_here, HasNoBetter, is_better, next_in, quality_in};
 ghost use Rattle.dutch_floors.specs.Premises.{IsPremise, turned};
 ghost use Rattle.dutch_choice.specs.Passes.{HoldsHere, IsIdle, IsIdleIfFit, is_unwanted_to};
 ghost use Rattle.dutch_choice.specs.Skips.{HasNoBetterNext, IsBehindAim, IsBehindKept, OfEach, OfEachWith, Weighs};
@@ -22,43 +23,42 @@ use crate::pass::{Pass, is_idle};
 use crate::wish::Wish;
 use dutch_bracket::context::Context;
 use dutch_bracket::quality::{Quality, Room};
+use dutch_bracket::shaped::ShapedBracket;
 use dutch_floors::premise::Premise;
-use dutch_order::{Bound, Exchange, Prefix, Shape};
+use dutch_order::{Bound, Exchange, Prefix};
 use wide::Wide;
 
 /// Fills a quality that no candidate with a beginning is better than. No says that none is known.
 fn fill_floor(pass: &Pass<'_>, prefix: &Prefix<'_>, room: &mut Room) -> bool
-    ensures { result ≡ true → OfEachWithBeginning pass.now.context.now pass.now.shape prefix.now
-        (λ a. is_better (quality_here pass.now.context.now a) (quality_in room.new.quality) ≡ false) }
+    ensures { result ≡ true → OfEachWithBeginning pass.now.shaped prefix.now
+        (λ a. is_better (quality_here pass.now.shaped.context.now a) (quality_in room.new.quality) ≡ false) }
 {
     pass.floors.floor(prefix, room)
 }
 
 /// Whether each candidate of a shape has a player in a pair: all moved-down players are in one, or all residents.
 #[tactic(auto, using(dutch_bracket::proofs::ShapeNumbers::small_pairs))]
-fn pairs_always(context: &Context<'_>, shape: Shape, number: u16) -> bool
-    requires { FitsHere context.now shape }
-    ensures { result ≡ true → (a : Arrangement) → IsIn a (candidates_here context.now shape)
+fn pairs_always(shaped: &ShapedBracket<'_>, number: u16) -> bool
+    ensures { result ≡ true → (a : Arrangement) → IsIn a (candidates_in shaped.now)
         → grants (LeftOver number) a ≡ false }
 {
-    let reached = context.reached();
+    let reached = shaped.context.reached();
     if !reached.has(number) {
         return false;
     }
     if usize::from(number) <= reached.mdps() {
-        return shape.mdps == reached.mdps();
+        return shaped.shape.mdps == reached.mdps();
     }
-    context.residents_down(shape) == 0
+    shaped.context.residents_down(shaped.shape) == 0
 }
 
 /// Whether no candidate of a shape grants a wish.
-fn bars(context: &Context<'_>, shape: Shape, wish: Wish) -> bool
-    requires { FitsHere context.now shape }
-    ensures { result ≡ true → (a : Arrangement) → IsIn a (candidates_here context.now shape) → grants wish a ≡ false }
+fn bars(shaped: &ShapedBracket<'_>, wish: Wish) -> bool
+    ensures { result ≡ true → (a : Arrangement) → IsIn a (candidates_in shaped.now) → grants wish a ≡ false }
 {
     match wish {
         Wish::Pair(_, _) => false,
-        Wish::LeftOver(number) => pairs_always(context, shape, number),
+        Wish::LeftOver(number) => pairs_always(shaped, number),
     }
 }
 
@@ -71,30 +71,29 @@ fn begins_without(context: &Context<'_>, wish: Wish, prefix: &Prefix<'_>) -> boo
 }
 
 /// Whether no candidate of a shape that has a beginning grants a wish.
-pub fn rules_out(context: &Context<'_>, shape: Shape, wish: Wish, prefix: &Prefix<'_>) -> bool
-    requires { FitsHere context.now shape }
-    ensures { result ≡ true → OfEachWithBeginning context.now shape prefix.now (λ a. grants wish a ≡ false) }
+pub fn rules_out(shaped: &ShapedBracket<'_>, wish: Wish, prefix: &Prefix<'_>) -> bool
+    ensures { result ≡ true → OfEachWithBeginning shaped.now prefix.now (λ a. grants wish a ≡ false) }
 {
-    bars(context, shape, wish) || begins_without(context, wish, prefix)
+    bars(shaped, wish) || begins_without(shaped.context, wish, prefix)
 }
 
 /// Whether no candidate with a beginning grants what is wished.
 fn is_barred(pass: &Pass<'_>, prefix: &Prefix<'_>) -> bool
-    ensures { result ≡ true → OfEachWithBeginning pass.now.context.now pass.now.shape prefix.now
+    ensures { result ≡ true → OfEachWithBeginning pass.now.shaped prefix.now
         (λ a. is_wished pass.now.wish a ≡ false) }
 {
     match pass.wish {
-        Some(wish) => rules_out(pass.context, pass.shape, wish, prefix),
+        Some(wish) => rules_out(&pass.shaped, wish, prefix),
         None => false,
     }
 }
 
 /// The same of a candidate for which a premise holds.
 fn fill_floor_given(pass: &Pass<'_>, premise: Premise, prefix: &Prefix<'_>, room: &mut Room) -> bool
-    requires { IsPremise pass.now.context.now.facts premise }
-    ensures { result ≡ true → OfEachWithBeginning pass.now.context.now pass.now.shape prefix.now
-        (λ a. HoldsHere pass.now.context.now premise a
-        → is_better (quality_here pass.now.context.now a) (quality_in room.new.quality) ≡ false) }
+    requires { IsPremise pass.now.shaped.context.now.facts premise }
+    ensures { result ≡ true → OfEachWithBeginning pass.now.shaped prefix.now
+        (λ a. HoldsHere pass.now.shaped.context.now premise a
+        → is_better (quality_here pass.now.shaped.context.now a) (quality_in room.new.quality) ≡ false) }
 {
     pass.floors.floor_given(premise, prefix, room)
 }
@@ -137,8 +136,8 @@ pub(crate) fn premise_with(context: &Context<'_>, wish: Option<Wish>) -> Option<
 /// Whether no candidate with a beginning has a better value of the next bracket than a quality says (C.7). A no says
 /// nothing.
 fn has_no_better_next(pass: &Pass<'_>, prefix: &Prefix<'_>, quality: &Quality) -> bool
-    ensures { result ≡ true → OfEachWithBeginning pass.now.context.now pass.now.shape prefix.now
-        (λ a. HasNoBetter (quality_here pass.now.context.now a) (next_in (quality_in quality.now))) }
+    ensures { result ≡ true → OfEachWithBeginning pass.now.shaped prefix.now
+        (λ a. HasNoBetter (quality_here pass.now.shaped.context.now a) (next_in (quality_in quality.now))) }
 {
     pass.floors.has_no_better_next(prefix, quality)
 }
@@ -274,10 +273,11 @@ impl<'a, 'k> Skipper<'a, 'k> {
     fn is_idle_granted(&self, prefix: &Prefix<'_>, room: &mut Room) -> bool
         ensures { result ≡ true → OfEach self.now prefix.now (λ a. is_unwanted_to self.now.search a ≡ true) }
     {
-        let Some(wish) = self.search.pass.wish else {
+        let pass = self.search.pass;
+        let Some(wish) = pass.wish else {
             return false;
         };
-        let Some(premise) = premise_of_wish(self.search.pass.context, wish) else {
+        let Some(premise) = premise_of_wish(pass.shaped.context, wish) else {
             return false;
         };
         self.is_idle_given(premise, prefix, room)
@@ -290,15 +290,15 @@ impl<'a, 'k> Bound for Skipper<'a, 'k> {
 
     ghost use Rattle.dutch_bracket.specs.Prelude.{frame_here, numbers_meet, number_may_be_left};
     ghost use Rattle.dutch_choice.specs.Passes.{is_unwanted_to};
+    ghost use Rattle.dutch_choice.specs.Skips.{context_of};
 
-    ghost frame = { λ s. frame_here s.search.pass.now.context.now };
+    ghost frame = { λ s. frame_here (context_of s) };
 
-    ghost shape = { λ s. s.search.pass.now.shape };
+    ghost shape = { λ s. s.search.pass.now.shaped.shape };
 
-    ghost meets = { λ s. numbers_meet s.search.pass.now.context.now.facts s.search.pass.now.context.now.reached };
+    ghost meets = { λ s. numbers_meet (context_of s).facts (context_of s).reached };
 
-    ghost may_be_left = { λ s. number_may_be_left s.search.pass.now.context.now.facts
-        s.search.pass.now.context.now.reached };
+    ghost may_be_left = { λ s. number_may_be_left (context_of s).facts (context_of s).reached };
 
     ghost is_unwanted = { λ s. is_unwanted_to s.search };
 

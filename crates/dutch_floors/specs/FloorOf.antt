@@ -8,6 +8,7 @@ use Rattle.dutch_order.specs.declared.prefix.Filling.TheVariants.{S1, S2, S2r}
 use Rattle.dutch_order.specs.Prelude.{Arrangement, numbers_from, Beginning}
 use Rattle.dutch_order.specs.declared.numbers.TheConstants.{LIMIT}
 use Rattle.dutch_player.specs.Prelude.{Facts}
+use Rattle.dutch_bracket.specs.declared.shaped.ShapedBracket.{ShapedBracket}
 use Rattle.dutch_bracket.specs.Prelude.{Quality, psd, Reached, Seated, seat_of, score_at, all_pairs, fixed, in_both, fixed_lists, is_of_shape, has_s1, wants, wants_firmly, lonely, psd_with, is_uniform, floor_over}
 use Rattle.dutch_floors.specs.declared.outlook.Outlook.{Outlook}
 use Rattle.dutch_floors.specs.Outlooks.{IsOutlook, awaited}
@@ -21,6 +22,11 @@ pub record Basis : Type 0 where
   pub reached : Reached
   pub shape : Shape
   pub outlook : Outlook
+
+-- that of a bracket above its lower seats with a shape
+abbrev pub basis_for : ShapedBracket → Outlook → Basis
+basis_for shaped outlook =
+    record { facts = shaped.context.now.facts; reached = shaped.context.now.reached; shape = shaped.shape; outlook = outlook }
 
 -- S1; the first one, if none is chosen
 abbrev pub s1_by : Filling → Shape → List ℕ → List ℕ
@@ -112,3 +118,7 @@ pub record IsBasis (facts : Facts) (reached : Reached) (lower : List ℕ) (shape
   pub stand_is : basis.reached ≡ reached
   pub shape_is : basis.shape ≡ shape
   pub outlook : IsOutlook facts reached lower shape basis.outlook
+
+-- the same of a bracket above its lower seats with a shape
+abbrev pub IsBasisFor : ShapedBracket → Basis → Type 0
+IsBasisFor shaped = IsBasis shaped.context.now.facts shaped.context.now.reached shaped.context.now.lower shaped.shape

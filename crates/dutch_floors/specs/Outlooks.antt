@@ -5,7 +5,8 @@ use Rattle.dutch_order.specs.Prelude.{Arrangement, arrangements, left_of, is_sam
 use Rattle.dutch_player.specs.Prelude.{Facts}
 use Rattle.dutch_floors.specs.declared.outlook.Outlook.{Outlook}
 use Rattle.dutch_floors.specs.GhostValues.{first_limbo}
-use Rattle.dutch_bracket.specs.Prelude.{Context, IsFlat, HasNoBetter, NextValue, Reached, frame_of, quality_of, seat_of, score_at}
+use Rattle.dutch_bracket.specs.declared.shaped.ShapedBracket.{ShapedBracket}
+use Rattle.dutch_bracket.specs.Prelude.{IsFlat, HasNoBetter, NextValue, Reached, frame_of, quality_of, seat_of, score_at}
 
 -- the scores of the moved-down players who are not in an S1
 abbrev pub limbo_scores : Facts → Reached → List ℕ → List ℕ
@@ -31,6 +32,6 @@ pub record IsOutlook (facts : Facts) (reached : Reached) (lower : List ℕ) (sha
       → IsFlat facts reached × ((a : Arrangement) → IsIn a (arrangements (frame_of facts reached) shape)
       → limbo_scores facts reached a.s1 ≡ first_limbo facts reached shape → HasNoBetter (quality_of facts reached lower a) value)
 
--- the same of an outlook from a bracket above its lower seats
-abbrev pub IsOutlookHere : Context → Shape → Outlook → Type 0
-IsOutlookHere context = IsOutlook context.facts context.reached context.lower
+-- the same of an outlook from a bracket above its lower seats with a shape
+abbrev pub IsOutlookFrom : ShapedBracket → Outlook → Type 0
+IsOutlookFrom shaped = IsOutlook shaped.context.now.facts shaped.context.now.reached shaped.context.now.lower shaped.shape

@@ -1,5 +1,5 @@
--- A premise, what is taken as given of an arrangement beside how it begins, by seats (C.04.3 B.3). What bounds the choice by beginnings stands on these; a
--- reader of its promise may pass them by.
+-- A premise, what is taken as given of an arrangement beside how it begins, by seats (C.04.3 B.3). What bounds the choice by beginnings
+-- stands on these; a reader of its promise may pass them by.
 use Rattle.std.specs.Prelude.{ℕ, ◌<◌, ◌&&◌, ◌==◌, if◌then◌else◌, List, [], ◌∷◌, ◌++◌, length}
 use Rattle.std.specs.List.{list_any}
 use Rattle.dutch_order.specs.Prelude.{Arrangement, IsIn}

@@ -4,31 +4,30 @@ ghost use Rattle.std.specs.Prelude.{◌≡◌, ◌<◌, ◌≤◌, ◌||◌, ◌
 ghost use Rattle.dutch_order.specs.Prelude.{Fits};
 ghost use Rattle.dutch_order.specs.declared.numbers.TheConstants.{LIMIT};
 ghost use Rattle.dutch_bracket.specs.Prelude.{next_in, quality_in, fixed, HasNumbers, fixed_lists, has_s1, psd_with};
-ghost use Rattle.dutch_bracket.specs.Prelude.{is_uniform, FitsHere, IsOf, frame_of, AllNumbers, HasSeats, IsNoBetter};
+ghost use Rattle.dutch_bracket.specs.Prelude.{is_uniform, IsOf, frame_of, AllNumbers, HasSeats, IsNoBetter};
 ghost use Rattle.dutch_bracket.specs.Prelude.{floor_over};
 ghost use Rattle.dutch_floors.specs.Outlooks.{awaited};
 ghost use Rattle.dutch_floors.specs.FloorOf.{AreWants, is_flat, is_known, residents_score, psd_over, more_by, s1_of};
-ghost use Rattle.dutch_floors.specs.FloorOf.{floor_by, floor_by_seats, floor_given, floor_of};
+ghost use Rattle.dutch_floors.specs.FloorOf.{basis_for, floor_by, floor_by_seats, floor_given, floor_of};
 ghost use Rattle.dutch_floors.specs.Premises.{IsPremise};
 
 use crate::colour_floor::{Wants, missed, missed_strong, more_missed, wants_in};
-use crate::premise::{Premise, fill_given};
 use crate::lonely::lonely;
 use crate::outlook::{Outlook, is_flat, leaves_first};
-use dutch_bracket::fixed_lists::{FixedLists, fill_fixed, fixed_lists, has_s1, is_of_shape};
-use dutch_bracket::context::Context;
+use crate::premise::{Premise, fill_given};
 use dutch_bracket::differences::fill_psd;
+use dutch_bracket::fixed_lists::{FixedLists, fill_fixed, fixed_lists, has_s1, is_of_shape};
 use dutch_bracket::psd_floor::{FlatShape, is_uniform};
 use dutch_bracket::quality::{NextValue, Quality, Room, fill_others};
 use dutch_bracket::seated::Seated;
+use dutch_bracket::shaped::ShapedBracket;
 use dutch_order::{Filling, LIMIT, Numbers, Prefix, Shape, numbered_from};
 use std::marker::Model;
 
 /// What the floors of a bracket and a shape stand on, read once for a choice.
 #[derive(Drop)]
 pub struct Floors<'a> {
-    context: &'a Context<'a>,
-    shape: Shape,
+    shaped: ShapedBracket<'a>,
     // what the next bracket can be at best (C.7)
     outlook: Outlook,
     // there is a resident, and all residents have one score
@@ -45,41 +44,37 @@ pub struct Floors<'a> {
 impl<'a> Model for Floors<'a> {
     ghost use Rattle.std.specs.Prelude.{◌≡◌, true, false};
     ghost use Rattle.dutch_order.specs.Prelude.{numbers_from};
-    ghost use Rattle.dutch_bracket.specs.Prelude.{FitsHere, IsOf, is_uniform};
-    ghost use Rattle.dutch_floors.specs.FloorOf.{AreWants, Basis, is_flat};
+    ghost use Rattle.dutch_bracket.specs.Prelude.{IsOf, is_uniform};
+    ghost use Rattle.dutch_floors.specs.FloorOf.{AreWants, Basis, basis_for, is_flat};
 
     ghost Value = { Basis };
 
-    ghost view = { λ f. record
-        { facts = f.context.now.facts; reached = f.context.now.reached; shape = f.shape; outlook = f.outlook } };
+    ghost view = { λ f. basis_for f.shaped f.outlook };
 
-    ghost invariant = { λ f. (IsOf f.context.now.facts f.context.now.reached)
-        × (FitsHere f.context.now f.shape)
-        × (f.flat ≡ is_flat f.context.now.facts f.context.now.reached)
-        × (f.uniform ≡ is_uniform f.context.now.facts f.context.now.reached f.shape)
-        × (f.first.items ≡ numbers_from 1 f.shape.mdps)
-        × (AreWants f.context.now.facts f.context.now.reached f.wants × (f.wants.firm ≡ false))
-        × (AreWants f.context.now.facts f.context.now.reached f.firm_wants × (f.firm_wants.firm ≡ true)) };
+    ghost invariant = { λ f. let context = f.shaped.context.now in (IsOf context.facts context.reached)
+        × (f.flat ≡ is_flat context.facts context.reached)
+        × (f.uniform ≡ is_uniform context.facts context.reached f.shaped.shape)
+        × (f.first.items ≡ numbers_from 1 f.shaped.shape.mdps)
+        × (AreWants context.facts context.reached f.wants × (f.wants.firm ≡ false))
+        × (AreWants context.facts context.reached f.firm_wants × (f.firm_wants.firm ≡ true)) };
 }
 
 impl<'a> Floors<'a> {
     /// The floors of a shape, for what the next bracket can be at best.
     #[tactic(auto, using(dutch_bracket::proofs::ShapeNumbers::small_mdps))]
-    pub fn new(context: &'a Context<'a>, shape: Shape, outlook: Outlook) -> Floors<'a>
-        requires { FitsHere context.now shape }
-        ensures value { result ≡ record
-            { facts = context.now.facts; reached = context.now.reached; shape = shape; outlook = outlook } }
-        ensures of { IsOf context.now.facts context.now.reached }
+    pub fn new(shaped: &ShapedBracket<'a>, outlook: Outlook) -> Floors<'a>
+        ensures value { result ≡ basis_for shaped.now outlook }
+        ensures of { IsOf shaped.now.context.now.facts shaped.now.context.now.reached }
     {
+        let context = shaped.context;
         let flat = is_flat(context);
-        let uniform = is_uniform(context.rule(), shape);
+        let uniform = is_uniform(context.rule(), shaped.shape);
         Floors {
-            context,
-            shape,
+            shaped: *shaped,
             outlook,
             flat,
             uniform,
-            first: numbered_from(1, shape.mdps),
+            first: numbered_from(1, shaped.shape.mdps),
             wants: wants_in(context, false),
             firm_wants: wants_in(context, true),
         }
@@ -93,7 +88,7 @@ impl<'a> Floors<'a> {
         ensures of { IsOf self.now.facts self.now.reached }
         ensures small { result.pairs ≤ LIMIT }
     {
-        self.shape
+        self.shaped.shape
     }
 
     /// How many of the bracket's players want each colour, or only firmly.
@@ -113,7 +108,7 @@ impl<'a> Floors<'a> {
         ensures { psd.new.items ≡ psd_with self.now.facts self.now.reached self.now.shape
             (residents_score self.now.facts self.now.reached) s1.now }
     {
-        let context = self.context;
+        let context = self.shaped.context;
         let flat = FlatShape {
             rule: context.rule(),
             shape: self.shape(),
@@ -138,7 +133,7 @@ impl<'a> Floors<'a> {
     {
         match &self.outlook.first {
             Some(first) => {
-                if leaves_first(self.context, self.shape(), s1) {
+                if leaves_first(&self.shaped, s1) {
                     return first;
                 }
                 return &self.outlook.any;
@@ -174,12 +169,12 @@ impl<'a> Floors<'a> {
         ensures seated { room.new.seated ≡ room.old.seated }
     {
         let shape = self.shape();
-        let more = more_missed(self.context, shape, &room.seated, self.wants(false));
+        let more = more_missed(self.shaped.context, shape, &room.seated, self.wants(false));
         match prefix.filling() {
             Filling::S1 | Filling::S2 => return more,
             Filling::S2r => {
                 let lists = fixed_lists(prefix);
-                return more.max(lonely(self.context, shape, &lists, &mut room.pool));
+                return more.max(lonely(self.shaped.context, shape, &lists, &mut room.pool));
             }
         }
     }
@@ -195,7 +190,7 @@ impl<'a> Floors<'a> {
         if self.flat {
             self.fill_psd_with(s1, psd)
         } else {
-            fill_psd(self.context.field(), seated, psd)
+            fill_psd(self.shaped.context.field(), seated, psd)
         }
     }
 
@@ -208,7 +203,7 @@ impl<'a> Floors<'a> {
         requires more { more ≤ LIMIT }
         ensures { quality_in room.new.quality ≡ floor_by self.now s1.now more room.old.seated }
     {
-        let context = self.context;
+        let context = self.shaped.context;
         let seated = &room.seated;
         let quality = &mut room.quality;
         let more_strong = more_missed(context, self.shape(), seated, self.wants(true));
@@ -228,7 +223,12 @@ impl<'a> Floors<'a> {
         requires few { length s1.now ≤ self.now.shape.mdps }
         ensures { quality_in room.new.quality ≡ floor_by_seats self.now s1.now room.old.seated }
     {
-        let more = more_missed(self.context, self.shape(), &room.seated, self.wants(false));
+        let more = more_missed(
+            self.shaped.context,
+            self.shape(),
+            &room.seated,
+            self.wants(false),
+        );
         self.fill_over(s1, more, room);
     }
 
@@ -243,7 +243,7 @@ impl<'a> Floors<'a> {
         ensures few { is_known self.now prefix.now ≡ true → length (s1_of self.now prefix.now) ≤ self.now.shape.mdps }
     {
         let lists = fixed_lists(prefix);
-        is_of_shape(self.context.reached(), self.shape(), &lists)
+        is_of_shape(self.shaped.context.reached(), self.shape(), &lists)
             && (has_s1(prefix.filling()) || self.uniform)
     }
 
@@ -256,7 +256,7 @@ impl<'a> Floors<'a> {
         if !self.is_known(prefix) {
             return false;
         }
-        fill_fixed(self.context, &fixed_lists(prefix), &mut room.seated);
+        fill_fixed(self.shaped.context, &fixed_lists(prefix), &mut room.seated);
         let more = self.more_by(prefix, room);
         self.fill_over(self.s1(prefix), more, room);
         true
@@ -273,7 +273,7 @@ impl<'a> Floors<'a> {
             return false;
         }
         let lists = fixed_lists(prefix);
-        if !fill_given(self.context, &lists, premise, &mut room.seated) {
+        if !fill_given(self.shaped.context, &lists, premise, &mut room.seated) {
             return false;
         }
         self.fill_by_seats(self.s1(prefix), room);
@@ -281,8 +281,8 @@ impl<'a> Floors<'a> {
     }
 
     /// The quality that a first pass aims at, if all residents have one score: what a beginning with the first S1, and
-    /// what a premise gives beside it, promises up to C.11. Any aim serves: the choice among the candidates that it is not
-    /// better than is the choice of all.
+    /// what a premise gives beside it, promises up to C.11. Any aim serves: the choice among the candidates that it is
+    /// not better than is the choice of all.
     #[tactic(auto, using(dutch_bracket::proofs::ShapeNumbers::first_length, dutch_bracket::proofs::ShapeNumbers::first_numbers))]
     pub fn aim(&self, premise: Option<Premise>) -> Option<Quality>
         requires { IfSome premise (IsPremise self.now.facts) }
@@ -299,11 +299,11 @@ impl<'a> Floors<'a> {
         let mut room = Room::default();
         match premise {
             Some(premise) => {
-                if !fill_given(self.context, &lists, premise, &mut room.seated) {
+                if !fill_given(self.shaped.context, &lists, premise, &mut room.seated) {
                     return None;
                 }
             }
-            None => fill_fixed(self.context, &lists, &mut room.seated),
+            None => fill_fixed(self.shaped.context, &lists, &mut room.seated),
         }
         self.fill_by_seats(&self.first, &mut room);
         Some(room.quality.with_the_worst_floats())

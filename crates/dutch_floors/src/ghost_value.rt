@@ -6,7 +6,7 @@ ghost use Rattle.std.specs.Result.{MatchResult};
 ghost use Rattle.arrayvec.specs.ArrayVec.{array_vec_len};
 ghost use Rattle.dutch_order.specs.Prelude.{IsBracket, left_of, Spends};
 ghost use Rattle.dutch_bracket.specs.declared.reached.BracketKind.TheVariants.{Ordinary};
-ghost use Rattle.dutch_bracket.specs.Prelude.{ghost_frame, FitsHere, group_here, IsFlat, repeated, placed_all, seat_of};
+ghost use Rattle.dutch_bracket.specs.Prelude.{ghost_frame, group_here, IsFlat, repeated, placed_all, seat_of};
 ghost use Rattle.dutch_bracket.specs.Prelude.{score_at, AllNumbers};
 ghost use Rattle.dutch_floors.specs.GhostValues.{first_limbo, first_ghosts, floor_held, ghost_value};
 
@@ -17,7 +17,8 @@ use dutch_bracket::differences::{push_times, put, put_times};
 use dutch_bracket::greatest::greatest_legal;
 use dutch_bracket::quality::NextValue;
 use dutch_bracket::reached::{push_all, push_scores};
-use dutch_order::{Bracket, Budget, LIMIT, Numbers, Shape, Stopped, numbered_from};
+use dutch_bracket::shaped::ShapedBracket;
+use dutch_order::{Bracket, Budget, LIMIT, Numbers, Stopped, numbered_from};
 
 /// Adds the scores of those of some numbers who are not in S1.
 pub(crate) fn push_left(context: &Context<'_>, numbers: &[u16], s1: &[u16], scores: &mut Numbers)
@@ -34,32 +35,35 @@ pub(crate) fn push_left(context: &Context<'_>, numbers: &[u16], s1: &[u16], scor
 }
 
 /// The scores of the moved-down players whom the first S1 of a shape leaves over, in half points.
-pub(crate) fn first_limbo(context: &Context<'_>, shape: Shape) -> Numbers
-    requires { FitsHere context.now shape }
-    ensures items { result.items ≡ first_limbo context.now.facts context.now.reached shape }
-    ensures len { array_vec_len result ≡ context.now.reached.mdps - shape.mdps }
+pub(crate) fn first_limbo(shaped: &ShapedBracket<'_>) -> Numbers
+    ensures items { let context = shaped.now.context.now
+        in result.items ≡ first_limbo context.facts context.reached shaped.now.shape }
+    ensures len { array_vec_len result ≡ shaped.now.context.now.reached.mdps - shaped.now.shape.mdps }
 {
-    let left = context.reached().mdps() - shape.mdps;
-    let limbo = numbered_from(shape.mdps + 1, left);
+    let mdps = shaped.shape.mdps;
+    let left = shaped.context.reached().mdps() - mdps;
+    let limbo = numbered_from(mdps + 1, left);
     let mut scores = ArrayVec::new();
-    push_left(context, &limbo, &[], &mut scores);
+    push_left(shaped.context, &limbo, &[], &mut scores);
     scores
 }
 
 /// The scores of the ghosts for a shape: those of the Limbo of its first S1, and the residents' score for each who goes
 /// down.
 #[tactic(auto, using(crate::proofs::C07Outlook::few_pairs, crate::proofs::GhostBrackets::ghosts_are_a_bracket, dutch_bracket::proofs::NextGroups::first_is_next))]
-fn ghost_scores(context: &Context<'_>, shape: Shape) -> Numbers
-    requires flat { IsFlat context.now.facts context.now.reached }
-    requires fits { FitsHere context.now shape }
-    ensures items { result.items ≡ first_ghosts context.now.facts context.now.reached shape }
-    ensures bracket { let ghosts = first_ghosts context.now.facts context.now.reached shape
-        in IsBracket (ghost_frame context.now.facts ghosts (group_here context.now)).scores (length ghosts) }
+fn ghost_scores(shaped: &ShapedBracket<'_>) -> Numbers
+    requires { IsFlat shaped.now.context.now.facts shaped.now.context.now.reached }
+    ensures items { let context = shaped.now.context.now
+        in result.items ≡ first_ghosts context.facts context.reached shaped.now.shape }
+    ensures bracket { let context = shaped.now.context.now
+        in let ghosts = first_ghosts context.facts context.reached shaped.now.shape
+        in IsBracket (ghost_frame context.facts ghosts (group_here context)).scores (length ghosts) }
 {
-    let mut scores = first_limbo(context, shape);
+    let mut scores = first_limbo(shaped);
+    let context = shaped.context;
     let reached = context.reached();
     let resident = context.field().score(reached.seats()[reached.mdps()]);
-    push_times(resident, context.residents_down(shape), &mut scores);
+    push_times(resident, context.residents_down(shaped.shape), &mut scores);
     scores
 }
 
@@ -109,20 +113,19 @@ fn floor_held(ghosts: &[u16], least: u16, residents: usize, pairs: usize) -> Num
 /// tried at one place in the ghosts' bracket.
 #[tactic(auto, using(crate::proofs::C07Outlook::below_ordinary))]
 pub(crate) fn ghost_value(
-    context: &Context<'_>,
-    shape: Shape,
+    shaped: &ShapedBracket<'_>,
     budget: &mut Budget,
 ) -> Result<NextValue, Stopped>
-    requires ordinary { context.now.reached.kind ≡ Ordinary }
-    requires flat { IsFlat context.now.facts context.now.reached }
-    requires fits { FitsHere context.now shape }
-    ensures answer { MatchResult result
-        (λ v. v ≡ ghost_value context.now.facts context.now.reached shape (group_here context.now))
+    requires ordinary { shaped.now.context.now.reached.kind ≡ Ordinary }
+    requires flat { IsFlat shaped.now.context.now.facts shaped.now.context.now.reached }
+    ensures answer { let context = shaped.now.context.now in MatchResult result
+        (λ v. v ≡ ghost_value context.facts context.reached shaped.now.shape (group_here context))
         (λ _. budget.new.used ≡ budget.new.limit) }
     ensures spends { Spends budget.old budget.new }
 {
+    let context = shaped.context;
     let ghosts = Ghosts::read(context, budget)?;
-    let scores = ghost_scores(context, shape);
+    let scores = ghost_scores(shaped);
     let bracket = ghost_bracket(context, &scores);
     let rule = ghosts.rule(scores.len());
     let Some(most) = greatest_legal(&bracket, &rule, budget)? else {

@@ -1,4 +1,4 @@
-// Laws of floors, of how many miss their colour preference, and of ghosts (C.04.3 C.4, C.6 to C.19).
+// Laws of floors (C.04.3 C.4, C.6 to C.19): of floors as a whole, of colour preferences that are missed, and of ghosts.
 ghost use Rattle.std.specs.Prelude.{◌≡◌, ◌+◌, ◌<◌, ◌≤◌, ℕ, List, false, length, map, true, max, ◌-◌, ◌*◌, ◌/◌, Bool};
 ghost use Rattle.std.specs.Prelude.{[], Some, None, filter, slice_index};
 ghost use Rattle.dutch_order.specs.declared.bracket.Shape.{Shape};
@@ -21,8 +21,8 @@ ghost use Rattle.trf16.specs.declared.cell.Colour.{Colour};
 ghost use Rattle.dutch_bracket.specs.declared.reached.BracketKind.TheVariants.{Ordinary};
 ghost use Rattle.dutch_floors.specs.GhostValues.{first_limbo, first_ghosts, ghost_value};
 
-// Laws of the floors: a quality made from a beginning of an arrangement that no arrangement with this beginning is
-// better than (C.04.3 C.6 to C.19). What bounds the choice by beginnings cites them.
+// A floor is a quality made from a beginning of an arrangement that no arrangement with this beginning is better than
+// (C.6 to C.19). What bounds the choice by beginnings cites these laws.
 
 /// C.6 to C.19: a quality that is nowhere in front of another is not better.
 #[tactic(auto, using(dutch_bracket::proofs::FloorOrder::not_better))]
@@ -95,8 +95,7 @@ pub fn the_ends_tell()
         → IsUniform facts reached shape }
 {}
 
-// Laws of how many players miss their colour preference at least, whatever pairs are added to a beginning (C.04.3 C.10,
-// C.11).
+// How many players miss their colour preference at least, whatever pairs are added to a beginning (C.10, C.11).
 
 /// C.10: if both players of a pair want the same colour, one of them misses it.
 #[tactic(auto, using(crate::proofs::C10Preferences::pair_misses))]
@@ -160,8 +159,7 @@ pub fn a_beginning_with_s1r_misses()
         ≤ (quality_of facts reached lower a).missed_preferences }
 {}
 
-// Laws of ghosts: what ghosts cannot do in place of a bracket's downfloaters, no downfloaters of that bracket can do
-// (C.04.3 C.4, C.7).
+// What ghosts cannot do in place of a bracket's downfloaters, no downfloaters of that bracket can do (C.4, C.7).
 
 /// A number of pairs leaves so many downfloaters. If that many cannot be paired out with the lower players, whoever
 /// they are, then no candidate of a penultimate bracket with so many pairs can be chosen.

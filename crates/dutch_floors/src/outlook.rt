@@ -4,15 +4,16 @@ ghost use Rattle.std.specs.Prelude.{◌≡◌, []};
 ghost use Rattle.std.specs.Result.{MatchResult};
 ghost use Rattle.dutch_bracket.specs.declared.reached.BracketKind.TheVariants.{Ordinary};
 ghost use Rattle.dutch_floors.specs.FloorOf.{is_flat};
-ghost use Rattle.dutch_bracket.specs.Prelude.{pairs_by_counts, FitsHere, group_here, IsAbove, IsOf};
-ghost use Rattle.dutch_floors.specs.Outlooks.{IsOutlookHere, leaves_first};
+ghost use Rattle.dutch_bracket.specs.Prelude.{pairs_by_counts, group_here, IsAbove, IsOf};
+ghost use Rattle.dutch_floors.specs.Outlooks.{IsOutlookFrom, leaves_first};
 ghost use Rattle.dutch_order.specs.Prelude.{Spends};
 
 use crate::ghost_value::ghost_value;
 use dutch_bracket::context::Context;
 use dutch_bracket::quality::NextValue;
 use dutch_bracket::reached::BracketKind;
-use dutch_order::{Budget, Numbers, Shape, Stopped};
+use dutch_bracket::shaped::ShapedBracket;
+use dutch_order::{Budget, Numbers, Stopped};
 
 /// What the next bracket can be at best.
 #[derive(Drop)]
@@ -25,20 +26,20 @@ pub struct Outlook {
 
 /// Whether an S1 leaves a Limbo with the scores of the first one of a shape.
 #[tactic(auto, using(dutch_bracket::proofs::ArrangementParts::next_number), unfolding(crate::specs::Outlooks::leaves_first))]
-pub(crate) fn leaves_first(context: &Context<'_>, shape: Shape, s1: &[u16]) -> bool
-    requires { FitsHere context.now shape }
-    ensures { result ≡ leaves_first context.now.facts context.now.reached shape s1.now }
+pub(crate) fn leaves_first(shaped: &ShapedBracket<'_>, s1: &[u16]) -> bool
+    ensures { let context = shaped.now.context.now
+        in result ≡ leaves_first context.facts context.reached shaped.now.shape s1.now }
 {
-    let moved_down = context.reached().mdps();
+    let moved_down = shaped.context.reached().mdps();
     // how many numbers stand before those of the first Limbo that are to come
-    let mut passed = shape.mdps;
+    let mut passed = shaped.shape.mdps;
     for above in 0..moved_down {
         let number = above as u16 + 1;
         if !s1.contains(&number) {
             if passed == moved_down {
                 return false;
             }
-            if context.score(number) != context.score(passed as u16 + 1) {
+            if shaped.context.score(number) != shaped.context.score(passed as u16 + 1) {
                 return false;
             }
             passed += 1;
@@ -49,15 +50,14 @@ pub(crate) fn leaves_first(context: &Context<'_>, shape: Shape, s1: &[u16]) -> b
 
 /// What half of those who go down and of the next lower scoregroup come to in pairs.
 #[tactic(auto, using(crate::proofs::C07Outlook::few_pairs))]
-fn value_by_counts(context: &Context<'_>, shape: Shape) -> NextValue
-    requires { FitsHere context.now shape }
-    ensures value { result
-        ≡ record { pairs = pairs_by_counts context.now.reached shape (group_here context.now); psd = [] } }
-    ensures above { IsAbove context.now.facts context.now.reached context.now.lower }
+fn value_by_counts(shaped: &ShapedBracket<'_>) -> NextValue
+    ensures value { let context = shaped.now.context.now in result
+        ≡ record { pairs = pairs_by_counts context.reached shaped.now.shape (group_here context); psd = [] } }
+    ensures above { let context = shaped.now.context.now in IsAbove context.facts context.reached context.lower }
 {
-    let down = context.reached().seats().len() - 2 * shape.pairs;
+    let down = shaped.context.reached().seats().len() - 2 * shaped.shape.pairs;
     NextValue {
-        pairs: (down + context.next().len()) / 2,
+        pairs: (down + shaped.context.next().len()) / 2,
         psd: Numbers::new(),
     }
 }
@@ -79,18 +79,12 @@ impl Outlook {
     /// The best that the next bracket of a bracket and a shape can be. In brackets that are not ordinary the next one
     /// does not count.
     #[tactic(auto, using(crate::proofs::C07Outlook::none_counts))]
-    pub fn find(
-        context: &Context<'_>,
-        shape: Shape,
-        budget: &mut Budget,
-    ) -> Result<Outlook, Stopped>
-        requires fits { FitsHere context.now shape }
-        ensures answer { MatchResult result (IsOutlookHere context.now shape)
-            (λ _. budget.new.used ≡ budget.new.limit) }
+    pub fn find(shaped: &ShapedBracket<'_>, budget: &mut Budget) -> Result<Outlook, Stopped>
+        ensures answer { MatchResult result (IsOutlookFrom shaped.now) (λ _. budget.new.used ≡ budget.new.limit) }
         ensures spends { Spends budget.old budget.new }
     {
-        match context.reached().kind() {
-            BracketKind::Ordinary => Outlook::below_ordinary(context, shape, budget),
+        match shaped.context.reached().kind() {
+            BracketKind::Ordinary => Outlook::below_ordinary(shaped, budget),
             BracketKind::Last | BracketKind::Penultimate | BracketKind::Collapsed => Ok(Outlook {
                 first: None,
                 any: NextValue::none(),
@@ -100,12 +94,11 @@ impl Outlook {
 
     /// What counts alone tell of it.
     #[tactic(auto, using(crate::proofs::C07Outlook::none_counts))]
-    pub fn by_counts(context: &Context<'_>, shape: Shape) -> Outlook
-        requires { FitsHere context.now shape }
-        ensures { IsOutlookHere context.now shape result }
+    pub fn by_counts(shaped: &ShapedBracket<'_>) -> Outlook
+        ensures { IsOutlookFrom shaped.now result }
     {
-        match context.reached().kind() {
-            BracketKind::Ordinary => Outlook::ordinary_by_counts(context, shape),
+        match shaped.context.reached().kind() {
+            BracketKind::Ordinary => Outlook::ordinary_by_counts(shaped),
             BracketKind::Last | BracketKind::Penultimate | BracketKind::Collapsed => Outlook {
                 first: None,
                 any: NextValue::none(),
@@ -115,34 +108,27 @@ impl Outlook {
 
     /// What counts alone tell of it in an ordinary bracket.
     #[tactic(auto, using(crate::proofs::C07Outlook::by_counts))]
-    fn ordinary_by_counts(context: &Context<'_>, shape: Shape) -> Outlook
-        requires ordinary { context.now.reached.kind ≡ Ordinary }
-        requires fits { FitsHere context.now shape }
-        ensures { IsOutlookHere context.now shape result }
+    fn ordinary_by_counts(shaped: &ShapedBracket<'_>) -> Outlook
+        requires { shaped.now.context.now.reached.kind ≡ Ordinary }
+        ensures { IsOutlookFrom shaped.now result }
     {
-        let any = value_by_counts(context, shape);
+        let any = value_by_counts(shaped);
         Outlook { first: None, any }
     }
 
     /// The same in an ordinary bracket.
     #[inline(never)]
     #[tactic(auto, using(crate::proofs::C07Outlook::by_counts, crate::proofs::C07Outlook::by_ghosts, crate::proofs::C07Outlook::flat_residents))]
-    fn below_ordinary(
-        context: &Context<'_>,
-        shape: Shape,
-        budget: &mut Budget,
-    ) -> Result<Outlook, Stopped>
-        requires ordinary { context.now.reached.kind ≡ Ordinary }
-        requires fits { FitsHere context.now shape }
-        ensures answer { MatchResult result (IsOutlookHere context.now shape)
-            (λ _. budget.new.used ≡ budget.new.limit) }
+    fn below_ordinary(shaped: &ShapedBracket<'_>, budget: &mut Budget) -> Result<Outlook, Stopped>
+        requires { shaped.now.context.now.reached.kind ≡ Ordinary }
+        ensures answer { MatchResult result (IsOutlookFrom shaped.now) (λ _. budget.new.used ≡ budget.new.limit) }
         ensures spends { Spends budget.old budget.new }
     {
-        let any = value_by_counts(context, shape);
-        if !is_flat(context) {
+        let any = value_by_counts(shaped);
+        if !is_flat(shaped.context) {
             return Ok(Outlook { first: None, any });
         }
-        let first = ghost_value(context, shape, budget)?;
+        let first = ghost_value(shaped, budget)?;
         Ok(Outlook {
             first: Some(first),
             any,

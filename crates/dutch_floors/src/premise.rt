@@ -10,8 +10,8 @@ ghost use Rattle.dutch_bracket.specs.Prelude.{HasNumbers, HasSeats, all_pairs};
 ghost use Rattle.dutch_floors.specs.Premises.{IsPremise, seated_given, turned, with_pair};
 
 use arrayvec::ArrayVec;
-use dutch_bracket::fixed_lists::{FixedLists, fill_fixed};
 use dutch_bracket::context::Context;
+use dutch_bracket::fixed_lists::{FixedLists, fill_fixed};
 use dutch_bracket::seated::{Pair, Seated};
 use dutch_order::LIMIT;
 

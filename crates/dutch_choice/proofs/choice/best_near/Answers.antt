@@ -25,8 +25,8 @@ unfolding candidates_of best_near best_yet
 loop-kept-init c =
     let pass = c.args.pass.now in
     let before = c.args.lister.now.listing in
-    let listed : candidates_here pass.context.now pass.shape ≡ c.restart.new.self.coming =
-    listed_as pass.context.now.facts before.rule.field.now pass.context.now.reached before.rule.reached.now before.frame pass.shape c.restart.new.self.coming c.restart.new.self.coming
+    let listed : candidates_here pass.shaped.context.now pass.shaped.shape ≡ c.restart.new.self.coming =
+    listed_as pass.shaped.context.now.facts before.rule.field.now pass.shaped.context.now.reached before.rule.reached.now before.frame pass.shaped.shape c.restart.new.self.coming c.restart.new.self.coming
     c.restart.ensures.coming c.requires.lists.field c.requires.lists.bracket c.requires.lists.frame refl in
     record {
       chosen = ap (best_of_pass pass None) listed;
@@ -46,7 +46,7 @@ consider-requires-clause-candidate c =
     let lists = c.draw.new.lister.drawn.lists in
     let m = c.loop-kept.invariant.inside lists (left_was_there _ lists c.loop-kept.lister.listing.coming _ found.0 (inl refl)) in
     record {
-      lists = (pass.shape, (legal_of pass.context.now.facts pass.context.now.reached pass.shape lists m).arranged);
+      lists = (pass.shaped.shape, (legal_of pass.shaped.context.now.facts pass.shaped.context.now.reached pass.shaped.shape lists m).arranged);
       down = found.1 ∙ ap (λ (frame : Frame). down frame lists) c.loop-kept.invariant.lists.frame;
     }
 
@@ -56,7 +56,7 @@ loop-kept-preserved c =
     let found = rw c.if-branch.true at c.in_ok-draw.ensures.answer in
     let before = c.loop-kept.lister.listing.coming in
     record {
-      chosen = c.loop-kept.invariant.chosen ∙ skipped_same pass.context.now pass.wish (aim_in pass.aim) c.loop-kept.kept before _ c.loop-kept.invariant.kept found.0
+      chosen = c.loop-kept.invariant.chosen ∙ skipped_same pass.shaped.context.now pass.wish (aim_in pass.aim) c.loop-kept.kept before _ c.loop-kept.invariant.kept found.0
           ∙ sym (c.in_ok-consider.ensures.answer c.draw.new.lister.listing.coming);
       kept = c.consider.ensures.kept;
       inside = λ lists m. c.loop-kept.invariant.inside lists (left_was_there _ lists before _ found.0 (inr m));
@@ -71,6 +71,6 @@ pub returns-clause-answer : goal.returns-clause-answer
 returns-clause-answer c =
     let pass = c.args.pass.now in
     let ended = rw c.if-branch.false at c.in_ok-draw.ensures.answer in
-    handed pass.context.now c.loop-kept.kept (near_of pass) c.loop-kept.invariant.kept
-    (best_last pass.context.now pass.wish (aim_in pass.aim) c.loop-kept.kept (near_of pass)
-    (c.loop-kept.invariant.chosen ∙ skipped_same pass.context.now pass.wish (aim_in pass.aim) c.loop-kept.kept c.loop-kept.lister.listing.coming [] c.loop-kept.invariant.kept ended))
+    handed pass.shaped.context.now c.loop-kept.kept (near_of pass) c.loop-kept.invariant.kept
+    (best_last pass.shaped.context.now pass.wish (aim_in pass.aim) c.loop-kept.kept (near_of pass)
+    (c.loop-kept.invariant.chosen ∙ skipped_same pass.shaped.context.now pass.wish (aim_in pass.aim) c.loop-kept.kept c.loop-kept.lister.listing.coming [] c.loop-kept.invariant.kept ended))

@@ -2,7 +2,7 @@
 use Rattle.std.proofs.Common.{◌≡◌, length}
 use Rattle.dutch_order.specs.Prelude.{Arrangement, IsIn, Spends}
 use Rattle.dutch_bracket.specs.Prelude.{candidates_here}
-use Rattle.dutch_choice.specs.Prelude.{IsKept, ListsFor, best_of_pass, near_of, LooksBelow}
+use Rattle.dutch_choice.specs.Prelude.{IsKept, ListsFor, LooksFor, best_of_pass, near_of}
 use Rattle.dutch_choice.proofs.choice.best_near.Given as goal
 
 abbrev pub decreases-loop-kept : goal.decreases-loop-kept
@@ -11,11 +11,11 @@ decreases-loop-kept l = length l.lister.listing.coming
 abbrev pub invariant-loop-kept : goal.invariant-loop-kept
 invariant-loop-kept l = record {
   chosen : near_of l.pass ≡ best_of_pass l.pass l.kept l.lister.listing.coming;
-  kept : IsKept l.pass.context.now l.kept;
-  inside : (lists : Arrangement) → IsIn lists l.lister.listing.coming → IsIn lists (candidates_here l.pass.context.now l.pass.shape);
+  kept : IsKept l.pass.shaped.context.now l.kept;
+  inside : (lists : Arrangement) → IsIn lists l.lister.listing.coming → IsIn lists (candidates_here l.pass.shaped.context.now l.pass.shaped.shape);
   lists : ListsFor l.pass l.lister.listing;
-  shape : l.lister.listing.shape ≡ l.pass.shape;
-  look : LooksBelow l.pass.context.now l.judge.look;
+  shape : l.lister.listing.shape ≡ l.pass.shaped.shape;
+  look : LooksFor l.pass l.judge.look;
   weights : l.judge.weights ≡ l.initial.judge.weights;
   spends : Spends l.initial.budget l.budget;
 }

@@ -12,6 +12,6 @@ returns-then-branch-clause-answer c = λ coming.
     let pass = c.args.pass.now in
     let kept = c.args.kept.now in
     let taken = c.take-quality.ensures.value in
-    winner_kept pass.context.now pass.wish (aim_in pass.aim) kept (record { candidate = c.copied-candidate.result; quality = c.take-quality.result })
+    winner_kept pass.shaped.context.now pass.wish (aim_in pass.aim) kept (record { candidate = c.copied-candidate.result; quality = c.take-quality.result })
     c.args.candidate.now.lists coming c.requires.kept (ap (λ (candidate : Candidate). candidate.lists) c.copied-candidate.ensures) (ap quality_in taken ∙ c.in_ok-judge_candidate.ensures.answer)
     (ap (λ quality. is_idle (aim_in pass.aim) kept (quality_in quality)) taken ∙ sym c.if-is_idle.ensures) (and_from _ _ (sym c.in_ok-can_be_chosen.ensures.answer ∙ c.if-branch.true) (sym c.if-not-is_wished.ensures))

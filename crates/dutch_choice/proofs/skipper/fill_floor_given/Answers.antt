@@ -6,5 +6,5 @@ use Rattle.dutch_choice.proofs.skipper.fill_floor_given.Goals as goal
 pub returns : goal.returns
 returns c = λ filled.
     let pass = c.args.pass.now in
-    none_better pass.context.now pass.shape pass.floors c.args.premise c.args.prefix.now (quality_in c.floor_given.new.room.quality) pass.basis pass.of
+    none_better pass.shaped pass.floors c.args.premise c.args.prefix.now (quality_in c.floor_given.new.room.quality) pass.basis pass.of
     (c.floor_given.ensures.known filled) (c.floor_given.ensures.value filled)

@@ -6,4 +6,4 @@ use Rattle.dutch_choice.proofs.skipper.has_no_better_next.Goals as goal
 pub returns : goal.returns
 returns c = λ none.
     let pass = c.args.pass.now in
-    awaited_by pass.context.now pass.shape pass.floors pass.basis pass.of c.args.prefix.now (next_in (quality_in c.args.quality.now)) (c.has_no_better_next.ensures none)
+    awaited_by pass.shaped pass.floors pass.basis pass.of c.args.prefix.now (next_in (quality_in c.args.quality.now)) (c.has_no_better_next.ensures none)

@@ -15,24 +15,24 @@ limbo_numbers facts reached m of' h =
 
 pub push_left-requires-clause-numbers : goal.push_left-requires-clause-numbers
 push_left-requires-clause-numbers c =
-    let reached = c.args.context.now.reached in
-    let m : ℕ = c.args.shape.mdps in
+    let reached = c.args.shaped.now.context.now.reached in
+    let m : ℕ = c.args.shaped.now.shape.mdps in
     let same : c.deref.result.now ≡ numbers_from (m + 1) (reached.mdps - m) =
     c.deref.ensures.0 ∙ c.numbered_from-limbo.ensures.items ∙ ap (λ q. numbers_from (m + 1) (q - m)) (c.mdps.ensures ∙ ap (λ (s : Reached). s.mdps) c.reached.ensures.value) in
-    subst (AllNumbers reached.seats) (sym same) (limbo_numbers c.args.context.now.facts reached m c.reached.ensures.sound c.requires.within_moved_down)
+    subst (AllNumbers reached.seats) (sym same) (limbo_numbers c.args.shaped.now.context.now.facts reached m c.reached.ensures.sound c.args.shaped.now.fits.within_moved_down)
 
 pub returns-clause-items : goal.returns-clause-items
 returns-clause-items c =
-    let reached = c.args.context.now.reached in
-    let m : ℕ = c.args.shape.mdps in
-    let f : ℕ → ℕ = λ i. score_at c.args.context.now.facts (seat_of reached.seats i) in
+    let reached = c.args.shaped.now.context.now.reached in
+    let m : ℕ = c.args.shaped.now.shape.mdps in
+    let f : ℕ → ℕ = λ i. score_at c.args.shaped.now.context.now.facts (seat_of reached.seats i) in
     let same : c.deref.result.now ≡ numbers_from (m + 1) (reached.mdps - m) =
     c.deref.ensures.0 ∙ c.numbered_from-limbo.ensures.items ∙ ap (λ q. numbers_from (m + 1) (q - m)) (c.mdps.ensures ∙ ap (λ (s : Reached). s.mdps) c.reached.ensures.value) in
     c.push_left.ensures.items ∙ ap (λ (front : List ℕ). front ++ map f (left_of c.deref.result.now [])) c.new-scores.ensures ∙ ap (map f) (left_none c.deref.result.now ∙ same)
 
 pub returns-clause-len : goal.returns-clause-len
 returns-clause-len c =
-    let reached = c.args.context.now.reached in
-    let m : ℕ = c.args.shape.mdps in
+    let reached = c.args.shaped.now.context.now.reached in
+    let m : ℕ = c.args.shaped.now.shape.mdps in
     ap length (returns-clause-items c)
-    ∙ (length-map (numbers_from (m + 1) (reached.mdps - m)) (λ i. score_at c.args.context.now.facts (seat_of reached.seats i)) ∙ length-numbers (m + 1) (reached.mdps - m))
+    ∙ (length-map (numbers_from (m + 1) (reached.mdps - m)) (λ i. score_at c.args.shaped.now.context.now.facts (seat_of reached.seats i)) ∙ length-numbers (m + 1) (reached.mdps - m))

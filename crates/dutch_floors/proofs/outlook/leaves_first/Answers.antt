@@ -20,7 +20,7 @@ returns-then-passed-moved_down c =
     let n = c.mdps-moved_down.result in
     let p = c.loop-above.passed in
     let i = c.loop-above.above in
-    let f : ℕ → ℕ = λ i. score_at c.args.context.now.facts (seat_of c.args.context.now.reached.seats i) in
+    let f : ℕ → ℕ = λ i. score_at c.args.shaped.now.context.now.facts (seat_of c.args.shaped.now.context.now.reached.seats i) in
     one_left f i n c.args.s1.now (omega (arith, c.loop-above-test.true)) (sym c.if-not-contains.ensures.value)
     ∙ ap (λ xs. is_same (map f (left_of (numbers_from (i + 1) (n - i)) c.args.s1.now)) (map f xs)) (sym (no_number p n (omega (arith, c.if-passed-moved_down.true))))
     ∙ (rw (c.mdps-moved_down.ensures ∙ ap (λ (reached : Reached). reached.mdps) c.reached.ensures.value) c.loop-above.invariant.same)
@@ -29,8 +29,8 @@ pub returns : goal.returns
 returns c =
     let n = c.mdps-moved_down.result in
     let p = c.loop-above.passed in
-    let f : ℕ → ℕ = λ i. score_at c.args.context.now.facts (seat_of c.args.context.now.reached.seats i) in
-    let counted : n ≡ c.args.context.now.reached.mdps = c.mdps-moved_down.ensures ∙ ap (λ (reached : Reached). reached.mdps) c.reached.ensures.value in
+    let f : ℕ → ℕ = λ i. score_at c.args.shaped.now.context.now.facts (seat_of c.args.shaped.now.context.now.reached.seats i) in
+    let counted : n ≡ c.args.shaped.now.context.now.reached.mdps = c.mdps-moved_down.ensures ∙ ap (λ (reached : Reached). reached.mdps) c.reached.ensures.value in
     let ended = no_number c.loop-above.above n (omega (arith, c.loop-above-test.false)) in
     none_left f p n (n - p) refl (omega (arith, c.loop-above.invariant.within, counted))
     ∙ ap (λ xs. is_same (map f (left_of xs c.args.s1.now)) (map f (numbers_from (p + 1) (n - p)))) (sym ended)

@@ -7,8 +7,8 @@ use Rattle.dutch_floors.proofs.outlook.leaves_first.Given as goal
 
 abbrev pub invariant-loop-above : goal.invariant-loop-above
 invariant-loop-above l = record {
-  same : is_same (map (λ i. score_at l.context.facts (seat_of l.context.reached.seats i)) (left_of (numbers_from (l.above + 1) (l.context.reached.mdps - l.above)) l.s1))
-      (map (λ i. score_at l.context.facts (seat_of l.context.reached.seats i)) (numbers_from (l.passed + 1) (l.context.reached.mdps - l.passed)))
-      ≡ leaves_first l.context.facts l.context.reached l.fn.shape l.s1;
-  within : l.passed ≤ l.context.reached.mdps;
+  same : is_same (map (λ i. score_at l.shaped.context.now.facts (seat_of l.shaped.context.now.reached.seats i)) (left_of (numbers_from (l.above + 1) (l.shaped.context.now.reached.mdps - l.above)) l.s1))
+      (map (λ i. score_at l.shaped.context.now.facts (seat_of l.shaped.context.now.reached.seats i)) (numbers_from (l.passed + 1) (l.shaped.context.now.reached.mdps - l.passed)))
+      ≡ leaves_first l.shaped.context.now.facts l.shaped.context.now.reached l.shaped.shape l.s1;
+  within : l.passed ≤ l.shaped.context.now.reached.mdps;
 }
