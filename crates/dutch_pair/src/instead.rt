@@ -6,7 +6,7 @@ ghost use Rattle.std.specs.Result.{MatchResult};
 ghost use Rattle.dutch_order.specs.Prelude.{MatchDrawn, Spends};
 ghost use Rattle.dutch_pair.specs.Lower.{above_lower};
 ghost use Rattle.dutch_pair.specs.Outcomes.{IsStage};
-ghost use Rattle.dutch_bracket.specs.Prelude.{FitsHere, candidates_here, eligible_here, shape_of, Decides};
+ghost use Rattle.dutch_bracket.specs.Prelude.{candidates_in, eligible_in, shape_here, Decides};
 ghost use Rattle.dutch_choice.specs.Prelude.{NoneGrants, SomeGrants, grants, some_grants, with_mdps};
 ghost use Rattle.dutch_pair.specs.Instead.{IsInstead};
 
@@ -16,6 +16,7 @@ use dutch_bracket::context::Context;
 use dutch_bracket::fault::PairFault;
 use dutch_bracket::greatest::has_room;
 use dutch_bracket::quality::Quality;
+use dutch_bracket::shaped::ShapedBracket;
 use dutch_choice::choice::best_of;
 use dutch_choice::skipper::rules_out;
 use dutch_choice::wish::Wish;
@@ -49,10 +50,8 @@ pub enum Instead {
 /// A wish for the candidates of a shape in a bracket.
 #[derive(Drop)]
 struct Wished<'a> {
-    context: &'a Context<'a>,
-    shape: Shape,
+    shaped: ShapedBracket<'a>,
     wish: Wish,
-    ghost fits: { FitsHere context.now shape },
 }
 
 impl<'a> Bound for Wished<'a> {
@@ -62,19 +61,19 @@ impl<'a> Bound for Wished<'a> {
     ghost use Rattle.dutch_bracket.specs.Prelude.{frame_here, numbers_meet, number_may_be_left};
     ghost use Rattle.dutch_choice.specs.Prelude.{grants};
 
-    ghost frame = { λ w. frame_here w.context.now };
+    ghost frame = { λ w. frame_here w.shaped.context.now };
 
-    ghost shape = { λ w. w.shape };
+    ghost shape = { λ w. w.shaped.shape };
 
-    ghost meets = { λ w. numbers_meet w.context.now.facts w.context.now.reached };
+    ghost meets = { λ w. numbers_meet w.shaped.context.now.facts w.shaped.context.now.reached };
 
-    ghost may_be_left = { λ w. number_may_be_left w.context.now.facts w.context.now.reached };
+    ghost may_be_left = { λ w. number_may_be_left w.shaped.context.now.facts w.shaped.context.now.reached };
 
     ghost is_unwanted = { λ w a. not (grants w.wish a) };
 
     #[tactic(auto, unfolding(dutch_bracket::specs::Brackets::candidates_of))]
     fn cannot_win(&self, prefix: &Prefix<'_>, _room: &mut ()) -> bool {
-        rules_out(self.context, self.shape, self.wish, prefix)
+        rules_out(&self.shaped, self.wish, prefix)
     }
 
     fn cannot_win_with(
@@ -91,12 +90,13 @@ impl<'a> Bound for Wished<'a> {
 #[tactic(auto, using(crate::proofs::InsteadLemmas::skipped_same), unfolding(dutch_bracket::specs::Brackets::candidates_of))]
 fn is_granted(wished: &Wished<'_>, budget: &mut Budget) -> Result<bool, Stopped>
     ensures answer { Decides result
-        (list_any (grants wished.now.wish) (candidates_here wished.now.context.now wished.now.shape))
+        (list_any (grants wished.now.wish) (candidates_in wished.now.shaped))
         (budget.new.used ≡ budget.new.limit) }
     ensures spends { Spends budget.old budget.new }
 {
-    let rule = wished.context.rule();
-    let mut candidates = Candidates::new(wished.context.frame(), wished.shape, &rule);
+    let context = wished.shaped.context;
+    let rule = context.rule();
+    let mut candidates = Candidates::new(context.frame(), wished.shaped.shape, &rule);
     loop {
         match candidates.next_within(wished, &mut (), budget) {
             Step::Found(candidate) => {
@@ -113,22 +113,21 @@ fn is_granted(wished: &Wished<'_>, budget: &mut Budget) -> Result<bool, Stopped>
 /// Whether a legal candidate grants the wish, with as many pairs as the shape and so many moved-down players in them.
 #[tactic(auto, using(crate::proofs::InsteadLemmas::few_pairs, dutch_bracket::proofs::ShapeSearch::fits_by_test))]
 fn is_granted_with(wished: &Wished<'_>, mdps: usize, budget: &mut Budget) -> Result<bool, Stopped>
-    ensures answer { Decides result
-        (some_grants wished.now.context.now.facts wished.now.context.now.reached wished.now.wish
-        (with_mdps wished.now.shape mdps))
+    ensures answer { let context = wished.now.shaped.context.now in Decides result
+        (some_grants context.facts context.reached wished.now.wish (with_mdps wished.now.shaped.shape mdps))
         (budget.new.used ≡ budget.new.limit) }
     ensures spends { Spends budget.old budget.new }
 {
+    let context = wished.shaped.context;
     let shape = Shape {
-        pairs: wished.shape.pairs,
+        pairs: wished.shaped.shape.pairs,
         mdps,
     };
-    if !has_room(wished.context.frame(), shape) {
+    if !has_room(context.frame(), shape) {
         return Ok(false);
     }
     let wished = Wished {
-        context: wished.context,
-        shape,
+        shaped: ShapedBracket { context, shape },
         wish: wished.wish,
     };
     is_granted(&wished, budget)
@@ -142,11 +141,9 @@ fn is_granted_within(
     to: usize,
     budget: &mut Budget,
 ) -> Result<bool, Stopped>
-    ensures answer { MatchDrawn result
-        (SomeGrants wished.now.context.now.facts wished.now.context.now.reached wished.now.wish wished.now.shape from
-        to)
-        (NoneGrants wished.now.context.now.facts wished.now.context.now.reached wished.now.wish wished.now.shape from
-        to)
+    ensures answer { let context = wished.now.shaped.context.now in MatchDrawn result
+        (SomeGrants context.facts context.reached wished.now.wish wished.now.shaped.shape from to)
+        (NoneGrants context.facts context.reached wished.now.wish wished.now.shaped.shape from to)
         (budget.new.used ≡ budget.new.limit) }
     ensures spends { Spends budget.old budget.new }
 {
@@ -164,14 +161,13 @@ fn is_granted_within(
 /// penultimate bracket all of them can be chosen.
 #[tactic(auto, using(crate::proofs::InsteadLemmas::none_legal))]
 fn is_barred(wished: &Wished<'_>, budget: &mut Budget) -> Result<bool, Stopped>
-    requires none { list_any (grants wished.now.wish) (eligible_here wished.now.context.now wished.now.shape)
-        ≡ false }
+    requires none { list_any (grants wished.now.wish) (eligible_in wished.now.shaped) ≡ false }
     ensures answer { Decides result
-        (list_any (grants wished.now.wish) (candidates_here wished.now.context.now wished.now.shape))
+        (list_any (grants wished.now.wish) (candidates_in wished.now.shaped))
         (budget.new.used ≡ budget.new.limit) }
     ensures spends { Spends budget.old budget.new }
 {
-    if !wished.context.reached().kind().is_penultimate() {
+    if !wished.shaped.context.reached().kind().is_penultimate() {
         return Ok(false);
     }
     is_granted(wished, budget)
@@ -181,39 +177,35 @@ fn is_barred(wished: &Wished<'_>, budget: &mut Budget) -> Result<bool, Stopped>
 /// them. Elsewhere than in a penultimate bracket there is none, since it could be chosen.
 #[tactic(auto, using(crate::proofs::InsteadLemmas::none_more))]
 fn is_granted_above(wished: &Wished<'_>, budget: &mut Budget) -> Result<bool, Stopped>
-    requires greatest { shape_of wished.now.context.now.facts wished.now.context.now.reached
-        wished.now.context.now.lower ≡ Some wished.now.shape }
-    ensures answer { MatchDrawn result
-        (SomeGrants wished.now.context.now.facts wished.now.context.now.reached wished.now.wish wished.now.shape
-        (wished.now.shape.mdps + 1) (wished.now.shape.pairs + 1))
-        (NoneGrants wished.now.context.now.facts wished.now.context.now.reached wished.now.wish wished.now.shape
-        (wished.now.shape.mdps + 1) (wished.now.shape.pairs + 1))
+    requires greatest { shape_here wished.now.shaped.context.now ≡ Some wished.now.shaped.shape }
+    ensures answer { let context = wished.now.shaped.context.now in let shape = wished.now.shaped.shape
+        in MatchDrawn result
+        (SomeGrants context.facts context.reached wished.now.wish shape (shape.mdps + 1) (shape.pairs + 1))
+        (NoneGrants context.facts context.reached wished.now.wish shape (shape.mdps + 1) (shape.pairs + 1))
         (budget.new.used ≡ budget.new.limit) }
     ensures spends { Spends budget.old budget.new }
 {
-    if !wished.context.reached().kind().is_penultimate() {
+    if !wished.shaped.context.reached().kind().is_penultimate() {
         return Ok(false);
     }
-    let shape = wished.shape;
+    let shape = wished.shaped.shape;
     is_granted_within(wished, shape.mdps + 1, shape.pairs + 1, budget)
 }
 
 /// Why no candidate of a bracket's shape that can be chosen grants a wish: the first reason that stands.
 #[tactic(auto, using(crate::proofs::InsteadLemmas::none_upto, crate::proofs::InsteadLemmas::none_at_all), unfolding(crate::specs::Instead::IsInstead))]
 fn why_none(wished: &Wished<'_>, budget: &mut Budget) -> Result<Instead, Stopped>
-    requires greatest { shape_of wished.now.context.now.facts wished.now.context.now.reached
-        wished.now.context.now.lower ≡ Some wished.now.shape }
-    requires none { list_any (grants wished.now.wish) (eligible_here wished.now.context.now wished.now.shape)
-        ≡ false }
+    requires greatest { shape_here wished.now.shaped.context.now ≡ Some wished.now.shaped.shape }
+    requires none { list_any (grants wished.now.wish) (eligible_in wished.now.shaped) ≡ false }
     ensures answer { MatchResult result
-        (IsInstead wished.now.context.now wished.now.shape wished.now.wish budget.old.limit)
+        (IsInstead wished.now.shaped.context.now wished.now.shaped.shape wished.now.wish budget.old.limit)
         (λ _. budget.new.used ≡ budget.new.limit) }
     ensures spends { Spends budget.old budget.new }
 {
     if is_barred(wished, budget)? {
         return Ok(Instead::NoneEligible);
     }
-    if is_granted_within(wished, 0, wished.shape.mdps, budget)? {
+    if is_granted_within(wished, 0, wished.shaped.shape.mdps, budget)? {
         return Ok(Instead::FewerMovedDown);
     }
     if is_granted_above(wished, budget)? {
@@ -225,12 +217,12 @@ fn why_none(wished: &Wished<'_>, budget: &mut Budget) -> Result<Instead, Stopped
 /// The best candidate of a bracket's shape that grants a wish, or why there is none.
 #[tactic(auto, using(crate::proofs::InsteadLemmas::none_granting), unfolding(dutch_choice::specs::Aims::best_wished, dutch_choice::specs::Wishes::best_granting, crate::specs::Instead::IsInstead))]
 fn look_for(wished: &Wished<'_>, budget: &mut Budget) -> Result<Instead, PairFault>
-    requires greatest { shape_of wished.now.context.now.facts wished.now.context.now.reached
-        wished.now.context.now.lower ≡ Some wished.now.shape }
-    ensures { IfOk result (IsInstead wished.now.context.now wished.now.shape wished.now.wish budget.old.limit) }
+    requires greatest { shape_here wished.now.shaped.context.now ≡ Some wished.now.shaped.shape }
+    ensures { IfOk result (IsInstead wished.now.shaped.context.now wished.now.shaped.shape wished.now.wish
+        budget.old.limit) }
 {
     let wish = Some(wished.wish);
-    match best_of(wished.context, wished.shape, wish, budget)? {
+    match best_of(&wished.shaped, wish, budget)? {
         Step::Found(best) => Ok(Instead::Best {
             candidate: best.candidate,
             quality: best.quality,
@@ -259,10 +251,9 @@ pub fn best_instead(
 {
     let lower = lower_of(field, stage.reached());
     let context = Context::new(alloc, field, stage.reached(), &lower);
-    let wished = Wished {
+    let shaped = ShapedBracket {
         context: &context,
         shape: stage.shape(),
-        wish,
     };
-    look_for(&wished, &mut Budget { used: 0, limit })
+    look_for(&Wished { shaped, wish }, &mut Budget { used: 0, limit })
 }

@@ -1,4 +1,5 @@
-// Laws over the definitions of a round (C.04.3 A.9, B, C), and laws that give what the calls on a bracket ask for.
+// Laws over the definitions of a round (C.04.3 A.9, B, C): of qualities, completable players, boards, shapes and
+// scoregroups; laws that give what the calls on a bracket ask for; and that there is no dead end.
 ghost use Rattle.std.specs.Prelude.{◌≡◌, ◌≤◌, ◌⊎◌, ◌↔◌, ℕ, Bool, IfSome, List, ◌++◌, Ok, Option, None, Some, false};
 ghost use Rattle.std.specs.Prelude.{length, true, is_some};
 ghost use Rattle.std.specs.List.{AllByRecursion, concat};
@@ -31,9 +32,6 @@ use dutch_bracket::reached::Reached;
 use dutch_order::{Candidate, Shape};
 use dutch_player::Field;
 use dutch_player::laws::scores_do_not_ascend;
-
-// Laws over the definitions: of qualities, completable players, shapes, scoregroups, boards and rounds; and laws that
-// give what the calls on a bracket ask for.
 
 /// Of two qualities one is better, or they are the same: a strict and total order.
 #[tactic(auto, using(dutch_bracket::proofs::QualityOrder::irreflexive, dutch_bracket::proofs::QualityOrder::transitive, dutch_bracket::proofs::QualityOrder::total))]
@@ -158,6 +156,8 @@ pub fn boards_stand_in_order()
     ensures { (facts : Facts) (pairs : List (ℕ × ℕ)) → AreInOrder facts (ordered facts pairs) }
 {}
 
+// What the calls on a bracket ask for.
+
 /// A bracket of a round stands above the players below it, and above them it has its shape: whoever has asked for the
 /// bracket can ask for its choice.
 pub fn a_bracket_stands_above_the_lower(field: &Field, number: u16, reached: &Reached, shape: Shape)
@@ -199,7 +199,7 @@ pub fn candidates_are_of_the_bracket(
     ensures { IsOfBracket field.now reached.now candidate.now }
 {}
 
-// Laws of the definitions alone: a round is paired exactly if its players can be paired out (C.04.3 A.9, C.5).
+// A round is paired exactly if its players can be paired out (A.9, C.5).
 
 /// There is no dead end: a round is paired exactly if some list of pairs of present players who may meet leaves out at
 /// most one of them, who may have the bye. So each bracket on the way has a candidate that can be chosen.

@@ -3,5 +3,5 @@ use Rattle.std.proofs.Common.{◌≡◌}
 use Rattle.dutch_pair.proofs.InsteadLemmas.{read_fits}
 use Rattle.dutch_pair.proofs.instead.best_instead.Goals as goal
 
-pub invariant_of-wished : goal.invariant_of-wished
-invariant_of-wished c = record { fits = read_fits c.args.field.now c.args.stage.now {k = c.new-context.result} (cc) c.shape.ensures c.requires }
+pub invariant_of-shaped : goal.invariant_of-shaped
+invariant_of-shaped c = record { fits = read_fits c.args.field.now c.args.stage.now {k = c.new-context.result} (cc) c.shape.ensures c.requires }

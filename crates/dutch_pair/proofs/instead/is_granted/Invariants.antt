@@ -2,7 +2,7 @@
 use Rattle.std.proofs.Common.{◌≡◌, length}
 use Rattle.std.specs.List.{list_any}
 use Rattle.dutch_order.specs.Prelude.{Spends}
-use Rattle.dutch_bracket.specs.Prelude.{candidates_here, frame_here}
+use Rattle.dutch_bracket.specs.Prelude.{candidates_in, frame_here}
 use Rattle.dutch_choice.specs.Prelude.{grants}
 use Rattle.dutch_pair.proofs.instead.is_granted.Given as goal
 
@@ -11,10 +11,10 @@ decreases-loop-candidate l = length l.candidates.coming
 
 abbrev pub invariant-loop-candidate : goal.invariant-loop-candidate
 invariant-loop-candidate l = record {
-  same : list_any (grants l.wished.wish) (candidates_here l.wished.context.now l.wished.shape) ≡ list_any (grants l.wished.wish) l.candidates.coming;
-  frame : l.candidates.frame ≡ frame_here l.wished.context.now;
-  shape : l.candidates.shape ≡ l.wished.shape;
-  field : l.candidates.rule.field.now ≡ l.wished.context.now.facts;
-  reached : l.candidates.rule.reached.now ≡ l.wished.context.now.reached;
+  same : list_any (grants l.wished.wish) (candidates_in l.wished.shaped) ≡ list_any (grants l.wished.wish) l.candidates.coming;
+  frame : l.candidates.frame ≡ frame_here l.wished.shaped.context.now;
+  shape : l.candidates.shape ≡ l.wished.shaped.shape;
+  field : l.candidates.rule.field.now ≡ l.wished.shaped.context.now.facts;
+  reached : l.candidates.rule.reached.now ≡ l.wished.shaped.context.now.reached;
   spends : Spends l.initial.budget l.budget;
 }

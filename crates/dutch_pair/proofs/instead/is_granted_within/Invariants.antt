@@ -10,6 +10,6 @@ decreases-loop-mdps l = l.mdps
 abbrev pub invariant-loop-mdps : goal.invariant-loop-mdps
 invariant-loop-mdps l = record {
   within : l.mdps ≤ l.to;
-  none : NoneGrants l.wished.context.now.facts l.wished.context.now.reached l.wished.wish l.wished.shape l.mdps l.to;
+  none : NoneGrants l.wished.shaped.context.now.facts l.wished.shaped.context.now.reached l.wished.wish l.wished.shaped.shape l.mdps l.to;
   spends : Spends l.initial.budget l.budget;
 }
