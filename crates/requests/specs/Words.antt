@@ -10,6 +10,8 @@ use Rattle.dutch_order.specs.Prelude.{has_syntax}
 use Rattle.requests.specs.declared.words.Task.{Task}
 use Rattle.requests.specs.declared.words.Request.{Request}
 use Rattle.requests.specs.declared.words.Request.TheVariants.{Check, Format, Pair, Candidates, Explain, Standings}
+use Rattle.requests.specs.declared.words.Subcommand.{Subcommand}
+use Rattle.requests.specs.declared.words.Subcommand.TheVariants.{Check as CheckName, Format as FormatName, Pair as PairName, Candidates as CandidatesName, Explain as ExplainName, Standings as StandingsName}
 use Rattle.requests.specs.CommandLine.{bye_rule, candidates_app, explain_app, notes_rule, pair_app, points_rule, standings_app, with_option}
 use Rattle.requests.specs.Options.{◌>>=◌, bye_in, candidates_options, check_options, explain_options, format_options, pair_options, standings_options}
 use Rattle.requests.specs.declared.words.Meaning.{Meaning}
@@ -23,6 +25,15 @@ check_app = with_option (with_option (new_app (codes "check")) notes_rule) bye_r
 -- `format`
 unfoldable pub format_app : App
 format_app = with_option (with_option (new_app (codes "format")) points_rule) bye_rule
+
+-- the command of a name
+abbrev pub app_for : Subcommand → App
+app_for CheckName = check_app
+app_for FormatName = format_app
+app_for PairName = pair_app
+app_for CandidatesName = candidates_app
+app_for ExplainName = explain_app
+app_for StandingsName = standings_app
 
 -- a command with a version
 unfoldable pub versioned : App → App

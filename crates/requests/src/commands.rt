@@ -3,8 +3,8 @@ ghost use Rattle.std.specs.Prelude.{◌≡◌, IfOk, false};
 ghost use Rattle.clap.specs.declared.Command.{out-Command as fields_of};
 ghost use Rattle.clap.specs.Words.{app_of, new_app, rule_of};
 ghost use Rattle.requests.specs.CommandLine.{HasSameGlobals, bye_rule, candidates_app, explain_app, instead_rule};
-ghost use Rattle.requests.specs.CommandLine.{pair_app, player_rule, standings_app, with_bracket_rules, with_option};
-ghost use Rattle.requests.specs.CommandLine.{with_round_rules, with_table_rules};
+ghost use Rattle.requests.specs.CommandLine.{names_rule, pair_app, player_rule, report_rule, standings_app};
+ghost use Rattle.requests.specs.CommandLine.{with_bracket_rules, with_option, with_round_rules, with_table_rules};
 
 use crate::arguments;
 use clap::{Arg, Command};
@@ -25,12 +25,7 @@ pub fn pair_command<'a>(alloc: Global) -> Made<'a>
         "Pairs the next round, or tells that there is no pairing",
         "The report is read from standard input. Printed are the number of lines that follow, and then a line 'white black' for each board, in start ranks; 'player 0' is the bye.\n\nExample: arbiter pair --rounds 7 --initial white < report.trf",
     );
-    let names = arguments::names(
-        alloc,
-        "Prints the boards with names and scores, in columns for the wall",
-    );
-    let command = with_option(with_round(alloc, command)?, names)?;
-    let command = with_option(command, arguments::report(alloc))?;
+    let command = with_shown(alloc, with_round(alloc, command)?)?;
     with_worth(alloc, command)
 }
 
@@ -98,6 +93,20 @@ fn with_bracket<'a>(alloc: Global, command: Command<'a>) -> Made<'a>
     let command = with_option(command, arguments::bracket(alloc))?;
     let command = with_option(command, arguments::from(alloc))?;
     with_option(command, arguments::count(alloc))
+}
+
+// A command with the options that say what is printed of a round.
+fn with_shown<'a>(alloc: Global, command: Command<'a>) -> Made<'a>
+    ensures app { IfOk result (λ made. app_of made
+        ≡ with_option (with_option (app_of command.entry) names_rule) report_rule) }
+    ensures local { IfOk result (HasSameGlobals command.entry) }
+{
+    let names = arguments::names(
+        alloc,
+        "Prints the boards with names and scores, in columns for the wall",
+    );
+    let command = with_option(command, names)?;
+    with_option(command, arguments::report(alloc))
 }
 
 // A command with the options that say of whom it is asked.

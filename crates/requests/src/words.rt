@@ -7,7 +7,7 @@ ghost use Rattle.requests.specs.CommandLine.{HasSameGlobals};
 ghost use Rattle.requests.specs.Options.{rows_in};
 ghost use Rattle.requests.specs.Words.{ComesTo, FitsKind, asked_by, candidates_request, explain_request, meant};
 ghost use Rattle.requests.specs.Words.{pair_request, request_of, standings_request, task_by, task_of, with_bye};
-ghost use Rattle.requests.specs.Words.{arbiter_app, check_app, format_app, settled, versioned, with_command};
+ghost use Rattle.requests.specs.Words.{app_for, arbiter_app, check_app, format_app, settled, versioned, with_command};
 ghost use Rattle.requests.specs.Words.{with_engine, with_pairing};
 
 use crate::arguments;
@@ -40,6 +40,17 @@ pub enum Request<'a> {
     Explain(ExplainOptions),
     /// Ranks the players.
     Standings(StandingsOptions),
+}
+
+// Which command of the program is meant.
+#[derive(Clone, Copy)]
+enum Subcommand {
+    Check,
+    Format,
+    Pair,
+    Candidates,
+    Explain,
+    Standings,
 }
 
 /// A request, and what its report is read by.
@@ -221,9 +232,17 @@ fn arbiter_command<'a>(alloc: Global) -> Made<'a>
     ensures local { IfOk result (λ command. (fields_of command).has_globals ≡ false) }
 {
     let command = with_settings(named(alloc)?);
-    let command = with_command(command, check_command(alloc)?)?;
-    let command = with_command(command, format_command(alloc)?)?;
-    with_engine(alloc, command)
+    with_engine(alloc, with_reading(alloc, command)?)
+}
+
+// A program with the commands that ask for nothing but the report.
+fn with_reading<'a>(alloc: Global, command: Command<'a>) -> Made<'a>
+    ensures app { IfOk result (λ made. app_of made
+        ≡ with_command (with_command (app_of command.entry) check_app) format_app) }
+    ensures local { IfOk result (HasSameGlobals command.entry) }
+{
+    let command = with_named(alloc, command, Subcommand::Check)?;
+    with_named(alloc, command, Subcommand::Format)
 }
 
 // A program with the commands that ask the engine.
@@ -233,8 +252,8 @@ fn with_engine<'a>(alloc: Global, command: Command<'a>) -> Made<'a>
     ensures local { IfOk result (HasSameGlobals command.entry) }
 {
     let command = with_pairing(alloc, command)?;
-    let command = with_command(command, explain_command(alloc)?)?;
-    with_command(command, standings_command(alloc)?)
+    let command = with_named(alloc, command, Subcommand::Explain)?;
+    with_named(alloc, command, Subcommand::Standings)
 }
 
 // A program with the commands that pair the next round, and that list candidates of it.
@@ -243,8 +262,22 @@ fn with_pairing<'a>(alloc: Global, command: Command<'a>) -> Made<'a>
     ensures app { IfOk result (λ made. app_of made ≡ with_pairing (app_of command.entry)) }
     ensures local { IfOk result (HasSameGlobals command.entry) }
 {
-    let command = with_command(command, pair_command(alloc)?)?;
-    with_command(command, candidates_command(alloc)?)
+    let command = with_named(alloc, command, Subcommand::Pair)?;
+    with_named(alloc, command, Subcommand::Candidates)
+}
+
+// A program with one more of its commands.
+fn with_named<'a>(alloc: Global, command: Command<'a>, name: Subcommand) -> Made<'a>
+    ensures app { IfOk result (λ made. app_of made ≡ with_command (app_of command.entry) (app_for name)) }
+    ensures local { IfOk result (HasSameGlobals command.entry) }
+{
+    match command_for(alloc, name) {
+        Ok(more) => with_command(command, more),
+        Err(error) => {
+            drop(command);
+            Err(error)
+        }
+    }
 }
 
 // A program with one more command.
@@ -255,6 +288,21 @@ fn with_command<'a>(command: Command<'a>, more: Command<'a>) -> Made<'a>
     ensures local { IfOk result (HasSameGlobals command.entry) }
 {
     command.subcommand(more)
+}
+
+// A command of the program.
+fn command_for<'a>(alloc: Global, which: Subcommand) -> Made<'a>
+    ensures app { IfOk result (λ command. app_of command ≡ app_for which) }
+    ensures local { IfOk result (λ command. (fields_of command).has_globals ≡ false) }
+{
+    match which {
+        Subcommand::Check => check_command(alloc),
+        Subcommand::Format => format_command(alloc),
+        Subcommand::Pair => pair_command(alloc),
+        Subcommand::Candidates => candidates_command(alloc),
+        Subcommand::Explain => explain_command(alloc),
+        Subcommand::Standings => standings_command(alloc),
+    }
 }
 
 // The name and the texts of the program.
