@@ -1,6 +1,6 @@
 -- What the words of a command line ask for, by clap's rules at the program's command.
 use Rattle.std.specs.Prelude.{◌≡◌, ℕ, Bool, true, false, List, [], ◌∷◌, ◌++◌, Option, Some, None, Result, Ok, Err, option_and_then, option_map, codes, if◌then◌else◌}
-use Rattle.std.specs.List.{list_any}
+use Rattle.std.specs.List.{fold, list_any}
 use Rattle.std.specs.Str.{bytes_eq}
 use Rattle.clap.specs.Words.{App, Row, Text, new_app, subcommand_of, with_subcommand, fault_of}
 use Rattle.clap.specs.Simple.{on_top}
@@ -10,8 +10,8 @@ use Rattle.dutch_order.specs.Prelude.{has_syntax}
 use Rattle.requests.specs.declared.words.Task.{Task}
 use Rattle.requests.specs.declared.words.Request.{Request}
 use Rattle.requests.specs.declared.words.Request.TheVariants.{Check, Format, Pair, Candidates, Explain, Standings}
-use Rattle.requests.specs.declared.words.Subcommand.{Subcommand}
-use Rattle.requests.specs.declared.words.Subcommand.TheVariants.{Check as CheckName, Format as FormatName, Pair as PairName, Candidates as CandidatesName, Explain as ExplainName, Standings as StandingsName}
+use Rattle.requests.specs.declared.words.CommandName.{CommandName}
+use Rattle.requests.specs.declared.words.CommandName.TheVariants.{Check as CheckName, Format as FormatName, Pair as PairName, Candidates as CandidatesName, Explain as ExplainName, Standings as StandingsName}
 use Rattle.requests.specs.CommandLine.{bye_rule, candidates_app, explain_app, notes_rule, pair_app, points_rule, standings_app, with_option}
 use Rattle.requests.specs.Options.{◌>>=◌, bye_in, candidates_options, check_options, explain_options, format_options, pair_options, standings_options}
 use Rattle.requests.specs.declared.words.Meaning.{Meaning}
@@ -27,7 +27,7 @@ unfoldable pub format_app : App
 format_app = with_option (with_option (new_app (codes "format")) points_rule) bye_rule
 
 -- the command of a name
-abbrev pub app_for : Subcommand → App
+abbrev pub app_for : CommandName → App
 app_for CheckName = check_app
 app_for FormatName = format_app
 app_for PairName = pair_app
@@ -51,6 +51,10 @@ settled = on_top (λ top. record top {
 -- a command with one more below it
 unfoldable pub with_command : App → App → App
 with_command app below = with_subcommand app below.top
+
+-- a command with some more of the program's below it
+abbrev pub with_commands : App → List CommandName → App
+with_commands = fold (λ app name. with_command app (app_for name))
 
 -- a program with the commands that pair the next round, and that list candidates of it
 unfoldable pub with_pairing : App → App
