@@ -1,5 +1,5 @@
 -- The commands with options, and their options, as clap's rules see them.
-use Rattle.std.specs.Prelude.{◌≡◌, List, pos, true, false, Some, codes}
+use Rattle.std.specs.Prelude.{◌≡◌, List, pos, true, Some, codes}
 use Rattle.std.specs.List.{fold}
 use Rattle.clap.specs.Words.{App, Rule, Text, new_app, new_rule, with_rule}
 use Rattle.clap.specs.declared.Command.{Command, out-Command}

@@ -56,13 +56,9 @@ with_command app below = with_subcommand app below.top
 abbrev pub with_commands : App → List CommandName → App
 with_commands = fold (λ app name. with_command app (app_for name))
 
--- a program with the commands that pair the next round, and that list candidates of it
-unfoldable pub with_pairing : App → App
-with_pairing app = with_command (with_command app pair_app) candidates_app
-
--- the same, and with those that explain it, and that rank the players
+-- a program with the commands that pair the next round, list candidates of it, explain it, and rank the players
 unfoldable pub with_engine : App → App
-with_engine app = with_command (with_command (with_pairing app) explain_app) standings_app
+with_engine app = with_command (with_command (with_command (with_command app pair_app) candidates_app) explain_app) standings_app
 
 -- the program's command line
 unfoldable pub arbiter_app : App

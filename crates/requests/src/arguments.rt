@@ -61,7 +61,10 @@ pub fn option_for<'a>(alloc: Global, which: OptionName) -> Arg<'a>
         OptionName::Report => report(alloc),
         OptionName::Notes => notes(alloc),
         OptionName::Points => points(alloc),
-        OptionName::BoardNames => names(alloc, "Prints the boards with names and scores, in columns for the wall"),
+        OptionName::BoardNames => names(
+            alloc,
+            "Prints the boards with names and scores, in columns for the wall",
+        ),
         OptionName::PlayerNames => names(alloc, "Prints the names too, in columns for the wall"),
         OptionName::By => by(alloc),
         OptionName::Bye => bye(alloc),

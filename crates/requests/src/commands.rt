@@ -44,11 +44,7 @@ const EXPLAIN: [OptionName; 6] = [
 ];
 
 // The options of `standings`.
-const STANDINGS: [OptionName; 3] = [
-    OptionName::By,
-    OptionName::PlayerNames,
-    OptionName::Bye,
-];
+const STANDINGS: [OptionName; 3] = [OptionName::By, OptionName::PlayerNames, OptionName::Bye];
 
 /// The command `pair`.
 #[tactic(auto, unfolding(crate::specs::CommandLine::pair_app, crate::specs::CommandLine::with_round_rules))]
@@ -66,7 +62,6 @@ pub fn pair_command<'a>(alloc: Global) -> Made<'a>
 }
 
 /// The command `candidates`.
-#[tactic(auto, unfolding(crate::specs::CommandLine::candidates_app, crate::specs::CommandLine::with_round_rules, crate::specs::CommandLine::with_bracket_rules))]
 pub fn candidates_command<'a>(alloc: Global) -> Made<'a>
     ensures app { IfOk result (λ command. app_of command ≡ candidates_app) }
     ensures local { IfOk result (λ command. (fields_of command).has_globals ≡ false) }
@@ -96,7 +91,6 @@ pub fn explain_command<'a>(alloc: Global) -> Made<'a>
 }
 
 /// The command `standings`.
-#[tactic(auto, unfolding(crate::specs::CommandLine::standings_app, crate::specs::CommandLine::with_table_rules))]
 pub fn standings_command<'a>(alloc: Global) -> Made<'a>
     ensures app { IfOk result (λ command. app_of command ≡ standings_app) }
     ensures local { IfOk result (λ command. (fields_of command).has_globals ≡ false) }

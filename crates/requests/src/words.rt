@@ -236,7 +236,7 @@ const COMMANDS: [CommandName; 6] = [
 ];
 
 // The program's command line.
-#[tactic(auto, unfolding(crate::specs::Words::arbiter_app, crate::specs::Words::with_engine, crate::specs::Words::with_pairing))]
+#[tactic(auto, unfolding(crate::specs::Words::arbiter_app, crate::specs::Words::with_engine))]
 fn arbiter_command<'a>(alloc: Global) -> Made<'a>
     ensures app { IfOk result (λ command. app_of command ≡ arbiter_app) }
     ensures local { IfOk result (λ command. (fields_of command).has_globals ≡ false) }

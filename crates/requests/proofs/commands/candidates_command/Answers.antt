@@ -1,7 +1,6 @@
 use Rattle.std.proofs.Common.{◌≡◌, IfOk, ap, subst}
 use Rattle.clap.specs.Words.{App, app_of}
-use Rattle.requests.specs.CommandLine.{with_options}
-use Rattle.requests.specs.Prelude.{candidates_app, with_bracket_rules, with_round_rules}
+use Rattle.requests.specs.Prelude.{candidates_app, with_bracket_rules, with_round_rules, with_options}
 use Rattle.requests.specs.declared.commands.TheConstants.{CANDIDATES}
 use Rattle.requests.proofs.commands.candidates_command.Goals as goal
 

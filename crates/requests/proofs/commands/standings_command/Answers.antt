@@ -1,7 +1,6 @@
 use Rattle.std.proofs.Common.{◌≡◌, IfOk, ap, subst}
 use Rattle.clap.specs.Words.{App, app_of}
-use Rattle.requests.specs.CommandLine.{with_options}
-use Rattle.requests.specs.Prelude.{standings_app, with_table_rules}
+use Rattle.requests.specs.Prelude.{standings_app, with_table_rules, with_options}
 use Rattle.requests.specs.declared.commands.TheConstants.{STANDINGS}
 use Rattle.requests.proofs.commands.standings_command.Goals as goal
 

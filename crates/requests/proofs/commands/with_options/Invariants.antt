@@ -1,6 +1,6 @@
 use Rattle.std.proofs.Common.{◌≡◌, take}
 use Rattle.clap.specs.Words.{app_of}
-use Rattle.requests.specs.CommandLine.{HasSameGlobals, with_options}
+use Rattle.requests.specs.Prelude.{HasSameGlobals, with_options}
 use Rattle.requests.proofs.commands.with_options.Given as goal
 
 abbrev pub invariant-loop-option : goal.invariant-loop-option

@@ -1,7 +1,6 @@
 use Rattle.std.proofs.Common.{◌≡◌, take}
 use Rattle.clap.specs.Words.{app_of}
-use Rattle.requests.specs.CommandLine.{HasSameGlobals}
-use Rattle.requests.specs.Words.{with_commands}
+use Rattle.requests.specs.Prelude.{HasSameGlobals, with_commands}
 use Rattle.requests.proofs.words.with_commands.Given as goal
 
 abbrev pub invariant-loop-name : goal.invariant-loop-name
