@@ -1,10 +1,13 @@
 -- The commands with options, and their options, as clap's rules see them.
-use Rattle.std.specs.Prelude.{◌≡◌, pos, true, false, Some, codes}
+use Rattle.std.specs.Prelude.{◌≡◌, List, pos, true, Some, codes}
+use Rattle.std.specs.List.{fold}
 use Rattle.clap.specs.Words.{App, Rule, Text, new_app, new_rule, with_rule}
 use Rattle.clap.specs.declared.Command.{Command, out-Command}
 use Rattle.clap.specs.declared.builder.action.ArgAction.TheVariants.{SetTrue}
 use Rattle.clap.specs.declared.builder.value_parser.ValueParser.{ValueParser}
 use Rattle.clap.specs.declared.builder.value_parser.ValueParser.TheVariants.{Signed, Unsigned}
+use Rattle.requests.specs.declared.arguments.OptionName.{OptionName}
+use Rattle.requests.specs.declared.arguments.OptionName.TheVariants.{Bracket, From, Count, Player, Instead, Rounds, Initial, Steps, Report, Notes, Points, BoardNames, PlayerNames, By, Bye}
 use Rattle.trf16.specs.declared.limits.TheConstants.{MOST_ROUNDS}
 
 -- ---- options
@@ -77,6 +80,24 @@ by_rule = option_rule (codes "by")
 unfoldable pub bye_rule : Rule
 bye_rule = number_rule (codes "bye") (Signed (pos 0) (pos 2))
 
+-- the rule of each option
+abbrev pub rule_for : OptionName → Rule
+rule_for Bracket = bracket_rule
+rule_for From = from_rule
+rule_for Count = count_rule
+rule_for Player = player_rule
+rule_for Instead = instead_rule
+rule_for Rounds = rounds_rule
+rule_for Initial = initial_rule
+rule_for Steps = steps_rule
+rule_for Report = report_rule
+rule_for Notes = notes_rule
+rule_for Points = points_rule
+rule_for BoardNames = names_rule
+rule_for PlayerNames = names_rule
+rule_for By = by_rule
+rule_for Bye = bye_rule
+
 -- ---- commands
 
 -- two commands have global arguments, or neither has
@@ -86,6 +107,10 @@ HasSameGlobals old new = (out-Command new).has_globals ≡ (out-Command old).has
 -- a command with one more option
 unfoldable pub with_option : App → Rule → App
 with_option = with_rule
+
+-- a command with some more options
+abbrev pub with_options : App → List OptionName → App
+with_options = fold (λ app name. with_option app (rule_for name))
 
 -- a command with the options of a round: `--rounds`, `--initial` and `--steps`
 unfoldable pub with_round_rules : App → App

@@ -1,6 +1,6 @@
 -- What the words of a command line ask for, by clap's rules at the program's command.
 use Rattle.std.specs.Prelude.{◌≡◌, ℕ, Bool, true, false, List, [], ◌∷◌, ◌++◌, Option, Some, None, Result, Ok, Err, option_and_then, option_map, codes, if◌then◌else◌}
-use Rattle.std.specs.List.{list_any}
+use Rattle.std.specs.List.{fold, list_any}
 use Rattle.std.specs.Str.{bytes_eq}
 use Rattle.clap.specs.Words.{App, Row, Text, new_app, subcommand_of, with_subcommand, fault_of}
 use Rattle.clap.specs.Simple.{on_top}
@@ -10,6 +10,8 @@ use Rattle.dutch_order.specs.Prelude.{has_syntax}
 use Rattle.requests.specs.declared.words.Task.{Task}
 use Rattle.requests.specs.declared.words.Request.{Request}
 use Rattle.requests.specs.declared.words.Request.TheVariants.{Check, Format, Pair, Candidates, Explain, Standings}
+use Rattle.requests.specs.declared.words.CommandName.{CommandName}
+use Rattle.requests.specs.declared.words.CommandName.TheVariants.{Check as CheckName, Format as FormatName, Pair as PairName, Candidates as CandidatesName, Explain as ExplainName, Standings as StandingsName}
 use Rattle.requests.specs.CommandLine.{bye_rule, candidates_app, explain_app, notes_rule, pair_app, points_rule, standings_app, with_option}
 use Rattle.requests.specs.Options.{◌>>=◌, bye_in, candidates_options, check_options, explain_options, format_options, pair_options, standings_options}
 use Rattle.requests.specs.declared.words.Meaning.{Meaning}
@@ -23,6 +25,15 @@ check_app = with_option (with_option (new_app (codes "check")) notes_rule) bye_r
 -- `format`
 unfoldable pub format_app : App
 format_app = with_option (with_option (new_app (codes "format")) points_rule) bye_rule
+
+-- the command of a name
+abbrev pub app_for : CommandName → App
+app_for CheckName = check_app
+app_for FormatName = format_app
+app_for PairName = pair_app
+app_for CandidatesName = candidates_app
+app_for ExplainName = explain_app
+app_for StandingsName = standings_app
 
 -- a command with a version
 unfoldable pub versioned : App → App
@@ -41,13 +52,13 @@ settled = on_top (λ top. record top {
 unfoldable pub with_command : App → App → App
 with_command app below = with_subcommand app below.top
 
--- a program with the commands that pair the next round, and that list candidates of it
-unfoldable pub with_pairing : App → App
-with_pairing app = with_command (with_command app pair_app) candidates_app
+-- a command with some more of the program's below it
+abbrev pub with_commands : App → List CommandName → App
+with_commands = fold (λ app name. with_command app (app_for name))
 
--- the same, and with those that explain it, and that rank the players
+-- a program with the commands that pair the next round, list candidates of it, explain it, and rank the players
 unfoldable pub with_engine : App → App
-with_engine app = with_command (with_command (with_pairing app) explain_app) standings_app
+with_engine app = with_command (with_command (with_command (with_command app pair_app) candidates_app) explain_app) standings_app
 
 -- the program's command line
 unfoldable pub arbiter_app : App

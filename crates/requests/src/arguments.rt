@@ -3,15 +3,77 @@ ghost use Rattle.std.specs.Prelude.{◌≡◌, false};
 ghost use Rattle.clap.specs.Words.{rule_of};
 ghost use Rattle.requests.specs.CommandLine.{bracket_rule, by_rule, bye_rule, count_rule, flag_rule, from_rule};
 ghost use Rattle.requests.specs.CommandLine.{initial_rule, instead_rule, names_rule, notes_rule, option_rule};
-ghost use Rattle.requests.specs.CommandLine.{player_rule, points_rule, report_rule, rounds_rule, steps_rule};
+ghost use Rattle.requests.specs.CommandLine.{player_rule, points_rule, report_rule, rounds_rule, rule_for, steps_rule};
 
 use clap::{Arg, ArgAction, value_parser};
 use std::alloc::Global;
 use trf16::MOST_ROUNDS;
 
-/// `--bracket K`.
+/// Which option is meant.
+#[derive(Clone, Copy)]
+pub enum OptionName {
+    /// `--bracket K`.
+    Bracket,
+    /// `--from CURSOR`.
+    From,
+    /// `--count N`.
+    Count,
+    /// `--player P`.
+    Player,
+    /// `--instead Q`.
+    Instead,
+    /// `--rounds N`.
+    Rounds,
+    /// `--initial COLOUR`.
+    Initial,
+    /// `--steps N`.
+    Steps,
+    /// `--report`.
+    Report,
+    /// `--notes`.
+    Notes,
+    /// `--points`.
+    Points,
+    /// `--names` of `pair`.
+    BoardNames,
+    /// `--names` of `standings`.
+    PlayerNames,
+    /// `--by LIST`.
+    By,
+    /// `--bye N`.
+    Bye,
+}
+
+/// An option, as clap is told of it.
+pub fn option_for<'a>(alloc: Global, which: OptionName) -> Arg<'a>
+    ensures rule { rule_of result ≡ rule_for which }
+    ensures local { result.global ≡ false }
+{
+    match which {
+        OptionName::Bracket => bracket(alloc),
+        OptionName::From => from(alloc),
+        OptionName::Count => count(alloc),
+        OptionName::Player => player(alloc),
+        OptionName::Instead => instead(alloc),
+        OptionName::Rounds => rounds(alloc),
+        OptionName::Initial => initial(alloc),
+        OptionName::Steps => steps(alloc),
+        OptionName::Report => report(alloc),
+        OptionName::Notes => notes(alloc),
+        OptionName::Points => points(alloc),
+        OptionName::BoardNames => names(
+            alloc,
+            "Prints the boards with names and scores, in columns for the wall",
+        ),
+        OptionName::PlayerNames => names(alloc, "Prints the names too, in columns for the wall"),
+        OptionName::By => by(alloc),
+        OptionName::Bye => bye(alloc),
+    }
+}
+
+// `--bracket K`.
 #[tactic(auto, unfolding(crate::specs::CommandLine::bracket_rule))]
-pub fn bracket<'a>(alloc: Global) -> Arg<'a>
+fn bracket<'a>(alloc: Global) -> Arg<'a>
     ensures rule { rule_of result ≡ bracket_rule }
     ensures local { result.global ≡ false }
 {
@@ -25,9 +87,9 @@ pub fn bracket<'a>(alloc: Global) -> Arg<'a>
     .required(true)
 }
 
-/// `--from CURSOR`.
+// `--from CURSOR`.
 #[tactic(auto, unfolding(crate::specs::CommandLine::from_rule))]
-pub fn from<'a>(alloc: Global) -> Arg<'a>
+fn from<'a>(alloc: Global) -> Arg<'a>
     ensures rule { rule_of result ≡ from_rule }
     ensures local { result.global ≡ false }
 {
@@ -39,9 +101,9 @@ pub fn from<'a>(alloc: Global) -> Arg<'a>
     )
 }
 
-/// `--count N`.
+// `--count N`.
 #[tactic(auto, unfolding(crate::specs::CommandLine::count_rule))]
-pub fn count<'a>(alloc: Global) -> Arg<'a>
+fn count<'a>(alloc: Global) -> Arg<'a>
     ensures rule { rule_of result ≡ count_rule }
     ensures local { result.global ≡ false }
 {
@@ -54,9 +116,9 @@ pub fn count<'a>(alloc: Global) -> Arg<'a>
     .value_parser(value_parser!(usize).range(1..=10_000))
 }
 
-/// `--player P`.
+// `--player P`.
 #[tactic(auto, unfolding(crate::specs::CommandLine::player_rule))]
-pub fn player<'a>(alloc: Global) -> Arg<'a>
+fn player<'a>(alloc: Global) -> Arg<'a>
     ensures rule { rule_of result ≡ player_rule }
     ensures local { result.global ≡ false }
 {
@@ -69,9 +131,9 @@ pub fn player<'a>(alloc: Global) -> Arg<'a>
     .value_parser(value_parser!(u16).range(1..=9999))
 }
 
-/// `--instead Q`.
+// `--instead Q`.
 #[tactic(auto, unfolding(crate::specs::CommandLine::instead_rule))]
-pub fn instead<'a>(alloc: Global) -> Arg<'a>
+fn instead<'a>(alloc: Global) -> Arg<'a>
     ensures rule { rule_of result ≡ instead_rule }
     ensures local { result.global ≡ false }
 {
@@ -84,9 +146,9 @@ pub fn instead<'a>(alloc: Global) -> Arg<'a>
     .value_parser(value_parser!(u16).range(0..=9999))
 }
 
-/// `--rounds N`.
+// `--rounds N`.
 #[tactic(auto, unfolding(crate::specs::CommandLine::rounds_rule))]
-pub fn rounds<'a>(alloc: Global) -> Arg<'a>
+fn rounds<'a>(alloc: Global) -> Arg<'a>
     ensures rule { rule_of result ≡ rounds_rule }
     ensures local { result.global ≡ false }
 {
@@ -99,9 +161,9 @@ pub fn rounds<'a>(alloc: Global) -> Arg<'a>
     .value_parser(value_parser!(u8).range(1..=MOST_ROUNDS as i64))
 }
 
-/// `--initial COLOUR`.
+// `--initial COLOUR`.
 #[tactic(auto, unfolding(crate::specs::CommandLine::initial_rule))]
-pub fn initial<'a>(alloc: Global) -> Arg<'a>
+fn initial<'a>(alloc: Global) -> Arg<'a>
     ensures rule { rule_of result ≡ initial_rule }
     ensures local { result.global ≡ false }
 {
@@ -113,9 +175,9 @@ pub fn initial<'a>(alloc: Global) -> Arg<'a>
     )
 }
 
-/// `--steps N`.
+// `--steps N`.
 #[tactic(auto, unfolding(crate::specs::CommandLine::steps_rule))]
-pub fn steps<'a>(alloc: Global) -> Arg<'a>
+fn steps<'a>(alloc: Global) -> Arg<'a>
     ensures rule { rule_of result ≡ steps_rule }
     ensures local { result.global ≡ false }
 {
@@ -128,9 +190,9 @@ pub fn steps<'a>(alloc: Global) -> Arg<'a>
     .value_parser(value_parser!(u64).range(0..=1_000_000_000))
 }
 
-/// `--report`.
+// `--report`.
 #[tactic(auto, unfolding(crate::specs::CommandLine::report_rule))]
-pub fn report<'a>(alloc: Global) -> Arg<'a>
+fn report<'a>(alloc: Global) -> Arg<'a>
     ensures rule { rule_of result ≡ report_rule }
     ensures local { result.global ≡ false }
 {
@@ -141,9 +203,9 @@ pub fn report<'a>(alloc: Global) -> Arg<'a>
     )
 }
 
-/// `--notes`.
+// `--notes`.
 #[tactic(auto, unfolding(crate::specs::CommandLine::notes_rule))]
-pub fn notes<'a>(alloc: Global) -> Arg<'a>
+fn notes<'a>(alloc: Global) -> Arg<'a>
     ensures rule { rule_of result ≡ notes_rule }
     ensures local { result.global ≡ false }
 {
@@ -154,9 +216,9 @@ pub fn notes<'a>(alloc: Global) -> Arg<'a>
     )
 }
 
-/// `--points`.
+// `--points`.
 #[tactic(auto, unfolding(crate::specs::CommandLine::points_rule))]
-pub fn points<'a>(alloc: Global) -> Arg<'a>
+fn points<'a>(alloc: Global) -> Arg<'a>
     ensures rule { rule_of result ≡ points_rule }
     ensures local { result.global ≡ false }
 {
@@ -167,18 +229,18 @@ pub fn points<'a>(alloc: Global) -> Arg<'a>
     )
 }
 
-/// `--names`, with what it does to the output.
+// `--names`, with what it does to the output.
 #[tactic(auto, unfolding(crate::specs::CommandLine::names_rule))]
-pub fn names<'a>(alloc: Global, help: &'a str) -> Arg<'a>
+fn names<'a>(alloc: Global, help: &'a str) -> Arg<'a>
     ensures rule { rule_of result ≡ names_rule }
     ensures local { result.global ≡ false }
 {
     flag(alloc, "names", help)
 }
 
-/// `--by LIST`.
+// `--by LIST`.
 #[tactic(auto, unfolding(crate::specs::CommandLine::by_rule))]
-pub fn by<'a>(alloc: Global) -> Arg<'a>
+fn by<'a>(alloc: Global) -> Arg<'a>
     ensures rule { rule_of result ≡ by_rule }
     ensures local { result.global ≡ false }
 {
@@ -190,9 +252,9 @@ pub fn by<'a>(alloc: Global) -> Arg<'a>
     )
 }
 
-/// `--bye N`.
+// `--bye N`.
 #[tactic(auto, unfolding(crate::specs::CommandLine::bye_rule))]
-pub fn bye<'a>(alloc: Global) -> Arg<'a>
+fn bye<'a>(alloc: Global) -> Arg<'a>
     ensures rule { rule_of result ≡ bye_rule }
     ensures local { result.global ≡ false }
 {

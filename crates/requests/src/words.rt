@@ -7,13 +7,13 @@ ghost use Rattle.requests.specs.CommandLine.{HasSameGlobals};
 ghost use Rattle.requests.specs.Options.{rows_in};
 ghost use Rattle.requests.specs.Words.{ComesTo, FitsKind, asked_by, candidates_request, explain_request, meant};
 ghost use Rattle.requests.specs.Words.{pair_request, request_of, standings_request, task_by, task_of, with_bye};
-ghost use Rattle.requests.specs.Words.{arbiter_app, check_app, format_app, settled, versioned, with_command};
-ghost use Rattle.requests.specs.Words.{with_engine, with_pairing};
+ghost use Rattle.requests.specs.Words.{app_for, arbiter_app, check_app, format_app, settled, versioned, with_command};
+ghost use Rattle.requests.specs.Words.{with_commands};
 
-use crate::arguments;
+use crate::arguments::OptionName;
 use crate::commands::{
     Made, candidates_command, described, explain_command, pair_command, standings_command,
-    with_option, with_worth,
+    with_options,
 };
 use crate::options::{
     CandidatesOptions, CheckOptions, CursorSyntax, ExplainOptions, FormatOptions, PairOptions,
@@ -40,6 +40,17 @@ pub enum Request<'a> {
     Explain(ExplainOptions),
     /// Ranks the players.
     Standings(StandingsOptions),
+}
+
+// Which command of the program is meant.
+#[derive(Clone, Copy)]
+enum CommandName {
+    Check,
+    Format,
+    Pair,
+    Candidates,
+    Explain,
+    Standings,
 }
 
 /// A request, and what its report is read by.
@@ -214,37 +225,50 @@ fn told<'a>(alloc: Global, error: &Error) -> Result<Meaning<'a>, AllocError>
     }
 }
 
+// The commands of the program, in the order in which help lists them.
+const COMMANDS: [CommandName; 6] = [
+    CommandName::Check,
+    CommandName::Format,
+    CommandName::Pair,
+    CommandName::Candidates,
+    CommandName::Explain,
+    CommandName::Standings,
+];
+
 // The program's command line.
-#[tactic(auto, unfolding(crate::specs::Words::arbiter_app))]
+#[tactic(auto, unfolding(crate::specs::Words::arbiter_app, crate::specs::Words::with_engine))]
 fn arbiter_command<'a>(alloc: Global) -> Made<'a>
     ensures app { IfOk result (λ command. app_of command ≡ arbiter_app) }
     ensures local { IfOk result (λ command. (fields_of command).has_globals ≡ false) }
 {
     let command = with_settings(named(alloc)?);
-    let command = with_command(command, check_command(alloc)?)?;
-    let command = with_command(command, format_command(alloc)?)?;
-    with_engine(alloc, command)
+    with_commands(alloc, command, &COMMANDS)
 }
 
-// A program with the commands that ask the engine.
-#[tactic(auto, unfolding(crate::specs::Words::with_engine))]
-fn with_engine<'a>(alloc: Global, command: Command<'a>) -> Made<'a>
-    ensures app { IfOk result (λ made. app_of made ≡ with_engine (app_of command.entry)) }
+// A program with some more of its commands.
+fn with_commands<'a>(alloc: Global, command: Command<'a>, names: &[CommandName]) -> Made<'a>
+    ensures app { IfOk result (λ made. app_of made ≡ with_commands (app_of command.entry) names.now) }
     ensures local { IfOk result (HasSameGlobals command.entry) }
 {
-    let command = with_pairing(alloc, command)?;
-    let command = with_command(command, explain_command(alloc)?)?;
-    with_command(command, standings_command(alloc)?)
+    let mut made = command;
+    for name in names {
+        made = with_named(alloc, made, *name)?;
+    }
+    Ok(made)
 }
 
-// A program with the commands that pair the next round, and that list candidates of it.
-#[tactic(auto, unfolding(crate::specs::Words::with_pairing))]
-fn with_pairing<'a>(alloc: Global, command: Command<'a>) -> Made<'a>
-    ensures app { IfOk result (λ made. app_of made ≡ with_pairing (app_of command.entry)) }
+// A program with one more of its commands.
+fn with_named<'a>(alloc: Global, command: Command<'a>, name: CommandName) -> Made<'a>
+    ensures app { IfOk result (λ made. app_of made ≡ with_command (app_of command.entry) (app_for name)) }
     ensures local { IfOk result (HasSameGlobals command.entry) }
 {
-    let command = with_command(command, pair_command(alloc)?)?;
-    with_command(command, candidates_command(alloc)?)
+    match command_for(alloc, name) {
+        Ok(more) => with_command(command, more),
+        Err(error) => {
+            drop(command);
+            Err(error)
+        }
+    }
 }
 
 // A program with one more command.
@@ -255,6 +279,21 @@ fn with_command<'a>(command: Command<'a>, more: Command<'a>) -> Made<'a>
     ensures local { IfOk result (HasSameGlobals command.entry) }
 {
     command.subcommand(more)
+}
+
+// A command of the program.
+fn command_for<'a>(alloc: Global, which: CommandName) -> Made<'a>
+    ensures app { IfOk result (λ command. app_of command ≡ app_for which) }
+    ensures local { IfOk result (λ command. (fields_of command).has_globals ≡ false) }
+{
+    match which {
+        CommandName::Check => check_command(alloc),
+        CommandName::Format => format_command(alloc),
+        CommandName::Pair => pair_command(alloc),
+        CommandName::Candidates => candidates_command(alloc),
+        CommandName::Explain => explain_command(alloc),
+        CommandName::Standings => standings_command(alloc),
+    }
 }
 
 // The name and the texts of the program.
@@ -286,6 +325,12 @@ fn with_settings<'a>(command: Command<'a>) -> Command<'a>
         .arg_required_else_help(true)
 }
 
+// The options of `check`.
+const CHECK: [OptionName; 2] = [OptionName::Notes, OptionName::Bye];
+
+// The options of `format`.
+const FORMAT: [OptionName; 2] = [OptionName::Points, OptionName::Bye];
+
 // The command `check`.
 #[tactic(auto, unfolding(crate::specs::Words::check_app))]
 fn check_command<'a>(alloc: Global) -> Made<'a>
@@ -298,7 +343,7 @@ fn check_command<'a>(alloc: Global) -> Made<'a>
         "Tells how many players and rounds the report has, or why it is refused",
         "The report is read from standard input. Printed are the numbers of its players and of the rounds that were paired; why it is refused goes to standard error.\n\nExample: arbiter check < report.trf",
     );
-    with_worth(alloc, with_option(command, arguments::notes(alloc))?)
+    with_options(alloc, command, &CHECK)
 }
 
 // The command `format`.
@@ -313,5 +358,5 @@ fn format_command<'a>(alloc: Global) -> Made<'a>
         "Writes the report in canonical columns, or tells why it is refused",
         "The report is read from standard input. Printed is each player's line in TRF16's columns, and each other line as it stands.\n\nExample: arbiter format < report.trf > canonical.trf",
     );
-    with_worth(alloc, with_option(command, arguments::points(alloc))?)
+    with_options(alloc, command, &FORMAT)
 }
