@@ -70,8 +70,8 @@ fn value_by_shape(rule: ByNumber<'_>, shape: Shape) -> Option<NextValue>
     })
 }
 
-/// The greatest shape of a bracket, the first arrangement of which is drawn: the shape by matchings, or else that of the
-/// whole listing, which may take very many steps.
+/// The greatest shape of a bracket, the first arrangement of which is drawn: the shape by matchings, or else that of
+/// the whole listing, which may take very many steps.
 fn greatest_drawn<'b>(
     matched: Option<Shape>,
     legal: &Legal<'_, ByNumber<'b>>,
