@@ -139,12 +139,11 @@ pub(crate) fn aim_for(
     found: &Option<Matched>,
     room: &mut Room,
 ) -> Option<Quality> {
+    let (context, pairs) = (pass.shaped.context, pass.shaped.shape.pairs);
     match (found, pass.wish) {
-        (Some(matched), None) if matched.pairs.len() == pass.shaped.shape.pairs => Some(aim_by(
-            pass, weights, matched, room,
-        )),
-        _ => pass
-            .floors
-            .aim(premise_with(pass.shaped.context, pass.wish)),
+        (Some(matched), None) if matched.pairs.len() == pairs => {
+            Some(aim_by(pass, weights, matched, room))
+        }
+        _ => pass.floors.aim(premise_with(context, pass.wish)),
     }
 }

@@ -362,20 +362,15 @@ fn weigh<'a>(
     ensures stopped { MatchResult result (λ _. Unit {0}) (λ _. budget.new.used ≡ budget.new.limit) }
     ensures spends { Spends budget.old budget.new }
 {
-    let count = pass.shaped.context.len();
-    if is_weighed(pass.shaped.context, next) {
+    let (context, shape) = (pass.shaped.context, pass.shaped.shape);
+    let count = context.len();
+    if is_weighed(context, next) {
         spend((count * count) as u64, budget)?;
-        if let Ok(Some(weights)) = WeightFloors::weighed(
-            pass.shaped.context,
-            pass.shaped.shape,
-            next,
-        ) {
+        if let Ok(Some(weights)) = WeightFloors::weighed(context, shape, next) {
             return weighed_by(pass, weights, room, budget);
         }
     }
-    let aim = pass
-        .floors
-        .aim(premise_with(pass.shaped.context, pass.wish));
+    let aim = pass.floors.aim(premise_with(context, pass.wish));
     Ok(Weighed { weights: None, aim })
 }
 
