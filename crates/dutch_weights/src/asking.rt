@@ -189,7 +189,9 @@ impl<'a> WeightFloors<'a> {
             return Ok(None);
         };
         match cheapest(context.alloc(), &rest, left) {
-            Ok(found) => Ok(proposed_by(context.alloc(), &rest, scoped.size(), &found).unwrap_or(None)),
+            Ok(found) => Ok(proposed_by(context.alloc(), &rest, scoped.size(), &found).unwrap_or(
+                None,
+            )),
             Err(Fault::Stopped) => Err(Stopped),
             Err(_) => Ok(None),
         }
