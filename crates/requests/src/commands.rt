@@ -1,4 +1,5 @@
-// The commands with options of their own, and what all commands take, as clap is told of them.
+// The commands that ask the engine, and how clap is told of options. A command lists the names of its options, and one
+// loop tells them: clap's command is a large struct, and a proof lists all of it for each call that may fail.
 ghost use Rattle.std.specs.Prelude.{◌≡◌, IfOk, false};
 ghost use Rattle.clap.specs.declared.Command.{out-Command as fields_of};
 ghost use Rattle.clap.specs.Words.{app_of, new_app, rule_of};

@@ -265,6 +265,7 @@ fn with_named<'a>(alloc: Global, command: Command<'a>, name: CommandName) -> Mad
     match command_for(alloc, name) {
         Ok(more) => with_command(command, more),
         Err(error) => {
+            // A call drops it in one step of the proof; left to the end, each of its fields is a step.
             drop(command);
             Err(error)
         }
