@@ -69,7 +69,7 @@ fn score_in(context: &Context<'_>, number: u16) -> u16 {
 
 /// Puts the differences of the pairs of the next bracket in a matching to their places, as far as there is room.
 fn put_below(context: &Context<'_>, matched: &Matched, psd: &mut Numbers) {
-    for pair in &matched.below {
+    for pair in &matched.next {
         let (first, second) = (score_in(context, pair.0), score_in(context, pair.1));
         if psd.len() < LIMIT {
             put(psd, first.abs_diff(second));
@@ -82,7 +82,7 @@ fn put_alone(context: &Context<'_>, matched: &Matched, psd: &mut Numbers) {
     let (field, least) = (context.field(), context.score_below());
     for above in 0..context.len_below() {
         let number = above as u16 + 1;
-        let is_met = is_in(&matched.pairs, number) || is_in(&matched.below, number);
+        let is_met = is_in(&matched.pairs, number) || is_in(&matched.next, number);
         if psd.len() < LIMIT && !is_met {
             put(
                 psd,
@@ -98,7 +98,7 @@ fn value_below(context: &Context<'_>, matched: &Matched) -> NextValue {
     put_below(context, matched, &mut psd);
     put_alone(context, matched, &mut psd);
     NextValue {
-        pairs: matched.below.len(),
+        pairs: matched.next.len(),
         psd,
     }
 }

@@ -1,5 +1,5 @@
 -- The words of dutch_weights by one name: for its proofs, and for the crates above.
-pub use Rattle.dutch_weights.specs.WeightTables.{HasAll, HasBelow, HasPairs, IsHeavy, IsNumber, IsNumberBelow, IsThere, IsWritten, PutsBehind, TellsBelow, TellsBelowUpto, TellsDown, TellsDownUpto, TellsEachBelow, TellsPairs, TellsPairsUpto, alone_weight, below_of, down_weight, met_weight, own_weight, pair_of, pair_weight, place_in, place_of, score_of, weighed_on}
+pub use Rattle.dutch_weights.specs.WeightTables.{HasAll, HasBelow, HasPairs, IsHeavy, IsNumber, IsNumberBelow, IsThere, IsWritten, PutsBehind, TellsBelow, TellsBelowUpto, TellsDown, TellsDownUpto, TellsEachBelow, TellsPairs, TellsPairsUpto, alone_weight, next_weight_of, down_weight, met_weight, own_weight, pair_of, pair_weight, place_in, place_of, score_of, weighed_on}
 pub use Rattle.dutch_weights.specs.WeightFloors.{AreFloors, AreOf, BeginsWith, HasBar, HasNoBetterOn, HasSameNextOn, IsBar, IsChoosable, IsLeast, IsLeastOf, IsLeastWith, IsMostAdded, IsScaleHere, IsScaled, IsWeightFloor, KnowsNext, ScopedFloor, Weighed, WeighsNoLess, added_in, bound_behind, is_first, left_known, passed_over, weighed_for, weighing_of, weight_in}
 pub use Rattle.dutch_weights.specs.Orders.{AreAdded, Order, added, kept, lesser, more_of, short_of, with_lesser}
 pub use Rattle.dutch_weights.specs.Rests.{IsRest, Rest, joined, vertices}

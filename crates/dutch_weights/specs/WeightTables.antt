@@ -3,7 +3,7 @@
 use Rattle.std.specs.Prelude.{◌≡◌, ℕ, ◌+◌, ◌-◌, ◌*◌, ◌^◌, ◌<◌, ◌≤◌, Option, None, Some, List, [], ◌∷◌, length, slice_index, slice_index_or, nat_le, if◌then◌else◌}
 use Rattle.std.specs.Option.{ForSome, SomeIff}
 use Rattle.dutch_bracket.specs.Prelude.{Context, count_below, score_below, seat_below, Reached, numbers_meet, difference_down, score_at, Scale, Weighing, weight_below, weight_of_one_down, weight_of_pair, written}
-use Rattle.dutch_weights.specs.declared.weighing.Below.{Below}
+use Rattle.dutch_weights.specs.declared.weighing.NextWeight.{NextWeight}
 use Rattle.dutch_weights.specs.declared.weighing.PairWeight.{PairWeight}
 
 -- a number that is there exactly where it is less than 2^512
@@ -97,23 +97,23 @@ alone_weight w a =
     + weight_below w.scale 1 (difference_down w.facts (score_below w.facts w.lower) (seat_below w.facts w.reached w.lower a) ∷ [])
 
 -- C.7: what a number weighs in the next bracket, one way and the other
-abbrev pub below_of : Weighing → ℕ → Below
-below_of w a = record { met = met_weight w a; alone = alone_weight w a }
+abbrev pub next_weight_of : Weighing → ℕ → NextWeight
+next_weight_of w a = record { met = met_weight w a; alone = alone_weight w a }
 
 -- a table has a place for each number of the bracket and the next lower scoregroup
-abbrev pub HasBelow : Weighing → List Below → Type 0
+abbrev pub HasBelow : Weighing → List NextWeight → Type 0
 HasBelow w table = length table ≡ count_below w.facts w.reached w.lower
 
 -- a table tells of each of the first numbers what it weighs in the next bracket
-abbrev pub TellsBelowUpto : Weighing → List Below → ℕ → Type 0
-TellsBelowUpto w table end = (a : ℕ) (d : Below) → IsNumberBelow w a → a ≤ end → slice_index_or table (a - 1) d ≡ below_of w a
+abbrev pub TellsBelowUpto : Weighing → List NextWeight → ℕ → Type 0
+TellsBelowUpto w table end = (a : ℕ) (d : NextWeight) → IsNumberBelow w a → a ≤ end → slice_index_or table (a - 1) d ≡ next_weight_of w a
 
 -- and of all
-abbrev pub TellsEachBelow : Weighing → List Below → Type 0
-TellsEachBelow w table = (a : ℕ) (d : Below) → IsNumberBelow w a → slice_index_or table (a - 1) d ≡ below_of w a
+abbrev pub TellsEachBelow : Weighing → List NextWeight → Type 0
+TellsEachBelow w table = (a : ℕ) (d : NextWeight) → IsNumberBelow w a → slice_index_or table (a - 1) d ≡ next_weight_of w a
 
 -- if the next bracket is measured, a table has a place for each number and tells of all
-abbrev pub TellsBelow : Weighing → List Below → Type 0
+abbrev pub TellsBelow : Weighing → List NextWeight → Type 0
 TellsBelow w table = ForSome w.scale.next (λ _. HasBelow w table × TellsEachBelow w table)
 
 -- a pair, a downfloater, or one in the next bracket weighs so much

@@ -29,7 +29,7 @@ const MOST_HALVINGS: u32 = 16;
 #[derive(Drop)]
 pub struct Matched {
     pub pairs: Vec<Pair>,
-    pub below: Vec<Pair>,
+    pub next: Vec<Pair>,
 }
 
 /// Whoever is in a pair in all arrangements is left over at so many times what is more than any weight.
@@ -98,8 +98,8 @@ fn proposed_by(
         return Ok(None);
     };
     let pairs = made_pairs(rest, &found.partners, true, alloc)?;
-    let below = made_pairs(rest, &found.partners, false, alloc)?;
-    let matched = Matched { pairs, below };
+    let next = made_pairs(rest, &found.partners, false, alloc)?;
+    let matched = Matched { pairs, next };
     Ok(Some(Proposal { table, matched }))
 }
 

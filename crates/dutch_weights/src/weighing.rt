@@ -8,7 +8,7 @@ ghost use Rattle.dutch_bracket.specs.Prelude.{seated_so, no_value, numbers_meet,
 ghost use Rattle.dutch_bracket.specs.Prelude.{count_below, weight_with};
 ghost use Rattle.dutch_weights.specs.WeightTables.{HasAll, HasBelow, HasPairs, IsHeavy, IsNumber, IsNumberBelow};
 ghost use Rattle.dutch_weights.specs.WeightTables.{TellsBelow, TellsDown, TellsEachBelow, TellsPairs, TellsPairsUpto};
-ghost use Rattle.dutch_weights.specs.WeightTables.{alone_weight, below_of, down_weight, met_weight, own_weight};
+ghost use Rattle.dutch_weights.specs.WeightTables.{alone_weight, next_weight_of, down_weight, met_weight, own_weight};
 ghost use Rattle.dutch_weights.specs.WeightTables.{pair_of, pair_weight, place_in, place_of, weighed_on};
 ghost use Rattle.dutch_order.specs.declared.numbers.TheConstants.{LIMIT};
 
@@ -40,12 +40,12 @@ pub(crate) struct Weighing<'a> {
     // of each number
     down: Vec<Wide>,
     // of each number of the bracket and the next lower scoregroup, if C.7 is measured
-    below: Vec<Below>,
+    next: Vec<NextWeight>,
 }
 
 /// What a number weighs that meets somebody in the next bracket, and what it weighs in no pair there (C.7).
 #[derive(Clone, Copy)]
-pub(crate) struct Below {
+pub(crate) struct NextWeight {
     met: Wide,
     alone: Wide,
 }
@@ -63,7 +63,7 @@ impl<'a> Model for Weighing<'a> {
         × TellsPairs (weighed_on w.context.now w.scale) w.pairs.items)
         × (HasAll (weighed_on w.context.now w.scale) w.down.items
         × TellsDown (weighed_on w.context.now w.scale) w.down.items)
-        × TellsBelow (weighed_on w.context.now w.scale) w.below.items };
+        × TellsBelow (weighed_on w.context.now w.scale) w.next.items };
 }
 
 /// What the weights of a bracket are worked out by.
@@ -251,8 +251,8 @@ impl Weigher<'_> {
     {
         let score = self.context.field().score(self.context.seat_below(a));
         let difference = score.saturating_sub(self.context.score_below());
-        let below = self.scale.weigh_below(0, difference)?;
-        self.own(a, down).plus(below)
+        let weight = self.scale.weigh_below(0, difference)?;
+        self.own(a, down).plus(weight)
     }
 
     /// What a number weighs that is in no pair of the next bracket; none if it is 2^512 or more.
@@ -266,25 +266,25 @@ impl Weigher<'_> {
         let field = self.context.field();
         let seat = self.context.seat_below(a);
         let difference = difference_down(field, self.context.score_below(), seat);
-        let below = self.scale.weigh_below(1, difference)?;
-        self.own(a, down).plus(below)
+        let weight = self.scale.weigh_below(1, difference)?;
+        self.own(a, down).plus(weight)
     }
 
     /// What a number weighs in the next bracket; none if that is 2^512 or more.
-    fn below(&self, a: u16, down: &[Wide]) -> Option<Below>
+    fn next_weight(&self, a: u16, down: &[Wide]) -> Option<NextWeight>
         requires number { IsNumberBelow self.now a }
         requires group { length self.now.reached.seats < count_below self.now.facts self.now.reached self.now.lower }
         requires room { HasAll self.now down.now }
         requires told { TellsDown self.now down.now }
-        ensures { MatchOption result (IsHeavy self.now (2 ^ 512)) (λ below. below ≡ below_of self.now a) }
+        ensures { MatchOption result (IsHeavy self.now (2 ^ 512)) (λ weight. weight ≡ next_weight_of self.now a) }
     {
         let met = self.met(a, down)?;
         let alone = self.alone(a, down)?;
-        Some(Below { met, alone })
+        Some(NextWeight { met, alone })
     }
 
     /// Puts what all numbers weigh in the next bracket into a table.
-    fn put_below(&self, down: &[Wide], table: &mut [Below]) -> bool
+    fn put_below(&self, down: &[Wide], table: &mut [NextWeight]) -> bool
         requires group { length self.now.reached.seats < count_below self.now.facts self.now.reached self.now.lower }
         requires room { HasAll self.now down.now }
         requires told { TellsDown self.now down.now }
@@ -293,8 +293,8 @@ impl Weigher<'_> {
         ensures heavy { result ≡ false → IsHeavy self.now (2 ^ 512) }
     {
         for a in 0..self.context.len_below() {
-            match self.below(a as u16 + 1, down) {
-                Some(below) => table[a] = below,
+            match self.next_weight(a as u16 + 1, down) {
+                Some(weight) => table[a] = weight,
                 None => return false,
             }
         }
@@ -346,7 +346,7 @@ fn weigh_next(
     alloc: Global,
     weigher: &Weigher<'_>,
     down: &[Wide],
-) -> Result<Option<Vec<Below>>, AllocError>
+) -> Result<Option<Vec<NextWeight>>, AllocError>
     requires room { HasAll weigher.now down.now }
     requires told { TellsDown weigher.now down.now }
     requires next { ForSome weigher.now.scale.next (λ _. weigher.now.reached.kind ≡ Ordinary) }
@@ -356,7 +356,7 @@ fn weigh_next(
     if !weigher.scale.counts_next() {
         return Ok(Some(Vec::new(alloc)));
     }
-    let nothing = Below {
+    let nothing = NextWeight {
         met: Wide::zero(),
         alone: Wide::zero(),
     };
@@ -389,7 +389,7 @@ impl<'a> Weighing<'a> {
         let Some(down) = weigh_down(context.alloc(), &weigher, &mut room)? else {
             return Ok(None);
         };
-        let Some(below) = weigh_next(context.alloc(), &weigher, &down)? else {
+        let Some(next) = weigh_next(context.alloc(), &weigher, &down)? else {
             return Ok(None);
         };
         Ok(Some(Weighing {
@@ -397,7 +397,7 @@ impl<'a> Weighing<'a> {
             scale,
             pairs,
             down,
-            below,
+            next,
         }))
     }
 
@@ -434,7 +434,7 @@ impl Weighing<'_> {
         requires some { is_some self.now.scale.next ≡ true }
         ensures { result ≡ met_weight self.now a }
     {
-        self.below[usize::from(a) - 1].met
+        self.next[usize::from(a) - 1].met
     }
 
     /// What a number weighs that is in no pair of the next bracket (C.7).
@@ -443,7 +443,7 @@ impl Weighing<'_> {
         requires some { is_some self.now.scale.next ≡ true }
         ensures { result ≡ alone_weight self.now a }
     {
-        self.below[usize::from(a) - 1].alone
+        self.next[usize::from(a) - 1].alone
     }
 }
 

@@ -9,4 +9,4 @@ pub returns-in_default-2 : goal.returns-in_default-2
 returns-in_default-2 c = at_none c.in_ok-down.field-0 _ _ c.in_default-2.is c.in_ok-down.ensures
 
 pub returns-in_default-3 : goal.returns-in_default-3
-returns-in_default-3 c = at_none c.in_ok-below.field-0 _ _ c.in_default-3.is c.in_ok-below.ensures
+returns-in_default-3 c = at_none c.in_ok-next.field-0 _ _ c.in_default-3.is c.in_ok-next.ensures

@@ -3,7 +3,7 @@ use Rattle.std.proofs.Common.{◌^◌}
 use Rattle.dutch_weights.specs.Prelude.{alone_weight, met_weight}
 use Rattle.dutch_weights.specs.WeightTables.{alone, met}
 use Rattle.dutch_weights.proofs.WeighingLemmas.{at_least}
-use Rattle.dutch_weights.proofs.weighing.Weigher.below.Goals as goal
+use Rattle.dutch_weights.proofs.weighing.Weigher.next_weight.Goals as goal
 
 pub returns-in_err-met : goal.returns-in_err-met
 returns-in_err-met c =
