@@ -63,79 +63,98 @@ fn qualities(
     }
 }
 
+// The qualities of all candidates of the second bracket.
+fn qualities_in_the_second(alloc: Global, field: &Field) -> Result<Vec<Quality>, Fail> {
+    let BracketAt::Bracket { reached, shape } = bracket_at(alloc, field, 1000, 2)? else {
+        return Err(Fail::new("not reached"));
+    };
+    a_bracket_stands_above_the_lower(field, 2, &reached, shape);
+    qualities(alloc, field, &reached, shape)
+}
+
+// Whether there are two qualities, and C.10 is the first item in which they differ.
+fn differ_in_preferences(all: &[Quality]) -> bool {
+    let [first, second] = all else {
+        return false;
+    };
+    first.first_difference(second) == Some(Item::MissedPreferences)
+        && first.first_difference(first).is_none()
+}
+
+// Whether a quality has the values of C.6 to C.11 of a pair of which so many players miss a strong preference.
+fn has_missed(quality: &Quality, missed: u16) -> bool {
+    quality.psd() == [2, 1].as_slice()
+        && quality.next_pairs() == 1
+        && quality.next_psd() == [1].as_slice()
+        && (quality.wide_differences(), quality.third_colours()) == (0, 0)
+        && (quality.missed_preferences(), quality.missed_strong()) == (missed, missed)
+}
+
+// Whether nobody floats again, by C.12 to C.19.
+fn floats_nobody_again(quality: &Quality) -> bool {
+    (quality.down_again(), quality.up_again()) == (0, 0)
+        && (quality.down_again_before(), quality.up_again_before()) == (0, 0)
+        && quality.down_again_by().is_empty()
+        && quality.up_again_by().is_empty()
+        && quality.down_again_before_by().is_empty()
+        && quality.up_again_before_by().is_empty()
+}
+
 // One of the second candidate's players misses a strong preference; in all else the two are alike.
 #[test]
 fn qualities_of_both_candidates(rt: HostRuntime) -> Result<(), Fail> {
-    let alloc = rt.alloc();
-    let field = field_of(alloc, &ONE_MOVES_DOWN, Some(5), Some(Colour::White))?;
-    let BracketAt::Bracket { reached, shape } = bracket_at(alloc, &field, 1000, 2)? else {
-        return Err(Fail::new("not reached"));
-    };
-    a_bracket_stands_above_the_lower(&field, 2, &reached, shape);
-    let all = qualities(alloc, &field, &reached, shape)?;
-    assert_eq!(rt; all.len(), 2);
-    if let [first, second] = all.as_slice() {
-        assert_eq!(rt;
-            first.first_difference(second),
-            Some(Item::MissedPreferences)
-        );
-        assert_eq!(rt; first.first_difference(first), None);
-    }
+    let field = field_of(rt.alloc(), &ONE_MOVES_DOWN, Some(5), Some(Colour::White))?;
+    let all = qualities_in_the_second(rt.alloc(), &field)?;
+    assert!(rt; differ_in_preferences(&all));
     for (quality, missed) in all.iter().zip([0, 1]) {
-        assert_eq!(rt; quality.psd(), [2, 1].as_slice());
-        assert_eq!(rt; quality.next_pairs(), 1);
-        assert_eq!(rt; quality.next_psd(), [1].as_slice());
-        assert_eq!(rt;
-            (quality.wide_differences(), quality.third_colours()),
-            (0, 0)
+        assert!(rt;
+            has_missed(quality, missed) && floats_nobody_again(quality),
+            "{missed} missed"
         );
-        assert_eq!(rt; quality.missed_preferences(), missed);
-        assert_eq!(rt; quality.missed_strong(), missed);
-        assert_eq!(rt; (quality.down_again(), quality.up_again()), (0, 0));
-        assert_eq!(rt;
-            (quality.down_again_before(), quality.up_again_before()),
-            (0, 0)
-        );
-        assert!(rt; quality.down_again_by().is_empty());
-        assert!(rt; quality.up_again_by().is_empty());
-        assert!(rt; quality.down_again_before_by().is_empty());
-        assert!(rt; quality.up_again_before_by().is_empty());
     }
     Ok(())
+}
+
+// The choice in the second bracket, above one lower player, and the shape that the bracket was reached with.
+fn choice_in_the_second(alloc: Global, field: &Field) -> Result<(Choice, Shape), Fail> {
+    let BracketAt::Bracket { reached, shape } = bracket_at(alloc, field, 1000, 2)? else {
+        return Err(Fail::new("not reached"));
+    };
+    a_bracket_stands_above_the_lower(field, 2, &reached, shape);
+    let lower = lower_of(field, &reached);
+    if lower.as_slice() != [3].as_slice() {
+        return Err(Fail::new("others stand below"));
+    }
+    let mut budget = Budget {
+        limit: 1000,
+        used: 0,
+    };
+    Ok((choose(alloc, field, &reached, &lower, &mut budget)?, shape))
+}
+
+// Whether the pair of 1 and 2 was chosen, in a bracket of this shape.
+fn is_one_with_two(choice: &Choice, shape: Shape) -> bool {
+    let Choice::Chosen {
+        shape: chosen,
+        candidate,
+        quality,
+    } = choice
+    else {
+        return false;
+    };
+    (chosen.pairs, chosen.mdps) == (shape.pairs, shape.mdps)
+        && quality.psd() == [2, 1].as_slice()
+        && (quality.next_pairs(), quality.missed_strong()) == (1, 0)
+        && (candidate.s1(), candidate.s2()) == ([1].as_slice(), [2].as_slice())
+        && candidate.down() == [3].as_slice()
 }
 
 // The first wants black and meets the second, who wants white; the fourth moves down.
 #[test]
 fn choice_of_a_bracket(rt: HostRuntime) -> Result<(), Fail> {
-    let alloc = rt.alloc();
-    let field = field_of(alloc, &ONE_MOVES_DOWN, Some(5), Some(Colour::White))?;
-    let BracketAt::Bracket { reached, shape } = bracket_at(alloc, &field, 1000, 2)? else {
-        return Err(Fail::new("not reached"));
-    };
-    a_bracket_stands_above_the_lower(&field, 2, &reached, shape);
-    let lower = lower_of(&field, &reached);
-    assert_eq!(rt; lower.as_slice(), [3].as_slice());
-    let mut budget = Budget {
-        limit: 1000,
-        used: 0,
-    };
-    match choose(alloc, &field, &reached, &lower, &mut budget)? {
-        Choice::Chosen {
-            shape: chosen,
-            candidate,
-            quality,
-        } => {
-            assert_eq!(rt; quality.psd(), [2, 1].as_slice());
-            assert_eq!(rt; (quality.next_pairs(), quality.missed_strong()), (1, 0));
-            assert_eq!(rt; (chosen.pairs, chosen.mdps), (shape.pairs, shape.mdps));
-            assert_eq!(rt;
-                (candidate.s1(), candidate.s2()),
-                ([1].as_slice(), [2].as_slice())
-            );
-            assert_eq!(rt; candidate.down(), [3].as_slice());
-        }
-        _ => assert!(rt; false, "not chosen"),
-    }
+    let field = field_of(rt.alloc(), &ONE_MOVES_DOWN, Some(5), Some(Colour::White))?;
+    let (choice, shape) = choice_in_the_second(rt.alloc(), &field)?;
+    assert!(rt; is_one_with_two(&choice, shape));
     Ok(())
 }
 

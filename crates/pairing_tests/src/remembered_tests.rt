@@ -107,34 +107,32 @@ fn value_of(
     }
 }
 
+// Whether a value takes steps at first and, with no step left, is there again; it fails where nothing was kept.
+fn is_kept(look: &mut LookAhead<'_>, reached: &Reached) -> Result<bool, Fail>
+    requires reached { look.old.reached ≡ reached.now }
+{
+    let mut budget = Budget {
+        limit: 100_000,
+        used: 0,
+    };
+    let (pairs, psd) = value_of(look, reached, &[3, 8], &mut budget)?;
+    let used = budget.used;
+    let mut spent = Budget { limit: used, used };
+    let (same, again) = value_of(look, reached, &[3, 8], &mut spent)?;
+    Ok(
+        used > 0
+            && (pairs, same) == (3, 3)
+            && psd.as_slice() == [1, 1, 0].as_slice()
+            && again.as_slice() == psd.as_slice(),
+    )
+}
+
 #[test]
 fn a_value_that_is_kept_takes_no_step(rt: HostRuntime) -> Result<(), Fail> {
     let field = field_of(rt.alloc(), &TWELVE, Some(5), Some(Colour::White))?;
     let reached = eight(rt.alloc(), &field)?;
     let mut look = look_at_four(rt.alloc(), &field, &reached)?;
-    let mut budget = Budget {
-        limit: 100_000,
-        used: 0,
-    };
-    let (pairs, psd) = value_of(&mut look, &reached, &[3, 8], &mut budget)?;
-    assert_eq!(rt; pairs, 3);
-    assert_eq!(rt; psd.as_slice(), [1, 1, 0].as_slice());
-    assert!(rt; budget.used > 0);
-    let mut spent = Budget {
-        limit: budget.used,
-        used: budget.used,
-    };
-    match look_of(&mut look, &reached, &[3, 8], &mut spent)? {
-        Look::Value {
-            pairs: same,
-            psd: again,
-        } => {
-            assert_eq!(rt; same, pairs);
-            assert_eq!(rt; again.as_slice(), psd.as_slice());
-        }
-        // Nothing was kept: it could not be looked up, and no step was left to look for it.
-        Look::Undecided => return Err(Fail::new("not kept")),
-    }
+    assert!(rt; is_kept(&mut look, &reached)?);
     Ok(())
 }
 
@@ -155,6 +153,26 @@ fn look_up_the_last_64(
     Ok(())
 }
 
+// Looks up the values of the lists of 1 to 65; it fails where one is not kept, beside the 63 before it.
+fn look_up_the_first_65(
+    alloc: Global,
+    look: &mut LookAhead<'_>,
+    reached: &Reached,
+    budget: &mut Budget,
+) -> Result<(), Fail>
+    requires reached { look.old.reached ≡ reached.now }
+    ensures reached { look.new.reached ≡ reached.now }
+{
+    for number in 1..66 {
+        let down = places_of_ones(alloc, number)?;
+        value_of(look, reached, &down, budget)?;
+        if look.len() < usize::from(number.min(64)) {
+            return Err(Fail::new("out of memory"));
+        }
+    }
+    Ok(())
+}
+
 #[test]
 fn the_last_64_values_are_kept(rt: HostRuntime) -> Result<(), Fail> {
     let field = field_of(rt.alloc(), &TWELVE, Some(5), Some(Colour::White))?;
@@ -164,14 +182,8 @@ fn the_last_64_values_are_kept(rt: HostRuntime) -> Result<(), Fail> {
         limit: 1_000_000,
         used: 0,
     };
-    for number in 1..66 {
-        let down = places_of_ones(rt.alloc(), number)?;
-        value_of(&mut look, &reached, &down, &mut budget)?;
-        if look.len() < usize::from(number.min(64)) {
-            return Err(Fail::new("out of memory"));
-        }
-    }
-    assert_eq!(rt; look.len(), 64);
+    look_up_the_first_65(rt.alloc(), &mut look, &reached, &mut budget)?;
+    assert!(rt; look.len() == 64);
     look_up_the_last_64(rt.alloc(), &mut look, &reached)?;
     let before = budget.used;
     value_of(&mut look, &reached, &[1], &mut budget)?;
@@ -179,16 +191,20 @@ fn the_last_64_values_are_kept(rt: HostRuntime) -> Result<(), Fail> {
     Ok(())
 }
 
+// Whether a value stays undecided without steps.
+fn is_undecided(look: &mut LookAhead<'_>, reached: &Reached) -> Result<bool, Fail>
+    requires reached { look.old.reached ≡ reached.now }
+{
+    let mut none = Budget { limit: 0, used: 0 };
+    let answer = look_of(look, reached, &[1], &mut none)?;
+    Ok(matches!(answer, Look::Undecided))
+}
+
 #[test]
 fn an_undecided_value_is_not_kept(rt: HostRuntime) -> Result<(), Fail> {
     let field = field_of(rt.alloc(), &TWELVE, Some(5), Some(Colour::White))?;
     let reached = eight(rt.alloc(), &field)?;
     let mut look = look_at_four(rt.alloc(), &field, &reached)?;
-    let mut none = Budget { limit: 0, used: 0 };
-    match look_of(&mut look, &reached, &[1], &mut none)? {
-        Look::Value { .. } => assert!(rt; false, "decided"),
-        Look::Undecided => {}
-    }
-    assert_eq!(rt; look.len(), 0);
+    assert!(rt; is_undecided(&mut look, &reached)? && look.len() == 0);
     Ok(())
 }

@@ -14,11 +14,15 @@ const ALL: usize = 1_000_000;
 // The four lists and the downfloaters of a candidate, one after another.
 fn numbers_of(alloc: Global, candidate: &Candidate) -> Result<Vec<u16>, Fail> {
     let mut numbers = Vec::new(alloc);
-    numbers.extend_from_slice(candidate.s1())?;
-    numbers.extend_from_slice(candidate.s2())?;
-    numbers.extend_from_slice(candidate.s1r())?;
-    numbers.extend_from_slice(candidate.s2r())?;
-    numbers.extend_from_slice(candidate.down())?;
+    for list in [
+        candidate.s1(),
+        candidate.s2(),
+        candidate.s1r(),
+        candidate.s2r(),
+        candidate.down(),
+    ] {
+        numbers.extend_from_slice(list)?;
+    }
     Ok(numbers)
 }
 

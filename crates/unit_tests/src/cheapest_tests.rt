@@ -266,36 +266,40 @@ fn drawn_graphs(rt: HostRuntime) -> Result<(), Fail> {
     Ok(())
 }
 
-// A triangle at no cost, of which one is left over: only a priced set shows that. With a fourth vertex nobody is.
-#[test]
-fn triangles_and_steps(rt: HostRuntime) -> Result<(), Fail> {
-    let alloc = rt.alloc();
-    let mut costs = [MOST; 64];
-    for place in [1, 2, 8, 10, 16, 17] {
-        costs[place] = 0;
-    }
-    costs[3] = 5;
-    costs[24] = 5;
-    for (size, sets) in [(3, 1), (4, 0)] {
-        let graph = Graph {
-            size,
-            costs: &costs,
-            left: &[9; 8],
-        };
-        assert_eq!(rt; sets_of(alloc, &graph)?, Some(sets), "{size} vertices");
-    }
-    let graph = Graph {
-        size: 4,
-        costs: &costs,
+// A triangle at no cost, to whose first vertex a fourth one is joined for 5.
+const TAILED: [u64; 25] = [
+    MOST, 0, 0, 5, MOST, MOST, MOST, MOST, 0, MOST, 0, MOST, MOST, MOST, MOST, MOST, 0, 0, MOST,
+    MOST, MOST, MOST, MOST, MOST, 5,
+];
+
+// The first vertices of it; each may be left over, for 9.
+fn tailed(size: u16) -> Graph<'static> {
+    Graph {
+        size,
+        costs: &TAILED,
         left: &[9; 8],
-    };
-    let found = found_of(alloc, &graph)?;
+    }
+}
+
+// One of a triangle is left over: only a priced set shows that. With the fourth vertex nobody is.
+#[test]
+fn triangles(rt: HostRuntime) -> Result<(), Fail> {
+    for (size, sets) in [(3, 1), (4, 0)] {
+        assert!(rt;
+            sets_of(rt.alloc(), &tailed(size))? == Some(sets),
+            "{size} vertices"
+        );
+    }
+    let found = found_of(rt.alloc(), &tailed(4))?;
     assert!(rt; found.partners.as_slice() == [Some(3), Some(2), Some(1), Some(0)].as_slice());
-    let mut left = 5;
-    let stopped = cheapest(alloc, &graph, &mut left);
-    assert!(rt; stopped.err() == Some(Fault::Stopped));
-    assert_eq!(rt; left, 0);
     Ok(())
+}
+
+#[test]
+fn too_few_steps(rt: HostRuntime) {
+    let mut left = 5;
+    let stopped = cheapest(rt.alloc(), &tailed(4), &mut left).err();
+    assert!(rt; stopped == Some(Fault::Stopped) && left == 0);
 }
 
 #[test]

@@ -146,14 +146,21 @@ fn pairs_of_known_graphs(rt: HostRuntime) -> Result<(), Fail> {
 }
 
 #[test]
-fn partners_and_labels(rt: HostRuntime) -> Result<(), Fail> {
-    let alloc = rt.alloc();
-    let tailed = found_of(alloc, 4, &TAILED)?;
-    assert!(rt; tailed.partners.as_slice() == [Some(3), Some(2), Some(1), Some(0)].as_slice());
-    let star = found_of(alloc, 6, &STAR)?;
-    assert!(rt; star.labels.as_slice() == [0, 1, 2, 3, 4, 5].as_slice());
-    let triangles = found_of(alloc, 6, &TRIANGLES)?;
-    assert!(rt; triangles.labels.as_slice() == [1, 1, 1, 2, 2, 2].as_slice());
+fn partners_of_a_tailed_triangle(rt: HostRuntime) -> Result<(), Fail> {
+    let found = found_of(rt.alloc(), 4, &TAILED)?;
+    assert!(rt; found.partners.as_slice() == [Some(3), Some(2), Some(1), Some(0)].as_slice());
+    Ok(())
+}
+
+#[test]
+fn labels_of_a_star_and_of_triangles(rt: HostRuntime) -> Result<(), Fail> {
+    let table = [
+        (STAR.as_slice(), [0, 1, 2, 3, 4, 5]),
+        (TRIANGLES.as_slice(), [1, 1, 1, 2, 2, 2]),
+    ];
+    for (edges, labels) in table {
+        assert!(rt; found_of(rt.alloc(), 6, edges)?.labels.as_slice() == labels.as_slice());
+    }
     Ok(())
 }
 

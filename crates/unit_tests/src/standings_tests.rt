@@ -12,7 +12,12 @@ type Wanted<'a> = (u16, u16, &'a [Option<u32>]);
 // The standings of some lines.
 fn table_of(alloc: Global, lines: &[PlayerLine<'_>], keys: &[Key]) -> Result<Standings, Fail> {
     let text = text_of(alloc, lines)?;
-    let report = trf16::read(alloc, text.as_bytes())?;
+    table_of_text(alloc, text.as_bytes(), keys)
+}
+
+// The standings of a report's text.
+fn table_of_text(alloc: Global, text: &[u8], keys: &[Key]) -> Result<Standings, Fail> {
+    let report = trf16::read(alloc, text)?;
     Ok(table(alloc, &report, keys)?)
 }
 
