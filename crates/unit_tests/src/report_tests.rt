@@ -92,6 +92,11 @@ fn carried_lines(rt: HostRuntime) -> Result<(), Fail> {
             "{line}"
         );
     }
+    assert!(rt;
+        report
+            .unsupported(&[LineKind::Rank, LineKind::Xxa])
+            .is_none()
+    );
     Ok(())
 }
 
