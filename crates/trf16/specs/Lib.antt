@@ -16,6 +16,7 @@ pub mod Notes
 pub mod Unfinished
 pub mod Written
 pub mod Round
+pub mod BeforeRound
 pub mod Steps
 pub mod StartRanks
 pub mod Points

@@ -16,6 +16,7 @@
 
 mod answering;
 mod apart;
+mod before_round;
 mod cell;
 mod cells;
 mod columns;

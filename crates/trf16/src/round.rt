@@ -52,7 +52,12 @@ fn cell_by(boards: &[(u16, u16)], start: u16) -> Option<Cell>
 }
 
 // The same cells, with that of the round behind the first `before` set.
-fn with_cell(alloc: Global, cells: &[Cell], before: u8, cell: Cell) -> Result<Vec<Cell>, AllocError>
+pub(crate) fn with_cell(
+    alloc: Global,
+    cells: &[Cell],
+    before: u8,
+    cell: Cell,
+) -> Result<Vec<Cell>, AllocError>
     requires few { length cells.now ≤ MOST_ROUNDS }
     requires within { before < MOST_ROUNDS }
     ensures set { IfOk result (λ set. set.items ≡ with_cell before cell cells.now) }
@@ -134,7 +139,7 @@ impl<'a> Report<'a> {
     }
 
     // A points field that is not blank becomes the sum of the first rounds.
-    fn points_with(&self, points: Option<u16>, cells: &[Cell], rounds: u8) -> Option<u16>
+    pub(crate) fn points_with(&self, points: Option<u16>, cells: &[Cell], rounds: u8) -> Option<u16>
         requires { length cells.now ≤ MOST_ROUNDS }
         ensures { result ≡ option_map (λ _. sum_by (half_points self.now.bye) (take rounds cells.now)) points }
     {
