@@ -28,8 +28,8 @@ fn is_absence(cell: &Cell) -> bool
 }
 
 impl<'a> Report<'a> {
-    // Whether a line `XXZ` names a player.
-    fn is_named_absent(&self, start: u16) -> bool
+    /// Whether a line `XXZ` names a player: then they are absent from the next round, whatever their cells say.
+    pub fn is_named_absent(&self, start: u16) -> bool
         ensures { result ≡ is_named_absent self.now start }
     {
         self.notes.absent.has(start)
