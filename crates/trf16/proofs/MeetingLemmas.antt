@@ -62,7 +62,7 @@ pub record PairFits (mine theirs : Cell) : Type 0 where
   pub class : are_of_one_class mine theirs ≡ true
   pub points : game_points mine + game_points theirs ≤ 2
 
-pair_is : (start round : ℕ) (mine theirs : Cell) → pair_fits start round mine theirs ≡ fits → PairFits mine theirs
+pub pair_is : (start round : ℕ) (mine theirs : Cell) → pair_fits start round mine theirs ≡ fits → PairFits mine theirs
 unfolding pair_fits
 pair_is start round mine theirs e =
     let colours = guard (not (are_opposite (colour_in_cell mine) (colour_in_cell theirs) || (is_forfeit mine && is_forfeit theirs))) (Colours start round) _ (tt {0}) e in
@@ -77,7 +77,7 @@ pub record CellFits (sheet : Sheet) (start round opponent : ℕ) (mine : Cell) :
   pub both_ways : opponent_in_cell (cell_in sheet opponent round) ≡ Some start
   pub pair : PairFits mine (cell_in sheet opponent round)
 
-cell_is : (sheet : Sheet) (start round opponent : ℕ) (mine : Cell) → opponent_in_cell mine ≡ Some opponent → cell_fits sheet start round mine ≡ fits
+pub cell_is : (sheet : Sheet) (start round opponent : ℕ) (mine : Cell) → opponent_in_cell mine ≡ Some opponent → cell_fits sheet start round mine ≡ fits
     → CellFits sheet start round opponent mine
 unfolding cell_fits
 cell_is sheet start round opponent mine names e =

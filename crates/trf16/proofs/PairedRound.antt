@@ -339,7 +339,7 @@ some_named board rest (entry ∷ entries) is = by (entry.start == board.0) refl 
 
 -- the rules on two players and on points, in the new report
 
-fits-none : (sheet : Sheet) (start round : ℕ) (cell : Cell) → opponent_in_cell cell ≡ None → cell_fits sheet start round cell ≡ fits
+pub fits-none : (sheet : Sheet) (start round : ℕ) (cell : Cell) → opponent_in_cell cell ≡ None → cell_fits sheet start round cell ≡ fits
 unfolding cell_fits
 fits-none sheet start round cell none = rw none refl
 
@@ -367,7 +367,7 @@ fits-same old new start round cell players cells = by (opponent_in_cell cell)
     by None = refl
     by (Some opponent) = rw (players opponent, cells opponent) refl
 
-cells_fit-from : (sheet : Sheet) (start n : ℕ) (cells : List Cell) → ((i : ℕ) → i < length cells → cell_fits sheet start (n + i) (get_or cells i Blank) ≡ fits)
+pub cells_fit-from : (sheet : Sheet) (start n : ℕ) (cells : List Cell) → ((i : ℕ) → i < length cells → cell_fits sheet start (n + i) (get_or cells i Blank) ≡ fits)
     → cells_fit sheet start n cells ≡ fits
 unfolding cells_fit
 cells_fit-from sheet start n [] each = refl

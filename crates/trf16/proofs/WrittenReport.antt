@@ -45,12 +45,12 @@ pub known-turned : (utf8 : Bool) (turn : Entry → Entry) (entries : List Entry)
 known-turned utf8 turn [] start t = refl
 known-turned utf8 turn (entry ∷ entries) start t = rw (t.start entry, known-turned utf8 turn entries start t) refl
 
-line_from : (sheet : Sheet) (n : ℕ) (line : List (List ℕ)) (entry : Entry) → is_player line ≡ true → player_at sheet n line ≡ Ok entry
+pub line_from : (sheet : Sheet) (n : ℕ) (line : List (List ℕ)) (entry : Entry) → is_player line ≡ true → player_at sheet n line ≡ Ok entry
     → line_onto sheet n line ≡ Ok (with_player sheet entry)
 unfolding line_onto player_onto
 line_from sheet n line entry named e = rw (named, e) refl
 
-abbrev are_all_small : List Entry → Type 0
+abbrev pub are_all_small : List Entry → Type 0
 are_all_small [] = Unit {0}
 are_all_small (entry ∷ entries) = are_small entry.points × are_all_small entries
 
@@ -109,7 +109,7 @@ pub first_onto : (sheet final : Sheet) (n : ℕ) (line : List ℕ) (rest : List 
 unfolding lines_onto
 first_onto sheet final n line rest e = then_ok (line_onto sheet n (columns sheet.utf8 line)) (λ next. lines_onto next (n + 1) rest) final e
 
-onto_from : (sheet next final : Sheet) (n : ℕ) (line : List ℕ) (rest : List (List ℕ)) → line_onto sheet n (columns sheet.utf8 line) ≡ Ok next
+pub onto_from : (sheet next final : Sheet) (n : ℕ) (line : List ℕ) (rest : List (List ℕ)) → line_onto sheet n (columns sheet.utf8 line) ≡ Ok next
     → lines_onto next (n + 1) rest ≡ Ok final → lines_onto sheet n (line ∷ rest) ≡ Ok final
 unfolding lines_onto
 onto_from sheet next final n line rest e e' = rw e e'
@@ -260,7 +260,7 @@ small_points sheet entry y worth few e = by entry.points e
         decide points ((points == sum_by (half_points sheet.bye) (take (rounds_played sheet) entry.cells)) || (points == sum_by (half_points sheet.bye) entry.cells) || (has_other_points sheet && nat_lt points 200))
         (tests points) e
 
-all_small : (utf8 : Bool) (sheet : Sheet) (entries : List Entry) (y : Unit {0}) → sheet.bye ≤ 2 → are_all_sound utf8 entries → players_fit sheet entries ≡ Ok y
+pub all_small : (utf8 : Bool) (sheet : Sheet) (entries : List Entry) (y : Unit {0}) → sheet.bye ≤ 2 → are_all_sound utf8 entries → players_fit sheet entries ≡ Ok y
     → are_all_small entries
 unfolding players_fit player_fits
 all_small utf8 sheet [] y worth sound e = tt
@@ -342,7 +342,7 @@ text_is utf8 bytes bye report turn worth unmarked r turns fit =
       laid = subst (λ (all' : List (List ℕ)). IsLaidOut utf8 all' bye (turned turn report)) (sym copy) again;
     }
 
-verdict_from : (bytes : List ℕ) (bye : ℕ) (report : Sheet) → length bytes ≤ MOST_BYTES → without_marks bytes ≡ bytes
+pub verdict_from : (bytes : List ℕ) (bye : ℕ) (report : Sheet) → length bytes ≤ MOST_BYTES → without_marks bytes ≡ bytes
     → IsLaidOut (is_utf8 bytes) (lines bytes) bye report → players_fit report report.players ≡ Ok tt → verdict bytes bye ≡ Ok report
 unfolding verdict laid_out
 verdict_from bytes bye report few same r fit = rw (le-ltb MOST_BYTES (length bytes) few, same, r.read, r.size, fit) refl

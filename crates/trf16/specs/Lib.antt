@@ -23,4 +23,6 @@ pub mod Points
 pub mod Names
 pub mod Summed
 pub mod Ranking
+pub mod Ratings
+pub mod Renumbered
 pub mod Prelude

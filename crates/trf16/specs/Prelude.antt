@@ -26,3 +26,5 @@ pub use Rattle.trf16.specs.Names.{name_in, name_of, player_of}
 pub use Rattle.trf16.specs.Summed.{IsButForPoints, entry_summed, summed}
 unfoldable pub use Rattle.trf16.specs.Summed.{all_cells_fit, verdict_unsummed}
 pub use Rattle.trf16.specs.Ranking.{IsRankedBy, NoneBefore, placed_by, ranked_by}
+pub use Rattle.trf16.specs.Ratings.{goes_before, higher_titles, place_among, rating_of, title_of, titles}
+pub use Rattle.trf16.specs.Renumbered.{first_unread, names_start_ranks, names_unread, new_start, number_behind, rank_among, renumbered, renumbered_by, renumbered_cell, renumbered_entry, renumbered_line, renumbered_word}

@@ -17,6 +17,7 @@
 mod answering;
 mod apart;
 mod before_round;
+mod carried_lines;
 mod cell;
 mod cells;
 mod columns;
@@ -47,6 +48,7 @@ mod start_ranks;
 mod summed;
 mod writing;
 
+pub use carried_lines::CarriedLines;
 pub use cell::{Bye, Cell, Colour, GameOutcome};
 pub use cells::{cell_at, front, is_unfinished};
 pub use columns::{column_count, is_blank, split_columns, split_kind};
@@ -61,4 +63,4 @@ pub use output::put_all;
 pub use player::Player;
 pub use reading::{read, read_unsummed, read_with};
 pub use report::Report;
-pub use writing::write;
+pub use writing::{put_player_line, write};

@@ -184,8 +184,9 @@ fn put_line<W: Sink>(w: &mut W, line: &[u8]) -> Result<(), Failed>
     put_all(w, b"\n")
 }
 
-// The line of a player, with its end.
-fn put_player_line<W: Sink>(w: &mut W, utf8: bool, player: &Player<'_>) -> Result<(), Failed>
+/// Puts the line of a player in TRF16's columns, with LF behind it; a column is a character if the report is UTF-8,
+/// otherwise a byte.
+pub fn put_player_line<W: Sink>(w: &mut W, utf8: bool, player: &Player<'_>) -> Result<(), Failed>
     ensures { Puts (player_text utf8 (entry_of player.now) ++ (10 ∷ [])) (use_of W.held W.failures w.old w.new) result }
 {
     put_player(w, utf8, player)?;
