@@ -1,0 +1,6 @@
+//! Laws on the report as it stood before a round, and on the boards of a round: what holds of the definitions, beyond
+//! what one call promises.
+//!
+//! Each law is a function with an empty body, and its contract is the law. No other crate uses them. They tie the
+//! definitions of `trf16` on earlier rounds to those of the crates above it, which `trf16` itself cannot name.
+#![tactic(auto)]
