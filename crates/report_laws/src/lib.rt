@@ -4,3 +4,5 @@
 //! Each law is a function with an empty body, and its contract is the law. No other crate uses them. They tie the
 //! definitions of `trf16` on earlier rounds to those of the crates above it, which `trf16` itself cannot name.
 #![tactic(auto)]
+
+pub mod views;

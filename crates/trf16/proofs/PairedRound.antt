@@ -36,26 +36,26 @@ one_is x y e = cc
 -- what a board gives
 
 -- a cell that a board gives: it is paired, so it is not blank, and it names a player of the boards or none
-record IsGiven (boards : List (ℕ × ℕ)) (cell : Cell) : Type 0 where
-  paired : is_paired cell ≡ true
+pub record IsGiven (boards : List (ℕ × ℕ)) (cell : Cell) : Type 0 where
+  pub paired : is_paired cell ≡ true
   said : is_blank_cell cell ≡ false
   names : (o : ℕ) → opponent_in_cell cell ≡ Some o → list_any (nat_eq o) (named_by boards) ≡ true
 
-named_head : (board : ℕ × ℕ) (rest : List (ℕ × ℕ)) → list_any (nat_eq board.0) (named_by (board ∷ rest)) ≡ true
+pub named_head : (board : ℕ × ℕ) (rest : List (ℕ × ℕ)) → list_any (nat_eq board.0) (named_by (board ∷ rest)) ≡ true
 named_head board rest = by (board.1 == 0)
   where
     by : (bye : Bool) → list_any (nat_eq board.0) (cond bye (board.0 ∷ named_by rest) (board.0 ∷ board.1 ∷ named_by rest)) ≡ true
     by true = rw (eq-self board.0) refl
     by false = rw (eq-self board.0) refl
 
-named_black : (board : ℕ × ℕ) (rest : List (ℕ × ℕ)) → (board.1 == 0) ≡ false → list_any (nat_eq board.1) (named_by (board ∷ rest)) ≡ true
+pub named_black : (board : ℕ × ℕ) (rest : List (ℕ × ℕ)) → (board.1 == 0) ≡ false → list_any (nat_eq board.1) (named_by (board ∷ rest)) ≡ true
 named_black board rest some = rw some (by (nat_eq board.1 board.0))
   where
     by : (b : Bool) → (b || (nat_eq board.1 board.1 || list_any (nat_eq board.1) (named_by rest))) ≡ true
     by true = refl
     by false = rw (eq-self board.1) refl
 
-named_tail : (board : ℕ × ℕ) (rest : List (ℕ × ℕ)) (n : ℕ) → list_any (nat_eq n) (named_by rest) ≡ true → list_any (nat_eq n) (named_by (board ∷ rest)) ≡ true
+pub named_tail : (board : ℕ × ℕ) (rest : List (ℕ × ℕ)) (n : ℕ) → list_any (nat_eq n) (named_by rest) ≡ true → list_any (nat_eq n) (named_by (board ∷ rest)) ≡ true
 named_tail board rest n is = by (board.1 == 0)
   where
     or_true : (b : Bool) → (b || true) ≡ true
@@ -72,7 +72,7 @@ bye_given boards = record { paired = refl; said = refl; names = λ o e. absurd (
 given_later : (board : ℕ × ℕ) (rest : List (ℕ × ℕ)) (cell : Cell) → IsGiven rest cell → IsGiven (board ∷ rest) cell
 given_later board rest cell g = record { paired = g.paired; said = g.said; names = λ o names. named_tail board rest o (g.names o names) }
 
-given : (boards : List (ℕ × ℕ)) (start : ℕ) (cell : Cell) → cell_by boards start ≡ Some cell → IsGiven boards cell
+pub given : (boards : List (ℕ × ℕ)) (start : ℕ) (cell : Cell) → cell_by boards start ≡ Some cell → IsGiven boards cell
 given [] start cell e = absurd (cc)
 given (board ∷ rest) start cell e = by (board.0 == start) (board.1 == 0) refl (board.1 == start) e (λ e'. given_later board rest cell (given rest start cell e'))
   where
@@ -203,13 +203,13 @@ answered (board ∷ rest) start cell player some distinct e =
 
 -- the cell that is set, and the others
 
-with_cell-here : (n : ℕ) (cell : Cell) (cells : List Cell) → get_or (with_cell n cell cells) n Blank ≡ cell
+pub with_cell-here : (n : ℕ) (cell : Cell) (cells : List Cell) → get_or (with_cell n cell cells) n Blank ≡ cell
 with_cell-here zero cell [] = refl
 with_cell-here zero cell (first ∷ rest) = refl
 with_cell-here (suc n) cell [] = with_cell-here n cell []
 with_cell-here (suc n) cell (first ∷ rest) = with_cell-here n cell rest
 
-with_cell-there : (n i : ℕ) (cell : Cell) (cells : List Cell) → (i ≡ n → ⊥) → get_or (with_cell n cell cells) i Blank ≡ get_or cells i Blank
+pub with_cell-there : (n i : ℕ) (cell : Cell) (cells : List Cell) → (i ≡ n → ⊥) → get_or (with_cell n cell cells) i Blank ≡ get_or cells i Blank
 with_cell-there zero zero cell cells other = absurd (other refl)
 with_cell-there zero (suc i) cell [] other = refl
 with_cell-there zero (suc i) cell (first ∷ rest) other = refl
@@ -221,14 +221,14 @@ with_cell-there (suc n) (suc i) cell [] other = with_cell-there n i cell [] (λ 
     nothing i = get_or_past [] i Blank (omega arith)
 with_cell-there (suc n) (suc i) cell (first ∷ rest) other = with_cell-there n i cell rest (λ e. other (ap suc e))
 
-cells-there : (boards : List (ℕ × ℕ)) (n i : ℕ) (entry : Entry) → (i ≡ n → ⊥) → get_or (cells_with boards n entry) i Blank ≡ get_or entry.cells i Blank
+pub cells-there : (boards : List (ℕ × ℕ)) (n i : ℕ) (entry : Entry) → (i ≡ n → ⊥) → get_or (cells_with boards n entry) i Blank ≡ get_or entry.cells i Blank
 cells-there boards n i entry other = by (cell_by boards entry.start)
   where
     by : (o : Option Cell) → get_or (option_map_or (λ cell. with_cell n cell entry.cells) o entry.cells) i Blank ≡ get_or entry.cells i Blank
     by None = refl
     by (Some cell) = with_cell-there n i cell entry.cells other
 
-cells-here : (boards : List (ℕ × ℕ)) (n : ℕ) (entry : Entry) (cell : Cell) → cell_by boards entry.start ≡ Some cell → get_or (cells_with boards n entry) n Blank ≡ cell
+pub cells-here : (boards : List (ℕ × ℕ)) (n : ℕ) (entry : Entry) (cell : Cell) → cell_by boards entry.start ≡ Some cell → get_or (cells_with boards n entry) n Blank ≡ cell
 cells-here boards n entry cell e = rw e (with_cell-here n cell entry.cells)
 
 all-there : (bye : ℕ) (boards : List (ℕ × ℕ)) (n i : ℕ) (entries : List Entry) (start : ℕ) → (i ≡ n → ⊥)
@@ -269,7 +269,7 @@ last-first cell rest le = by (last_paired rest) (is_paired cell) le (cases_lt 0 
     by x true le (inr none) = let h = rw (le-ltb 0 x none) at le in absurd (omega arith)
     by x false le (inr none) = (refl, none)
 
-not_paired : (n : ℕ) (cells : List Cell) → last_paired cells ≤ n → is_paired (get_or cells n Blank) ≡ false
+pub not_paired : (n : ℕ) (cells : List Cell) → last_paired cells ≤ n → is_paired (get_or cells n Blank) ≡ false
 not_paired zero [] le = refl
 not_paired (suc n) [] le = refl
 not_paired zero (cell ∷ rest) le = (last-first cell rest le).0
@@ -379,7 +379,7 @@ cells_fit-from sheet start n (cell ∷ rest) each =
     subst (λ r. cell_fits sheet start r (get_or rest i Blank) ≡ fits) next (each (suc i) (omega arith))) in
     rw here others
 
-no_opponent : (cell : Cell) → is_paired cell ≡ false → opponent_in_cell cell ≡ None
+pub no_opponent : (cell : Cell) → is_paired cell ≡ false → opponent_in_cell cell ≡ None
 no_opponent Blank e = refl
 no_opponent (Bye bye) e = refl
 no_opponent (Game opponent colour rated got) e = absurd (true≢false e)
@@ -474,7 +474,7 @@ given_sound boards cell small g = by (opponent_in_cell cell) refl
     by None e = refl
     by (Some opponent) e = all_in (λ k. is_small k ≡ true) (named_by boards) opponent small (g.names opponent e)
 
-all-with : (n : ℕ) (cell : Cell) (cells : List Cell) → is_sound cell ≡ true → list_all is_sound cells ≡ true → list_all is_sound (with_cell n cell cells) ≡ true
+pub all-with : (n : ℕ) (cell : Cell) (cells : List Cell) → is_sound cell ≡ true → list_all is_sound cells ≡ true → list_all is_sound (with_cell n cell cells) ≡ true
 all-with zero cell [] here all = and_from (is_sound cell) true here refl
 all-with zero cell (first ∷ rest) here all = and_from (is_sound cell) (list_all is_sound rest) here (and_parts (is_sound first) (list_all is_sound rest) all).1
 all-with (suc n) cell [] here all = all-with n cell [] here refl
@@ -482,7 +482,7 @@ all-with (suc n) cell (first ∷ rest) here all =
     let both = and_parts (is_sound first) (list_all is_sound rest) all in
     and_from (is_sound first) (list_all is_sound (with_cell n cell rest)) both.0 (all-with n cell rest here both.1)
 
-length-with : (n : ℕ) (cell : Cell) (cells : List Cell) → length (with_cell n cell cells) ≤ max (n + 1) (length cells)
+pub length-with : (n : ℕ) (cell : Cell) (cells : List Cell) → length (with_cell n cell cells) ≤ max (n + 1) (length cells)
 length-with zero cell [] = omega arith
 length-with zero cell (first ∷ rest) = omega arith
 length-with (suc n) cell [] = let later : length (with_cell n cell []) ≤ max (n + 1) 0 = length-with n cell [] in omega arith
@@ -574,7 +574,7 @@ all_more : (P Q : ℕ → Type 0) (xs : List ℕ) → ((n : ℕ) → P n → Q n
 all_more P Q [] more all = tt
 all_more P Q (x ∷ xs) more all = (more x all.0, all_more P Q xs more all.1)
 
-played_again : (boards : List (ℕ × ℕ)) (sheet : Sheet) → 0 < length boards → AllByRecursion (λ k. known sheet k ≡ true) (named_by boards)
+pub played_again : (boards : List (ℕ × ℕ)) (sheet : Sheet) → 0 < length boards → AllByRecursion (λ k. known sheet k ≡ true) (named_by boards)
     → rounds_played (with_round boards sheet) ≡ rounds_played sheet + 1
 played_again [] sheet some named = absurd (omega arith)
 played_again (board ∷ rest) sheet some named =

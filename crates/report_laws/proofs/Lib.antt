@@ -1,0 +1,5 @@
+pub mod CellLemmas
+pub mod FieldLemmas
+pub mod BackLemmas
+pub mod PairedView
+pub mod ViewCases

@@ -1,0 +1,22 @@
+// Laws of a report as it stood before a round.
+ghost use Rattle.std.specs.Prelude.{◌≡◌, ◌+◌, ◌<◌, ℕ, List, Some, length};
+ghost use Rattle.report_laws.specs.Boards.{NameAllPresent};
+ghost use Rattle.report_laws.specs.Fields.{GivesFieldOf};
+ghost use Rattle.trf16.specs.Prelude.{CanBePaired, HasOwnStarts, Sheet, before_round, rounds_played, with_round};
+
+/// If boards that name each present player, and nobody else, are put into a report as its next round, then the report
+/// that comes of it has a view before that round, and the next round of the view is paired from what that of the first
+/// report was: the same players are present, with the same scores, floats, colours and opponents, the same ones are
+/// kept apart, and the total of rounds and the initial colour are the same. If no further round can be paired, the
+/// reason is the same.
+pub fn a_paired_round_has_its_field_back()
+    ensures { (report : Sheet) (boards : List (ℕ × ℕ)) → HasOwnStarts report → CanBePaired boards report
+        → NameAllPresent boards report → 0 < length boards
+        → GivesFieldOf (before_round (with_round boards report) (rounds_played report + 1)) report }
+{}
+
+/// The next round of a report as it stood before a round is that round.
+pub fn the_next_round_is_the_one_asked_for()
+    ensures { (report view : Sheet) (round : ℕ) → before_round report round ≡ Some view
+        → rounds_played view + 1 ≡ round }
+{}
