@@ -36,3 +36,26 @@ pub lines_at : (bytes : List ℕ) (n : ℕ) → 0 < length bytes → n ≤ lengt
     → lines bytes ≡ take n bytes ∷ lines (behind_end (drop n bytes))
 lines_at bytes n h within inside behind =
     rw (← position_or_len_is ends_line bytes n 0 within inside behind) (lines-first bytes h)
+
+fewer_onto : (b n : ℕ) (all : List (List ℕ)) → length all ≤ n + 1 → length (onto_first b all) ≤ n + 2
+fewer_onto b n [] le = omega arith
+fewer_onto b n (first ∷ others) le = omega arith
+
+-- a text has no more lines than bytes
+pub lines_fewer : (bytes : List ℕ) → length (lines bytes) ≤ length bytes
+lines_fewer [] = omega arith
+lines_fewer (b ∷ []) = by (ends_line b)
+  where
+    by : (ends : Bool) → length (cond ends ([] ∷ []) ((b ∷ []) ∷ [])) ≤ 1
+    by true = omega arith
+    by false = omega arith
+lines_fewer (b ∷ c ∷ rest) =
+    let less : length (lines rest) ≤ length rest = lines_fewer rest in
+    let more : length (lines (c ∷ rest)) ≤ suc (length rest) = lines_fewer (c ∷ rest) in
+    by ((b == 13) && (c == 10)) (ends_line b) less (omega arith)
+  where
+    by : (pair ends : Bool) → length (lines rest) ≤ length rest → length (lines (c ∷ rest)) ≤ length rest + 1
+        → length (cond pair ([] ∷ lines rest) (cond ends ([] ∷ lines (c ∷ rest)) (onto_first b (lines (c ∷ rest))))) ≤ suc (suc (length rest))
+    by true ends less more = omega arith
+    by false true less more = omega arith
+    by false false less more = let le = fewer_onto b (length rest) (lines (c ∷ rest)) more in omega arith

@@ -1,5 +1,5 @@
 // The lines of a report one by one, with what is carried of each.
-ghost use Rattle.std.specs.Prelude.{◌≡◌, ◌∷◌, [], option_copied, MatchOption};
+ghost use Rattle.std.specs.Prelude.{◌≡◌, ◌<◌, ◌^◌, ◌∷◌, [], length, option_copied, MatchOption};
 
 use crate::lines::next_line;
 use crate::report::{Report, carried_line};
@@ -40,7 +40,8 @@ impl<'a> CarriedLines<'a> {
 impl<'a> Report<'a> {
     /// All lines, in their order, with what is carried of each.
     pub fn carried_lines(&self) -> CarriedLines<'a>
-        ensures { result ≡ self.now.carried }
+        ensures lines { result ≡ self.now.carried }
+        ensures few { length result < 2 ^ 63 }
     {
         CarriedLines {
             rest: self.text,
