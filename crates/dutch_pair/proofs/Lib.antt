@@ -9,6 +9,7 @@ pub mod GroupWalk
 pub mod RoundEnds
 pub mod WholeRounds
 pub mod NamedBoards
+pub mod EverybodyStands
 pub mod NextRound
 pub mod OneBye
 pub mod BoardOrder

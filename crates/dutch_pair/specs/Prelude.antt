@@ -8,7 +8,7 @@ unfoldable pub use Rattle.dutch_pair.specs.Examples.{boards_of}
 pub use Rattle.dutch_pair.specs.Outcomes.{AreStages, IsBracketAt, IsOutcome, IsStage, IsStoppedIn, TellsCompletion, TellsCompletionAt, shown, visit, visit_at, visit_of}
 pub use Rattle.dutch_pair.specs.Walk.{AreAbove, AreRanked, Goes}
 pub use Rattle.dutch_pair.specs.Stages.{ArePairs, GoesOn, HasEnded, IsBehind, IsFound, IsHalt, IsSettled, IsUnderWay, StandsAt, Starts, TellsUsed, Walk, bye_at, choice_of, group_kind, in_front, is_again, own_pairs, round_by, round_from, stage_first}
-pub use Rattle.dutch_pair.specs.Everybody.{NameEverybodyOnce}
+pub use Rattle.dutch_pair.specs.Everybody.{NameEverybodyOnce, is_reached}
 pub use Rattle.dutch_pair.specs.WaysOut.{GoesOut, HasWayOut, StandsBefore}
 pub use Rattle.dutch_pair.specs.DeadEnds.{HasNoPairOf, NoTwoMayMeet, PairOut, moved_down}
 pub use Rattle.dutch_pair.specs.Barriers.{Barrier, Blocks, has_blockers, is_first, label, lacks_bye, opens_odd_group}

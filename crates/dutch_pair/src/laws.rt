@@ -1,6 +1,6 @@
 // Laws over the definitions of a round (C.04.3 A.9, B, C): of qualities, completable players, boards, shapes and
 // scoregroups; laws that give what the calls on a bracket ask for; and that there is no dead end.
-ghost use Rattle.std.specs.Prelude.{◌≡◌, ◌≤◌, ◌⊎◌, ◌↔◌, ℕ, Bool, IfSome, List, ◌++◌, Ok, Option, None, Some, false};
+ghost use Rattle.std.specs.Prelude.{◌≡◌, ◌+◌, ◌*◌, ◌<◌, ◌≤◌, ◌⊎◌, ◌↔◌, ℕ, Bool, IfSome, List, ◌++◌, Ok, Option, None, Some, false};
 ghost use Rattle.std.specs.Prelude.{length, true, is_some};
 ghost use Rattle.std.specs.List.{AllByRecursion, concat};
 ghost use Rattle.std.specs.Option.{IsSomeAnd};
@@ -15,7 +15,7 @@ ghost use Rattle.dutch_bracket.specs.Prelude.{fits, has_member, can_complete, mo
 ghost use Rattle.dutch_bracket.specs.Prelude.{seats_may_be_left};
 ghost use Rattle.dutch_player.specs.Prelude.{Facts, facts_of, CountFromOne};
 ghost use Rattle.dutch_pair.specs.Boards.{AreInOrder, boards, ordered};
-ghost use Rattle.dutch_pair.specs.Everybody.{NameEverybodyOnce};
+ghost use Rattle.dutch_pair.specs.Everybody.{NameEverybodyOnce, is_reached};
 ghost use Rattle.dutch_order.specs.Prelude.{Fits, Frame, down, Candidate, IsIn};
 ghost use Rattle.dutch_order.specs.declared.bracket.Shape.{Shape};
 ghost use Rattle.dutch_pair.specs.DeadEnds.{HasNoPairOf, NoTwoMayMeet, PairOut, moved_down};
@@ -66,6 +66,17 @@ pub fn completable_by_test()
         → Completable meets may_be_left players ↔ (can_complete meets may_be_left players ≡ true) }
 {}
 
+/// The most steps that it takes to tell whether n + 2 players are completable. Where nobody may be left out: for each of
+/// the n + 1 partners of the first player the question, and the most steps of the n others. Where somebody may: the same,
+/// and the question about the first player's bye with the most steps of the n + 1 others, none of whom may be left out.
+pub fn most_of_two_more()
+    ensures nobody_left { (n : ℕ) → most (n + 2) false ≡ (n + 1) * (1 + most n false) }
+    ensures one_left { (n : ℕ) → most (n + 2) true ≡ (n + 1) * (1 + most n true) + (1 + most (n + 1) false) }
+    ensures none { (bye : Bool) → most 0 bye ≡ 0 }
+    ensures one { most 1 false ≡ 0 }
+    ensures one_alone { most 1 true ≡ 1 }
+{}
+
 /// The most steps of none to five players, one of whom may be left out.
 pub fn most_of_few()
     ensures none { most 0 true ≡ 0 }
@@ -81,6 +92,13 @@ pub fn most_of_few()
 pub fn everybody_is_named_once()
     ensures { (facts : Facts) (pairing : Pairing) → CountFromOne facts → (round facts).pairing ≡ Some pairing
         → NameEverybodyOnce facts (boards facts pairing) }
+{}
+
+/// In a round that is paired each present player stands in one of the brackets that it reaches.
+#[tactic(auto, using(crate::proofs::EverybodyStands::stands_in_one))]
+pub fn everybody_stands_in_a_bracket()
+    ensures { (facts : Facts) (pairing : Pairing) (seat : ℕ) → (round facts).pairing ≡ Some pairing
+        → seat < length facts.seats → is_reached (round facts).reached seat ≡ true }
 {}
 
 /// In a round that is paired at most one player has the bye.
