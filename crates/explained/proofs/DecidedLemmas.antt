@@ -1,9 +1,13 @@
 -- Where it is decided, bracket by bracket.
-use Rattle.std.proofs.Common.{◌≡◌, ◌∙◌, ℕ, Bool, true, false, cond, ◌&&◌, ◌||◌, inl, inr, List, [], ◌∷◌, Some, refl, sym, ap}
-use Rattle.std.proofs.lemmas.Bool.{and_parts, true≢false}
+use Rattle.std.proofs.Common.{◌≡◌, ◌∙◌, ℕ, ◌<◌, Bool, true, false, cond, ◌&&◌, ◌||◌, inl, inr, List, [], ◌∷◌, length, map, Some, refl, sym, ap}
+use Rattle.std.specs.Prelude.{is_some}
+use Rattle.std.proofs.lemmas.Bool.{and_from, and_parts, true≢false}
+use Rattle.dutch_player.specs.Prelude.{Facts}
+use Rattle.dutch_pair.specs.Prelude.{Pairing, is_reached, round, visit}
+use Rattle.dutch_pair.proofs.EverybodyStands.{stands_in_one as stands_in_a_bracket}
 use Rattle.dutch_pair.specs.declared.stage.Stage.{Stage}
 use Rattle.dutch_choice.specs.declared.wish.Wish.{Wish}
-use Rattle.explained.specs.InsteadAnswers.{decided_in, goes_on, stands_in, stands_in_one, wish_in}
+use Rattle.explained.specs.InsteadAnswers.{IsRival, decided_in, goes_on, stands_in, stands_in_one, wish_in}
 use Rattle.explained.specs.InsteadLaws.{IsDecidedIn, IsLastOf, IsLastOfOne}
 use Rattle.explained.specs.declared.instead.Rival.{Rival}
 use Rattle.explained.specs.declared.instead.Rival.TheVariants.{Bye, Seat}
@@ -61,7 +65,45 @@ module _ (player : ℕ) (rival : Rival) where
         wished = sym same ∙ ap (λ s. wish_in rest s player rival) one;
       }
 
-  pub is_decided : (stages : List Stage) (stage : Stage) (wish : Wish) → both_in stages ≡ true → decided_in stages player rival ≡ Some (stage, wish)
+  is_decided : (stages : List Stage) (stage : Stage) (wish : Wish) → both_in stages ≡ true → decided_in stages player rival ≡ Some (stage, wish)
       → IsDecidedIn stages player rival stage wish
   is_decided [] stage wish both e = cc
   is_decided (first ∷ rest) stage wish both e = decided_at first rest stage wish (both_in rest) refl both (is_decided rest stage wish) e
+
+  some_at : (first : Stage) (rest : List Stage) (t : Bool) → both_in rest ≡ t → (both_in rest ≡ true → is_some (decided_in rest player rival) ≡ true)
+      → is_some (cond t (decided_in rest player rival) (Some (first, wish_in rest first player rival))) ≡ true
+  some_at first rest true both later = later both
+  some_at first rest false ends later = refl
+
+  is_somewhere : (stages : List Stage) → both_in stages ≡ true → is_some (decided_in stages player rival) ≡ true
+  is_somewhere [] both = absurd (true≢false (sym both))
+  is_somewhere (first ∷ rest) both = some_at first rest (both_in rest) refl (is_somewhere rest)
+
+-- ---- in a round that is paired
+
+-- a seat stands in one of some stages as it stands in one of the brackets that they are
+stands_as_reached : (stages : List Stage) (seat : ℕ) → stands_in_one stages seat ≡ is_reached (map visit stages) seat
+stands_as_reached [] seat = refl
+stands_as_reached (stage ∷ stages) seat = ap (λ t. stands_in seat stage || t) (stands_as_reached stages seat)
+
+module _ (facts : Facts) (pairing : Pairing) (stages : List Stage) where
+  stands : (seat : ℕ) → (round facts).pairing ≡ Some pairing → map visit stages ≡ (round facts).reached → seat < length facts.seats → stands_in_one stages seat ≡ true
+  stands seat paired are within =
+      stands_as_reached stages seat ∙ (ap (λ visits. is_reached visits seat) are ∙ stands_in_a_bracket facts seat pairing paired within)
+
+  comes : (rival : Rival) → (round facts).pairing ≡ Some pairing → map visit stages ≡ (round facts).reached → IsRival facts rival → goes_on stages rival ≡ true
+  comes Bye paired are within = refl
+  comes (Seat seat) paired are within = stands seat paired are within
+
+  both_stand : (player : ℕ) (rival : Rival) → (round facts).pairing ≡ Some pairing → map visit stages ≡ (round facts).reached → player < length facts.seats → IsRival facts rival
+      → both_in player rival stages ≡ true
+  both_stand player rival paired are within theirs =
+      and_from (stands_in_one stages player) (goes_on stages rival) (stands player paired are within) (comes rival paired are theirs)
+
+  pub is_decided_somewhere : (player : ℕ) (rival : Rival) → (round facts).pairing ≡ Some pairing → map visit stages ≡ (round facts).reached → player < length facts.seats
+      → IsRival facts rival → is_some (decided_in stages player rival) ≡ true
+  is_decided_somewhere player rival paired are within theirs = is_somewhere player rival stages (both_stand player rival paired are within theirs)
+
+  pub is_decided_first : (player : ℕ) (rival : Rival) (stage : Stage) (wish : Wish) → (round facts).pairing ≡ Some pairing → map visit stages ≡ (round facts).reached
+      → player < length facts.seats → IsRival facts rival → decided_in stages player rival ≡ Some (stage, wish) → IsDecidedIn stages player rival stage wish
+  is_decided_first player rival stage wish paired are within theirs e = is_decided player rival stages stage wish (both_stand player rival paired are within theirs) e

@@ -1,12 +1,12 @@
 // Laws on what is told to a player who asks for another opponent, or for the bye: each reason is true.
-ghost use Rattle.std.specs.Prelude.{◌≡◌, ℕ, ◌&&◌, true, List, Some};
+ghost use Rattle.std.specs.Prelude.{◌≡◌, ◌<◌, ℕ, true, List, Some, is_some, length, map};
 ghost use Rattle.dutch_player.specs.Prelude.{Facts};
 ghost use Rattle.trf16.specs.Prelude.{Sheet};
-ghost use Rattle.dutch_pair.specs.Prelude.{above_lower, IsStage, IsInstead};
+ghost use Rattle.dutch_pair.specs.Prelude.{above_lower, IsStage, IsInstead, Pairing, round, visit};
 ghost use Rattle.dutch_pair.specs.declared.instead.Instead.TheVariants.{FewerMovedDown, NoneEligible, NoneLegal};
 ghost use Rattle.dutch_pair.specs.declared.stage.Stage.{Stage};
 ghost use Rattle.dutch_choice.specs.declared.wish.Wish.{Wish};
-ghost use Rattle.explained.specs.InsteadAnswers.{decided_in, goes_on, stands_in_one};
+ghost use Rattle.explained.specs.InsteadAnswers.{decided_in, IsRival};
 ghost use Rattle.explained.specs.declared.instead.Rival.{Rival};
 ghost use Rattle.explained.specs.InsteadLaws.{IsDecidedIn, NoneCanBeChosen, NoneWithAsManyMovedDown};
 ghost use Rattle.explained.specs.InsteadLaws.{NoneWithAsManyPairs, StandsAgainstBye, StandsAgainstMeeting};
@@ -30,13 +30,17 @@ pub fn what_is_told_against_a_bye_stands()
         → StandsAgainstBye facts bye seat obstacle }
 {}
 
-/// Where both stand in some bracket, it is decided in the first of the last brackets of the two: one of them stands in
-/// it and in none behind it, and each of them stands in it or in one behind it. A player who asks for the bye is
-/// decided on in their own last bracket.
-#[tactic(auto, using(crate::proofs::DecidedLemmas::is_decided))]
+/// In the brackets of a round that is paired it is decided on each present player and whom they ask for, and that in the
+/// first of the last brackets of the two: one of them stands in it and in none behind it, and each of them stands in it
+/// or in one behind it. A player who asks for the bye is decided on in their own last bracket.
+#[tactic(auto, using(crate::proofs::DecidedLemmas::is_decided_somewhere, crate::proofs::DecidedLemmas::is_decided_first))]
 pub fn it_is_decided_in_the_first_of_the_last_brackets()
-    ensures { (stages : List Stage) (player : ℕ) (rival : Rival) (stage : Stage) (wish : Wish)
-        → (stands_in_one stages player && goes_on stages rival) ≡ true
+    ensures somewhere { (facts : Facts) (pairing : Pairing) (stages : List Stage) (player : ℕ) (rival : Rival)
+        → (round facts).pairing ≡ Some pairing → map visit stages ≡ (round facts).reached
+        → player < length facts.seats → IsRival facts rival → is_some (decided_in stages player rival) ≡ true }
+    ensures first { (facts : Facts) (pairing : Pairing) (stages : List Stage) (player : ℕ) (rival : Rival) (stage : Stage)
+        (wish : Wish) → (round facts).pairing ≡ Some pairing → map visit stages ≡ (round facts).reached
+        → player < length facts.seats → IsRival facts rival
         → decided_in stages player rival ≡ Some (stage, wish) → IsDecidedIn stages player rival stage wish }
 {}
 
