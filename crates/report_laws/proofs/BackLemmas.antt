@@ -2,23 +2,24 @@
 --
 -- The cells of the rounds that stay are the same, the cell of the round that is taken back is of no pairing, and behind it all are blank.
 -- Of a line XXZ its kind stays and no word, so it names nobody; all other lines stay, and no line changes its kind.
-use Rattle.std.proofs.Common.{◌≡◌, ℕ, zero, suc, ◌+◌, ◌-◌, ◌<◌, ◌≤◌, Bool, true, false, cond, ◌&&◌, ◌||◌, nat_eq, List, [], ◌∷◌, length, get_or, take, map, Option, Some, None, refl, sym, ap, ◌∙◌, subst, arith, inl, inr, ◌⊎◌}
+use Rattle.std.proofs.Common.{◌≡◌, ℕ, zero, suc, ◌+◌, ◌-◌, ◌<◌, ◌≤◌, Bool, true, false, cond, ◌&&◌, ◌||◌, ◌==◌, nat_eq, List, [], ◌∷◌, ◌++◌, get_or, take, map, Option, Some, None, refl, sym, ap, ◌∙◌, arith}
 use Rattle.std.specs.Prelude.{codes, option_map}
 use Rattle.std.specs.List.{list_all, list_any}
 use Rattle.std.specs.Option.{option_map_or}
 use Rattle.std.specs.Char.{is_ascii, to_ascii_lowercase}
 use Rattle.std.specs.Str.{bytes_eq}
-use Rattle.std.proofs.lemmas.Bool.{and_parts, eqb-true, eqb-false, cases_lt}
+use Rattle.std.proofs.lemmas.Bool.{and_parts, eqb-true, eqb-false}
 use Rattle.std.proofs.lemmas.Bool.Decides.{nat_tests}
 use Rattle.std.proofs.lemmas.List.{get_or_past, get_or-take, length-take}
 use Rattle.std.proofs.lemmas.Slice.Eq.{bytes_eq-Decides}
-use Rattle.trf16.specs.Prelude.{columns, text, words_of, without_last, is_kind, is_word, is_of, first_at, names_absent, names_both, Sheet, cell_at, is_paired, is_blank_cell, with_cell, cell_back, cells_back, line_back}
+use Rattle.trf16.specs.Prelude.{columns, text, words_of, without_last, is_kind, is_word, is_of, first_at, names_absent, names_both, cell_at, is_paired, is_blank_cell, with_cell, cell_back, cells_back, line_back}
 use Rattle.trf16.specs.declared.cell.Cell.{Cell}
 use Rattle.trf16.specs.declared.cell.Cell.TheVariants.{Blank, Bye, Game, Forfeit, Unfinished}
 use Rattle.trf16.specs.declared.cell.Bye.TheVariants.{Half, Full, Allocated, Zero}
 use Rattle.trf16.specs.declared.kind.LineKind.TheVariants.{Xxa, Xxs, Rank}
 use Rattle.trf16.proofs.PairedRound.{with_cell-here, with_cell-there}
 use Rattle.trf16.proofs.WrittenColumns.{each, columns-ascii}
+use Rattle.trf16.proofs.WrittenText.{is_inside, has_mark}
 use Rattle.report_laws.proofs.CellLemmas.{StartAlike, EndsUnpaired}
 
 -- ---- cells
@@ -103,11 +104,22 @@ is_x b e = grind (arith, nat_tests)
 is_z : (b : ℕ) → to_ascii_lowercase b ≡ 122 → is_ascii b ≡ true
 is_z b e = grind (arith, nat_tests)
 
+inside_x : (b : ℕ) → to_ascii_lowercase b ≡ 120 → is_inside b ≡ true
+inside_x b e = grind (arith, nat_tests)
+
+inside_z : (b : ℕ) → to_ascii_lowercase b ≡ 122 → is_inside b ≡ true
+inside_z b e = grind (arith, nat_tests)
+
+no_mark_x : (b : ℕ) → to_ascii_lowercase b ≡ 120 → (b == 239) ≡ false
+no_mark_x b e = grind (arith, nat_tests)
+
 -- a line that is nothing but the kind XXZ
 pub record IsBare (utf8 : Bool) (line : List ℕ) : Type 0 where
   pub ascii : list_all is_ascii line ≡ true
   pub kind : text (columns utf8 line) 1 3 ≡ line
   pub words : words_of (columns utf8 line) ≡ []
+  pub inside : list_all is_inside line ≡ true
+  pub unmarked : (rest : List ℕ) → has_mark (line ++ rest) ≡ false
 
 bare : (utf8 : Bool) (line : List ℕ) → map to_ascii_lowercase line ≡ 120 ∷ 120 ∷ 122 ∷ [] → IsBare utf8 line
 unfolding each
@@ -125,6 +137,8 @@ bare utf8 (a ∷ b ∷ c ∷ []) e =
       ascii = ascii;
       kind = ap (λ (cols : List (List ℕ)). text cols 1 3) same;
       words = ap words_of same;
+      inside = rw (inside_x a first, inside_x b second, inside_z c third) refl;
+      unmarked = λ rest. rw (no_mark_x a first) refl;
     }
 
 kind_is : (line : List (List ℕ)) → is_kind (codes "XXZ") line ≡ true → map to_ascii_lowercase (text line 1 3) ≡ 120 ∷ 120 ∷ 122 ∷ []

@@ -1,8 +1,8 @@
 -- Lists of cells that say the same of each round, where what stands past the end of a list is blank. What is asked of a player's cells does
 -- not depend on how many blank cells stand at their end.
-use Rattle.std.proofs.Common.{◌≡◌, ℕ, zero, suc, ◌+◌, ◌<◌, ◌≤◌, Bool, true, false, cond, nat_lt, List, [], ◌∷◌, ◌++◌, get_or, take, Option, Some, None, refl, sym, ap, ◌∙◌, arith, inl, inr, ◌⊎◌}
+use Rattle.std.proofs.Common.{◌≡◌, ℕ, suc, ◌+◌, ◌<◌, ◌≤◌, Bool, true, false, List, [], ◌∷◌, ◌++◌, get_or, take, Option, Some, None, refl, sym, ap, ◌∙◌, arith, inl, inr, ◌⊎◌}
 use Rattle.std.specs.Prelude.{sum_by, reverse}
-use Rattle.std.specs.List.{filter_map, list_any, cons_option}
+use Rattle.std.specs.List.{filter_map, list_all, list_any, cons_option}
 use Rattle.std.proofs.lemmas.Bool.{cases_lt}
 use Rattle.std.proofs.lemmas.List.{append-nil, get_or_past, get_or-take, reverse-append, length-take}
 use Rattle.std.proofs.lemmas.List.Elements.{filter_map-append}
@@ -32,6 +32,9 @@ behind_left look x xs same i = same (suc i) ∙ ap look (nothing (suc i) ∙ sym
 
 behind_right : {Y : Type 0} (look : Cell → Y) (y : Cell) (ys : List Cell) → LookAlike look [] (y ∷ ys) → LookAlike look [] ys
 behind_right look y ys same i = ap look (nothing i ∙ sym (nothing (suc i))) ∙ same (suc i)
+
+pub rest_alike : (x y : Cell) (xs ys : List Cell) → AreAlike (x ∷ xs) (y ∷ ys) → AreAlike xs ys
+rest_alike x y xs ys same i = same (suc i)
 
 pub look_alike : {Y : Type 0} (look : Cell → Y) (xs ys : List Cell) → AreAlike xs ys → LookAlike look xs ys
 look_alike look xs ys same i = ap look (same i)
@@ -80,6 +83,14 @@ any-alike p none [] (y ∷ ys) same = let here : p y ≡ false = sym (same 0) �
 any-alike p none (x ∷ xs) (y ∷ ys) same =
     let here : p x ≡ p y = same 0 in
     rw (here, any-alike p none xs ys (behind p x y xs ys same)) refl
+
+pub all-alike : (p : Cell → Bool) → p Blank ≡ true → (xs ys : List Cell) → LookAlike p xs ys → list_all p xs ≡ list_all p ys
+all-alike p all [] [] same = refl
+all-alike p all (x ∷ xs) [] same = let here : p x ≡ true = same 0 ∙ all in rw here (all-alike p all xs [] (behind_left p x xs same))
+all-alike p all [] (y ∷ ys) same = let here : p y ≡ true = sym (same 0) ∙ all in rw here (all-alike p all [] ys (behind_right p y ys same))
+all-alike p all (x ∷ xs) (y ∷ ys) same =
+    let here : p x ≡ p y = same 0 in
+    rw (here, all-alike p all xs ys (behind p x y xs ys same)) refl
 
 pub last-alike : (xs ys : List Cell) → LookAlike is_paired xs ys → last_paired xs ≡ last_paired ys
 last-alike [] [] same = refl

@@ -3,14 +3,13 @@
 -- A player's seat comes from the cells of the rounds that were paired, from the scores of the opponents, and from who is kept apart.
 -- So two reports whose players are the same but for blank cells behind the last round, for points fields and for later cells have the
 -- same seats, where the same players are absent.
-use Rattle.std.proofs.Common.{◌≡◌, ℕ, ◌+◌, ◌-◌, ◌<◌, ◌≤◌, Bool, true, false, not, cond, ◌==◌, nat_lt, max, List, [], ◌∷◌, get_or, take, map, Option, Some, None, Result, Ok, Err, refl, sym, ap, ◌∙◌, subst, arith}
+use Rattle.std.proofs.Common.{◌≡◌, ℕ, ◌+◌, ◌-◌, ◌≤◌, Bool, true, false, not, cond, ◌==◌, nat_lt, max, List, [], ◌∷◌, take, map, Option, Some, None, Result, Ok, Err, refl, sym, ap, ◌∙◌, arith}
 use Rattle.std.specs.Prelude.{sum_by, option_map}
 use Rattle.std.specs.List.{AllByRecursion, filter}
 use Rattle.std.specs.Option.{ok_or, option_map_or}
 use Rattle.std.proofs.lemmas.List.Elements.{filter_agree}
 use Rattle.trf16.specs.declared.cell.Colour.{Colour}
 use Rattle.trf16.specs.declared.cell.Cell.{Cell}
-use Rattle.trf16.specs.declared.cell.Cell.TheVariants.{Blank}
 use Rattle.trf16.specs.Prelude.{Entry, Sheet, cell_at, cells_of, half_points, points_upto, is_paired, last_paired, last_paired_of, rounds_played, is_unfinished, first_unfinished, unfinished, unfinished_of, absent, apart, apart_from, starts_of}
 use Rattle.trf16.specs.Outcomes.{◌>>=◌}
 use Rattle.dutch_player.specs.declared.float.Float.{Float}

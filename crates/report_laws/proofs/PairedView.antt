@@ -2,28 +2,28 @@
 --
 -- The rounds that were paired before stay. In the round that is taken back, whom a board names has a blank cell, and whom none names was
 -- absent, so the view says Z, H or F of them; no line XXZ of the view names anybody. So the same players are present (`absent-again`).
-use Rattle.std.proofs.Common.{◌≡◌, ◌⊎◌, inl, inr, ℕ, zero, suc, ◌+◌, ◌-◌, ◌<◌, ◌≤◌, Bool, true, false, not, ◌&&◌, ◌||◌, ◌==◌, nat_eq, nat_lt, max, cond, List, [], ◌∷◌, length, get_or, take, map, refl, sym, ap, ◌∙◌, arith, subst, add-one, Option, Some, None, is_some}
+use Rattle.std.proofs.Common.{◌≡◌, ℕ, ◌+◌, ◌-◌, ◌<◌, ◌≤◌, Bool, true, false, not, ◌&&◌, ◌||◌, ◌==◌, nat_eq, nat_lt, cond, List, [], ◌∷◌, length, get_or, take, map, refl, sym, ap, ◌∙◌, arith, subst, add-one, Option, Some, None}
 use Rattle.std.specs.Prelude.{sum_by}
 use Rattle.std.specs.List.{AllByRecursion, list_any}
 use Rattle.std.specs.Option.{option_map_or}
 use Rattle.std.proofs.lemmas.Bool.{eqb-true, eq-eqb, ne_eqb, lt-ltb, or_left, or_right, false_from_ne_true, true≢false}
 use Rattle.std.proofs.lemmas.List.Elements.{recursion_from_All}
 use Rattle.std.proofs.lemmas.Simd.{map-map}
-use Rattle.trf16.specs.Prelude.{Entry, Sheet, known, cells_of, half_points, points_upto, is_blank_cell, is_paired, last_paired, last_paired_of, rounds_played, is_unfinished, unfinished, unfinished_of, absent, apart, apart_from, is_absence, is_named_absent, is_of, names_both, starts_of, HasOwnStarts, CanBePaired, named_by, cell_by, with_cell, cells_with, entry_with, with_round, cell_back, cells_back, entry_back, taken_back, before_round}
+use Rattle.trf16.specs.Prelude.{Entry, Sheet, known, cells_of, half_points, is_paired, last_paired, last_paired_of, rounds_played, unfinished, unfinished_of, absent, apart, is_absence, is_named_absent, is_of, names_both, starts_of, HasOwnStarts, CanBePaired, named_by, cell_by, with_cell, cells_with, entry_with, with_round, cell_back, cells_back, entry_back, taken_back, before_round}
 use Rattle.trf16.specs.declared.cell.Colour.TheVariants.{White, Black}
 use Rattle.trf16.specs.declared.cell.Bye.TheVariants.{Half, Full, Allocated, Zero}
 use Rattle.trf16.specs.declared.cell.Cell.{Cell}
 use Rattle.trf16.specs.declared.cell.Cell.TheVariants.{Blank, Bye, Game, Forfeit, Unfinished}
 use Rattle.trf16.specs.declared.kind.LineKind.TheVariants.{Xxa, Xxs, Rank}
 use Rattle.trf16.proofs.BoardLemmas.{eq-self, eq-sym, all_in}
-use Rattle.trf16.proofs.PairedRound.{IsGiven, given, with_cell-here, named_head, named_black, named_tail, cells-there, cells-here, played_again}
+use Rattle.trf16.proofs.PairedRound.{given, with_cell-here, named_head, named_black, named_tail, cells-there, played_again}
 use Rattle.trf16.proofs.RoundLemmas.{starts-with}
-use Rattle.dutch_player.specs.Prelude.{Facts, seats_of, unsupported, facts_of}
+use Rattle.dutch_player.specs.Prelude.{seats_of, unsupported}
 use Rattle.report_laws.specs.Boards.{NameAllPresent}
 use Rattle.report_laws.specs.Fields.{GivesFieldOf}
 use Rattle.report_laws.proofs.CellLemmas.{LookAlike, StartAlike, EndsUnpaired, ends_unpaired, paired-alike, unfinished-alike}
-use Rattle.report_laws.proofs.FieldLemmas.{SaysAlike, StaysAlike, TellsAlike, OpenAlike, facts-alike, seats-alike, played-alike, open-alike, cells-alike, points-alike, apart-alike}
-use Rattle.report_laws.proofs.BackLemmas.{start-back, ends-back, back-here, back-there, some-back, first-back, not_both, not_unsupported, nobody-back}
+use Rattle.report_laws.proofs.FieldLemmas.{SaysAlike, TellsAlike, OpenAlike, facts-alike, seats-alike, played-alike, open-alike, cells-alike, points-alike, apart-alike}
+use Rattle.report_laws.proofs.BackLemmas.{ends-back, back-here, back-there, some-back, first-back, not_both, not_unsupported, nobody-back}
 
 -- ---- whom boards name
 

@@ -1,8 +1,10 @@
 // Laws of a report as it stood before a round.
-ghost use Rattle.std.specs.Prelude.{◌≡◌, ◌+◌, ◌<◌, ℕ, List, Some, length};
+ghost use Rattle.std.specs.Prelude.{◌≡◌, ◌+◌, ◌<◌, ◌≤◌, ℕ, List, Ok, Some, length};
 ghost use Rattle.report_laws.specs.Boards.{NameAllPresent};
 ghost use Rattle.report_laws.specs.Fields.{GivesFieldOf};
-ghost use Rattle.trf16.specs.Prelude.{CanBePaired, HasOwnStarts, Sheet, before_round, rounds_played, with_round};
+ghost use Rattle.trf16.specs.Prelude.{CanBePaired, HasOwnStarts, Sheet, before_round, rounds_played, verdict};
+ghost use Rattle.trf16.specs.Prelude.{with_round, written};
+ghost use Rattle.trf16.specs.declared.limits.TheConstants.{MOST_BYTES};
 
 /// If boards that name each present player, and nobody else, are put into a report as its next round, then the report
 /// that comes of it has a view before that round, and the next round of the view is paired from what that of the first
@@ -19,4 +21,19 @@ pub fn a_paired_round_has_its_field_back()
 pub fn the_next_round_is_the_one_asked_for()
     ensures { (report view : Sheet) (round : ℕ) → before_round report round ≡ Some view
         → rounds_played view + 1 ≡ round }
+{}
+
+/// The canonical text of a report that was read, as it stood before one of its rounds, reads back as that, by what the
+/// pairing-allocated bye gives in the report, unless it is too long.
+pub fn a_view_is_accepted()
+    ensures { (bytes : List ℕ) (bye : ℕ) (report view : Sheet) (round : ℕ) → bye ≤ 2 → verdict bytes bye ≡ Ok report
+        → before_round report round ≡ Some view → length (written view) ≤ MOST_BYTES
+        → verdict (written view) report.bye ≡ Ok view }
+{}
+
+/// A report as it stood before a round, and that as it stood before an earlier one, is the report as it stood before
+/// the earlier one.
+pub fn a_view_of_a_view_is_a_view()
+    ensures { (report view : Sheet) (round earlier : ℕ) → before_round report round ≡ Some view → earlier ≤ round
+        → before_round view earlier ≡ before_round report earlier }
 {}
