@@ -12,6 +12,7 @@
 #![tactic(auto)]
 
 mod board;
+pub mod laws;
 mod ranking;
 
 pub use board::{Board, boards_of};
