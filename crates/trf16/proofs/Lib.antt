@@ -29,3 +29,5 @@ pub mod BoardLemmas
 pub mod StartRanks
 pub mod PointForms
 pub mod RankLemmas
+pub mod BackLemmas
+pub mod BeforeRoundLemmas

@@ -7,8 +7,10 @@ use Rattle.std.proofs.lemmas.Map.Keys.{IsDistinct-head, IsDistinct-tail}
 use Rattle.std.proofs.lemmas.Map.Made.{is_some-lookup}
 use Rattle.indexmap.specs.IndexMap.{IndexMap, insert_entry}
 use Rattle.indexmap.proofs.CallerLemmas.{insert_entry-new}
-use Rattle.trf16.specs.Prelude.{Entry, entry_of, starts_of, with_cell}
+use Rattle.trf16.specs.Prelude.{Entry, entry_of, entry_turned, starts_of, with_cell}
 use Rattle.trf16.specs.declared.player.Player.{Player}
+use Rattle.trf16.specs.declared.turn.Turn.{Turn}
+use Rattle.trf16.specs.declared.turn.Turn.TheVariants.{Kept, Paired, Summed, TakenBack}
 use Rattle.trf16.specs.declared.cell.Cell.{Cell}
 use Rattle.trf16.specs.declared.cell.Cell.TheVariants.{Blank}
 use Rattle.trf16.proofs.BoardLemmas.{eq-sym}
@@ -35,6 +37,12 @@ pub record AreTurned (turn : Entry → Entry) (done : List (ℕ × Player)) (res
 -- a change of players that leaves their start ranks
 abbrev pub KeepsStart : (Entry → Entry) → Type 0
 KeepsStart turn = (entry : Entry) → (turn entry).start ≡ entry.start
+
+pub keeps-start : (turn : Turn) (bye rounds : ℕ) → KeepsStart (entry_turned turn bye rounds)
+keeps-start Kept bye rounds entry = refl
+keeps-start (Paired boards) bye rounds entry = refl
+keeps-start Summed bye rounds entry = refl
+keeps-start (TakenBack before) bye rounds entry = refl
 
 pub starts-entries : (es : List (ℕ × Player)) → map (λ e. e.1.start) es ≡ starts_of (map (λ e. entry_of e.1) es)
 starts-entries [] = refl

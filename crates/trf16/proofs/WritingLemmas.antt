@@ -3,7 +3,7 @@ use Rattle.std.proofs.Common.{◌≡◌, ℕ, ◌+◌, ◌-◌, ◌/◌, ◌%◌
 use Rattle.std.specs.Prelude.{decimal}
 use Rattle.std.specs.List.{flat_map}
 use Rattle.std.proofs.lemmas.List.{length-append}
-use Rattle.trf16.specs.Prelude.{lines, carried_line, Entry, next_text, players_behind, right_in_four, left_in, points_text, points_field, round_text, player_text, lines_text}
+use Rattle.trf16.specs.Prelude.{lines, Entry, next_text, players_behind, right_in_four, left_in, points_text, points_field, round_text, player_text, lines_text}
 
 -- how many blanks stand in front of points
 pub points_room : (points : ℕ) (whole : List ℕ) (n : ℕ) → whole ≡ decimal (points / 2) → n ≡ 4 - (length whole + 2) → n ≡ 4 - length (points_text points)
@@ -35,12 +35,12 @@ one_line utf8 None others [] = refl
 one_line utf8 None others (entry ∷ players) = sym (append_assoc (player_text utf8 entry) (10 ∷ []) (lines_text utf8 others players))
 
 -- the next line, and what stands behind it
-pub lines_next : (utf8 : Bool) (rest line after : List ℕ) (carried : Option (List ℕ)) (players behind : List Entry) → lines rest ≡ line ∷ lines after
-    → carried ≡ carried_line utf8 line → behind ≡ players_behind carried players
-    → lines_text utf8 (map (carried_line utf8) (lines rest)) players ≡ next_text utf8 carried players ++ lines_text utf8 (map (carried_line utf8) (lines after)) behind
-lines_next utf8 rest line after carried players behind first same follows =
-    let others = map (carried_line utf8) (lines after) in
-    ap (λ (all : List (List ℕ)). lines_text utf8 (map (carried_line utf8) all) players) first
+pub lines_next : (utf8 : Bool) (carry : List ℕ → Option (List ℕ)) (rest line after : List ℕ) (carried : Option (List ℕ)) (players behind : List Entry) → lines rest ≡ line ∷ lines after
+    → carried ≡ carry line → behind ≡ players_behind carried players
+    → lines_text utf8 (map carry (lines rest)) players ≡ next_text utf8 carried players ++ lines_text utf8 (map carry (lines after)) behind
+lines_next utf8 carry rest line after carried players behind first same follows =
+    let others = map carry (lines after) in
+    ap (λ (all : List (List ℕ)). lines_text utf8 (map carry all) players) first
     ∙ ap (λ (c : Option (List ℕ)). lines_text utf8 (c ∷ others) players) (sym same)
     ∙ one_line utf8 carried others players
     ∙ ap (λ (ps : List Entry). next_text utf8 carried players ++ lines_text utf8 others ps) (sym follows)

@@ -1,13 +1,18 @@
 -- What the inner functions cut off a text, or put of it, one step at a time.
-use Rattle.std.specs.Prelude.{◌≡◌, ℕ, ◌<◌, ◌≤◌, Bool, true, not, ◌&&◌, ◌==◌, nat_eq, if◌then◌else◌, List, [], ◌∷◌, ◌++◌, length, take, drop, slice_index_or, Option, Some, None}
+use Rattle.std.specs.Prelude.{◌≡◌, ℕ, ◌<◌, ◌≤◌, Bool, true, not, ◌&&◌, ◌==◌, nat_eq, if◌then◌else◌, List, [], ◌∷◌, ◌++◌, length, take, drop, map, slice_index_or, Option, Some, None, option_map}
 use Rattle.trf16.specs.Lines.{columns, joined}
 use Rattle.std.specs.List.{list_any}
 use Rattle.std.specs.Str.{byte}
 use Rattle.trf16.specs.Sheet.{Entry, Sheet, known}
 use Rattle.trf16.specs.Absence.{absent}
+use Rattle.trf16.specs.Verdict.{carried_line, without_players}
 use Rattle.trf16.specs.Written.{player_text}
 use Rattle.trf16.specs.Round.{entry_with}
 use Rattle.trf16.specs.Summed.{entry_summed}
+use Rattle.trf16.specs.BeforeRound.{entry_back, line_back}
+use Rattle.trf16.specs.declared.turn.Turn.{Turn}
+use Rattle.trf16.specs.declared.turn.Turn.TheVariants.{Kept, Paired, Summed, TakenBack}
+use Rattle.trf16.specs.declared.limits.TheConstants.{MOST_ROUNDS}
 
 -- what stands behind the end of a line that ends in front
 abbrev pub behind_end : List ℕ → List ℕ
@@ -47,7 +52,25 @@ abbrev pub are_free : Sheet → List ℕ → Bool
 are_free sheet [] = true
 are_free sheet (start ∷ rest) = is_free sheet rest start && are_free sheet rest
 
--- a player with their cell of the next round and their points if there are boards, or else with their points summed over so many rounds
-abbrev pub entry_turned : Option (List (ℕ × ℕ)) → ℕ → ℕ → Entry → Entry
-entry_turned (Some boards) bye rounds entry = entry_with bye boards rounds entry
-entry_turned None bye rounds entry = entry_summed bye rounds entry
+-- a player as they are, with their cell of the next round and their points, with their points summed, or with only `before` rounds; so
+-- many rounds were paired, and the pairing-allocated bye gives so many half points
+abbrev pub entry_turned : Turn → ℕ → ℕ → Entry → Entry
+entry_turned Kept bye rounds entry = entry
+entry_turned (Paired boards) bye rounds entry = entry_with bye boards.now rounds entry
+entry_turned Summed bye rounds entry = entry_summed bye rounds entry
+entry_turned (TakenBack before) bye rounds entry = entry_back bye before entry
+
+-- a round that is paired, or whose cells become what they were, is one that a report may have
+abbrev pub IsWithin : Turn → ℕ → Type 0
+IsWithin Kept rounds = Unit {0}
+IsWithin (Paired boards) rounds = rounds < MOST_ROUNDS
+IsWithin Summed rounds = Unit {0}
+IsWithin (TakenBack before) rounds = before < MOST_ROUNDS
+
+-- a line as it is carried: not where it is a player's; and if absences are bare, of a line XXZ the kind alone
+abbrev pub carried_as : Bool → Bool → List ℕ → Option (List ℕ)
+carried_as bare utf8 line = if bare then option_map (line_back utf8) (carried_line utf8 line) else carried_line utf8 line
+
+-- a report whose players are still to be read, with its lines carried so
+abbrev pub lines_carried : Bool → Bool → List (List ℕ) → ℕ → Sheet
+lines_carried bare utf8 all bye = record (without_players utf8 all bye) { carried = map (carried_as bare utf8) all }

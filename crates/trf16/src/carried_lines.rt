@@ -2,24 +2,26 @@
 ghost use Rattle.std.specs.Prelude.{◌≡◌, ◌<◌, ◌^◌, ◌∷◌, [], length, option_copied, MatchOption};
 
 use crate::lines::next_line;
-use crate::report::{Report, carried_line};
+use crate::report::{Report, carried_as};
 use std::marker::Model;
 
 /// What is still to come of the lines of a report: each that is carried as it stands, and nothing at a player's line.
+/// In a report as it stood before a round a line `XXZ` is its first three characters.
 #[derive(Drop)]
 pub struct CarriedLines<'a> {
     rest: &'a [u8],
     utf8: bool,
+    bare_absences: bool,
 }
 
 impl<'a> Model for CarriedLines<'a> {
     ghost use Rattle.std.specs.Prelude.{List, Option, ℕ, map};
     ghost use Rattle.trf16.specs.Lines.{lines};
-    ghost use Rattle.trf16.specs.Verdict.{carried_line};
+    ghost use Rattle.trf16.specs.Steps.{carried_as};
 
     ghost Value = { List (Option (List ℕ)) };
 
-    ghost view = { λ l. map (carried_line l.utf8) (lines l.rest.now) };
+    ghost view = { λ l. map (carried_as l.bare_absences l.utf8) (lines l.rest.now) };
 }
 
 impl<'a> CarriedLines<'a> {
@@ -33,7 +35,7 @@ impl<'a> CarriedLines<'a> {
         }
         let (line, after) = next_line(self.rest);
         self.rest = after;
-        Some(carried_line(line, self.utf8))
+        Some(carried_as(line, self.utf8, self.bare_absences))
     }
 }
 
@@ -46,6 +48,7 @@ impl<'a> Report<'a> {
         CarriedLines {
             rest: self.text,
             utf8: self.utf8,
+            bare_absences: self.bare_absences,
         }
     }
 }

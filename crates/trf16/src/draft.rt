@@ -169,6 +169,7 @@ impl<'a> Draft<'a> {
         Report {
             utf8,
             text,
+            bare_absences: false,
             players,
             total: total.map(|rounds| rounds as u8),
             initial,

@@ -46,6 +46,7 @@ mod report;
 mod round;
 mod start_ranks;
 mod summed;
+mod turn;
 mod writing;
 
 pub use carried_lines::CarriedLines;

@@ -44,6 +44,16 @@ impl Notes {
         })
     }
 
+    /// The same, but that nobody is absent.
+    pub(crate) fn without_absences(&mut self, alloc: Global) -> Result<(), AllocError>
+        ensures absent { IfOk result (λ _. (start : ℕ) → is_marked self.new start ≡ false) }
+        ensures firsts { (kind : LineKind) → first_noted self.new kind ≡ first_noted self.old kind }
+        ensures together { self.new.together ≡ self.old.together }
+    {
+        self.absent = StartRanks::new(alloc)?;
+        Ok(())
+    }
+
     /// The first line of a kind that is noted.
     pub(crate) fn first(&self, kind: LineKind) -> Option<usize>
         ensures { result ≡ first_noted self.now kind }

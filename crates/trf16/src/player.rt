@@ -1,8 +1,9 @@
 // A player of a report: what their line says, field by field.
-ghost use Rattle.std.specs.Prelude.{◌≤◌, vec_len};
+ghost use Rattle.std.specs.Prelude.{◌≡◌, ◌≤◌, IfOk, vec_len};
 ghost use Rattle.trf16.specs.declared.limits.TheConstants.{MOST_ROUNDS};
 
 use crate::cell::Cell;
+use std::alloc::{AllocError, Global};
 
 /// What a line of the kind `001` says.
 #[derive(Drop)]
@@ -21,4 +22,22 @@ pub struct Player<'a> {
     /// The rounds from the first to the last that is not blank.
     pub cells: Vec<Cell>,
     ghost few_cells: { vec_len cells ≤ MOST_ROUNDS },
+}
+
+impl<'a> Player<'a> {
+    ghost use Rattle.trf16.specs.Sheet.{entry_of};
+
+    /// The same once more.
+    pub(crate) fn copy(&self, alloc: Global) -> Result<Player<'a>, AllocError>
+        ensures { IfOk result (λ player. entry_of player ≡ entry_of self.now) }
+    {
+        Ok(Player {
+            start: self.start,
+            line: self.line,
+            points: self.points,
+            left: self.left,
+            right: self.right,
+            cells: Vec::from_slice(alloc, &self.cells)?,
+        })
+    }
 }

@@ -4,13 +4,14 @@ ghost use Rattle.std.specs.Option.{option_map_or};
 ghost use Rattle.trf16.specs.Names.{player_of};
 ghost use Rattle.trf16.specs.Sheet.{entry_of, known, cells_of, cell_in, carried_in, half_points, last_paired_of};
 ghost use Rattle.trf16.specs.Sheet.{rounds_played};
-ghost use Rattle.trf16.specs.Verdict.{carried_line};
+ghost use Rattle.trf16.specs.Steps.{carried_as};
 ghost use Rattle.trf16.specs.declared.limits.TheConstants.{MOST_PLAYERS, MOST_ROUNDS};
 
 use crate::apart::Apart;
 use crate::cell::{Cell, Colour};
 use crate::cells::{cell_at, last_paired, points_of};
 use crate::columns::split_kind;
+use crate::extensions::is_word;
 use crate::lines::next_line;
 use crate::notes::Notes;
 use crate::player::Player;
@@ -24,6 +25,8 @@ pub struct Report<'a> {
     pub(crate) utf8: bool,
     // everything behind the byte order marks
     pub(crate) text: &'a [u8],
+    // of a line `XXZ` the first three characters alone are carried, and nobody is absent by it
+    pub(crate) bare_absences: bool,
     pub(crate) players: IndexMap<u16, Player<'a>>,
     pub(crate) total: Option<u8>,
     pub(crate) initial: Option<Colour>,
@@ -44,14 +47,14 @@ impl<'a> Model for Report<'a> {
     ghost use Rattle.trf16.specs.Lines.{lines};
     ghost use Rattle.trf16.specs.Sheet.{Sheet, entry_of, last_paired_of};
     ghost use Rattle.trf16.specs.Notes.{Tells, TellsApart};
-    ghost use Rattle.trf16.specs.Verdict.{carried_line, without_players};
+    ghost use Rattle.trf16.specs.Steps.{carried_as, lines_carried};
     ghost use Rattle.trf16.specs.declared.limits.TheConstants.{MOST_PLAYERS, MOST_ROUNDS};
 
     ghost Value = { Sheet };
 
     ghost view = { λ r. record {
       utf8 = r.utf8;
-      carried = map (carried_line r.utf8) (lines r.text.now);
+      carried = map (carried_as r.bare_absences r.utf8) (lines r.text.now);
       players = map (λ e. entry_of e.1) r.players.entries;
       total = r.total;
       initial = r.initial;
@@ -61,8 +64,8 @@ impl<'a> Model for Report<'a> {
     ghost invariant = { λ r. (keys_of r.players.entries ≡ map (λ e. e.1.start) r.players.entries)
         × (length r.players.entries ≤ MOST_PLAYERS) × ForSome r.total (λ total. total ≤ MOST_ROUNDS)
         × (r.rounds ≡ last_paired_of (map (λ e. entry_of e.1) r.players.entries)) × (r.rounds ≤ MOST_ROUNDS)
-        × Tells r.notes (without_players r.utf8 (lines r.text.now) r.bye) × (r.bye ≤ 2)
-        × TellsApart r.apart (record (without_players r.utf8 (lines r.text.now) r.bye) {
+        × Tells r.notes (lines_carried r.bare_absences r.utf8 (lines r.text.now) r.bye) × (r.bye ≤ 2)
+        × TellsApart r.apart (record (lines_carried r.bare_absences r.utf8 (lines r.text.now) r.bye) {
           players = map
               (λ e. entry_of e.1) r.players.entries;
         }) };
@@ -143,8 +146,8 @@ impl<'a> Report<'a> {
         self.rounds
     }
 
-    /// The line of a number, from 1, as it stands; none if it is a player's line, or if the text has no such line. The
-    /// time grows with the text.
+    /// The line of a number, from 1, as it stands; none if it is a player's line, or if the text has no such line. In a
+    /// report as it stood before a round a line `XXZ` is its first three characters. The time grows with the text.
     pub fn carried(&self, line: usize) -> Option<&'a [u8]>
         requires { 0 < line }
         ensures { option_copied result ≡ carried_in self.now line }
@@ -154,7 +157,7 @@ impl<'a> Report<'a> {
         while !rest.is_empty() {
             let (first, after) = next_line(rest);
             if left == 1 {
-                return carried_line(first, self.utf8);
+                return carried_as(first, self.utf8, self.bare_absences);
             }
             left -= 1;
             rest = after;
@@ -175,13 +178,16 @@ pub(crate) fn last_round_of(players: &IndexMap<u16, Player<'_>>) -> u8
     last
 }
 
-// A line, unless it is a player's.
-pub(crate) fn carried_line(line: &[u8], utf8: bool) -> Option<&[u8]>
-    ensures { option_copied result ≡ carried_line utf8 line.now }
+// A line, unless it is a player's; if absences are bare, of a line `XXZ` the kind alone.
+pub(crate) fn carried_as(line: &[u8], utf8: bool, bare_absences: bool) -> Option<&[u8]>
+    ensures { option_copied result ≡ carried_as bare_absences utf8 line.now }
 {
     let (kind, _) = split_kind(line, utf8);
     if kind == b"001".as_slice() {
-        None
+        return None;
+    }
+    if bare_absences && is_word(kind, b"XXZ") {
+        Some(kind)
     } else {
         Some(line)
     }

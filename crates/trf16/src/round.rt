@@ -3,7 +3,7 @@ ghost use Rattle.std.specs.Prelude.{◌≡◌, ◌+◌, ◌<◌, ◌≤◌, ◌&
 ghost use Rattle.std.specs.Prelude.{option_copied, option_map, sum_by, take};
 ghost use Rattle.std.specs.List.{list_any};
 ghost use Rattle.trf16.specs.Sheet.{entry_of, half_points, rounds_played};
-ghost use Rattle.trf16.specs.Steps.{is_free, are_free, entry_turned};
+ghost use Rattle.trf16.specs.Steps.{is_free, are_free};
 ghost use Rattle.trf16.specs.Round.{CanBePaired, named_by, cell_on, cell_by, with_cell, cells_with, entry_with};
 ghost use Rattle.trf16.specs.Round.{with_round};
 ghost use Rattle.trf16.specs.declared.limits.TheConstants.{MOST_ROUNDS};
@@ -12,8 +12,8 @@ use crate::cell::{Bye, Cell, Colour};
 use crate::cells::front;
 use crate::limits::MOST_ROUNDS;
 use crate::player::Player;
-use crate::report::{Report, last_round_of};
-use indexmap::IndexMap;
+use crate::report::Report;
+use crate::turn::Turn;
 use std::alloc::{AllocError, Global};
 
 // What a board gives a player, if it names them.
@@ -149,8 +149,8 @@ impl<'a> Report<'a> {
         }
     }
 
-    // A player with their cell of the next round and their points.
-    fn player_with(
+    /// A player with their cell of the next round and their points.
+    pub(crate) fn player_with(
         &self,
         alloc: Global,
         boards: &[(u16, u16)],
@@ -169,56 +169,6 @@ impl<'a> Report<'a> {
             left: player.left,
             right: player.right,
             cells,
-        })
-    }
-
-    // A player with their cell of the next round and their points, or else with their points summed.
-    fn player_turned(
-        &self,
-        alloc: Global,
-        boards: Option<&[(u16, u16)]>,
-        player: &Player<'a>,
-    ) -> Result<Player<'a>, AllocError>
-        requires { IfSome (option_copied boards) (λ _. rounds_played self.now < MOST_ROUNDS) }
-        ensures { IfOk result (λ turned. entry_of turned
-            ≡ entry_turned (option_copied boards.entry) self.now.bye (rounds_played self.now) (entry_of player.now)) }
-    {
-        match boards {
-            Some(boards) => self.player_with(alloc, boards, player),
-            None => self.player_summed(alloc, player),
-        }
-    }
-
-    // The report with each of its players turned so.
-    pub(crate) fn turned(
-        &self,
-        alloc: Global,
-        boards: Option<&[(u16, u16)]>,
-    ) -> Result<Report<'a>, AllocError>
-        requires { IfSome (option_copied boards) (λ _. rounds_played self.now < MOST_ROUNDS) }
-        ensures { IfOk result (λ report. report ≡ record self.now {
-          players = map
-              (entry_turned (option_copied boards.entry) self.now.bye (rounds_played self.now)) self.now.players;
-        }) }
-    {
-        let notes = self.notes.copy(alloc)?;
-        let apart = self.apart.copy(alloc)?;
-        let mut players = IndexMap::with_capacity(alloc, self.players.len())?;
-        for player in self.players() {
-            let turned = self.player_turned(alloc, boards, player)?;
-            players.insert(player.start, turned)?;
-        }
-        let last = last_round_of(&players);
-        Ok(Report {
-            utf8: self.utf8,
-            text: self.text,
-            players,
-            total: self.total,
-            initial: self.initial,
-            rounds: last,
-            notes,
-            bye: self.bye,
-            apart,
         })
     }
 
@@ -247,6 +197,6 @@ impl<'a> Report<'a> {
         requires { CanBePaired boards.now self.now }
         ensures { IfOk result (λ report. report ≡ with_round boards.now self.now) }
     {
-        self.turned(alloc, Some(boards))
+        self.turned(alloc, Turn::Paired(boards))
     }
 }

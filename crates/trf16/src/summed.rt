@@ -6,6 +6,7 @@ ghost use Rattle.trf16.specs.Summed.{entry_summed, summed};
 use crate::cells::front;
 use crate::player::Player;
 use crate::report::Report;
+use crate::turn::Turn;
 use std::alloc::{AllocError, Global};
 
 impl<'a> Report<'a> {
@@ -36,6 +37,6 @@ impl<'a> Report<'a> {
     pub fn summed(&self, alloc: Global) -> Result<Report<'a>, AllocError>
         ensures { IfOk result (λ report. report ≡ summed self.now) }
     {
-        self.turned(alloc, None)
+        self.turned(alloc, Turn::Summed)
     }
 }

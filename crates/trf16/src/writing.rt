@@ -15,7 +15,7 @@ use crate::devices::{Failed, Sink};
 use crate::lines::next_line;
 use crate::output::put_all;
 use crate::player::Player;
-use crate::report::{Report, carried_line};
+use crate::report::{Report, carried_as};
 use indexmap::map::Values;
 use itoa::Buffer;
 
@@ -227,7 +227,7 @@ pub fn write<W: Sink>(report: &Report<'_>, w: &mut W) -> Result<(), Failed>
         put_next(
             w,
             report.utf8,
-            carried_line(line, report.utf8),
+            carried_as(line, report.utf8, report.bare_absences),
             &mut players,
         )?;
         rest = after;

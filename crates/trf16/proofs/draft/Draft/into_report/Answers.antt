@@ -1,6 +1,6 @@
-use Rattle.std.proofs.Common.{rules, ◌≡◌, ℕ, ◌≤◌, map, length, ap, sym, ◌∙◌, arith}
+use Rattle.std.proofs.Common.{rules, ◌≡◌, ℕ, false, ◌≤◌, map, length, ap, sym, ◌∙◌, arith}
 use Rattle.std.proofs.lemmas.List.{length-map}
-use Rattle.trf16.specs.Prelude.{lines, Sheet, entry_of, without_players, starts_of}
+use Rattle.trf16.specs.Prelude.{lines, Sheet, entry_of, lines_carried, starts_of}
 use Rattle.trf16.specs.declared.player.Player.{Player}
 use Rattle.trf16.proofs.NoteLemmas.{tells_same}
 use Rattle.trf16.proofs.ApartLemmas.{apart_same}
@@ -18,10 +18,10 @@ invariant_of-result c =
       search rules,
       c.last_round_of-rounds.ensures.value,
       c.last_round_of-rounds.ensures.few,
-      tells_same c.args.notes c.args.self (without_players r.utf8 (lines r.text.now) r.bye)
+      tells_same c.args.notes c.args.self (lines_carried false r.utf8 (lines r.text.now) r.bye)
           (ap (λ (sheet : Sheet). sheet.utf8) c.self.view_is) (ap (λ (sheet : Sheet). sheet.carried) c.self.view_is) c.requires.noted,
       c.self.invariant.1,
-      apart_same c.args.apart c.args.self (record (without_players r.utf8 (lines r.text.now) r.bye) { players = map (λ e. entry_of e.1) r.players.entries })
+      apart_same c.args.apart c.args.self (record (lines_carried false r.utf8 (lines r.text.now) r.bye) { players = map (λ e. entry_of e.1) r.players.entries })
           (ap (λ (sheet : Sheet). sheet.utf8) c.self.view_is) (ap (λ (sheet : Sheet). sheet.carried) c.self.view_is) (ap (λ (sheet : Sheet). starts_of sheet.players) c.self.view_is)
           c.requires.told_apart,
     )

@@ -1,0 +1,31 @@
+use Rattle.std.proofs.Common.{map, nat_eq, subst, ap, ◌∙◌}
+use Rattle.std.specs.List.{IsDistinct}
+use Rattle.trf16.specs.Prelude.{Entry, Sheet, entry_of, rounds_played, entry_turned}
+use Rattle.trf16.proofs.RoundLemmas.{keeps-start, turned-insert, turned-end, starts-entries}
+use Rattle.trf16.proofs.report.Report.players_turned.Goals as goal
+
+pub loop-player-preserved-in_ok-insert : goal.loop-player-preserved-in_ok-insert
+loop-player-preserved-in_ok-insert c =
+    let sheet = c.args.self.now in
+    turned-insert (entry_turned c.args.turn sheet.bye (rounds_played sheet)) (keeps-start c.args.turn sheet.bye (rounds_played sheet)) c.loop-player.players
+    (entry_of c.in-Some.player.now) (map entry_of c.loop-player.player-iterator) (map entry_of c.next.new.self) sheet.players c.in_ok-turned.turned c.insert.new.self.entries
+    (ap (map entry_of) c.in-Some.ensures.steps) c.loop-player.invariant c.in_ok-turned.ensures c.in_ok-insert.ensures.entries
+    (subst (λ (s : Sheet). IsDistinct nat_eq (map (λ (e : Entry). e.start) s.players)) c.self.view_is
+    (subst (IsDistinct nat_eq) (c.self.invariant.0 ∙ starts-entries c.self.inside.players.entries) c.len.ensures.unique))
+
+pub loop-player-preserved : goal.loop-player-preserved
+loop-player-preserved c =
+    let sheet = c.args.self.now in
+    turned-insert (entry_turned c.args.turn sheet.bye (rounds_played sheet)) (keeps-start c.args.turn sheet.bye (rounds_played sheet)) c.loop-player.players
+    (entry_of c.in-Some.player.now) (map entry_of c.loop-player.player-iterator) (map entry_of c.next.new.self) sheet.players c.in_ok-turned.turned c.insert.new.self.entries
+    (ap (map entry_of) c.in-Some.ensures.steps) c.loop-player.invariant c.in_ok-turned.ensures c.in_ok-insert.ensures.entries
+    (subst (λ (s : Sheet). IsDistinct nat_eq (map (λ (e : Entry). e.start) s.players)) c.self.view_is
+    (subst (IsDistinct nat_eq) (c.self.invariant.0 ∙ starts-entries c.self.inside.players.entries) c.len.ensures.unique))
+
+pub returns-clause-turned : goal.returns-clause-turned
+returns-clause-turned c =
+    turned-end (entry_turned c.args.turn c.args.self.now.bye (rounds_played c.args.self.now)) c.loop-player.players.entries (map entry_of c.loop-player.player-iterator)
+    c.args.self.now.players (ap (map entry_of) c.in-None.ensures.steps.0) c.loop-player.invariant
+
+pub returns-clause-keyed : goal.returns-clause-keyed
+returns-clause-keyed c = c.loop-player.invariant.keyed
