@@ -1,6 +1,6 @@
 -- Each present player stands in one of the brackets that a round reaches, bracket by bracket.
 use Rattle.std.proofs.Common.{◌≡◌, ◌∙◌, ℕ, zero, suc, ◌+◌, ◌<◌, ◌≤◌, Bool, true, false, ◌||◌, inl, inr, ◌⊎◌, List, [], ◌∷◌, ◌++◌, length, Option, Some, None, refl, sym, ap, arith}
-use Rattle.std.proofs.lemmas.Bool.{cases_Bool, cases_lt, cond_both, or_left, or_right, true≢false}
+use Rattle.std.proofs.lemmas.Bool.{cases_Bool, cases_lt, cond_both, eq-eqb, or_left, or_right, true≢false}
 use Rattle.std.proofs.lemmas.List.Folds.{list_any-append}
 use Rattle.std.specs.Prelude.{is_some, option_map, eqb}
 use Rattle.std.specs.List.{concat}
@@ -31,10 +31,6 @@ member_in_front x xs ys e = list_any-append (λ y. eqb y x) xs ys ∙ or_left (i
 member_behind : (x : ℕ) (xs ys : List ℕ) → is_member x ys ≡ true → is_member x (xs ++ ys) ≡ true
 member_behind x xs ys e = list_any-append (λ y. eqb y x) xs ys ∙ or_right (is_member x xs) (is_member x ys) e
 
-same_number : (n : ℕ) → eqb n n ≡ true
-same_number zero = refl
-same_number (suc n) = same_number n
-
 member_of_numbers : (x first count : ℕ) → first ≤ x → x < first + count → is_member x (numbers_from first count) ≡ true
 member_of_numbers x first zero from within = absurd (omega (arith, from, within))
 member_of_numbers x first (suc count) from within = elim (cases_lt first x) [
@@ -42,7 +38,7 @@ member_of_numbers x first (suc count) from within = elim (cases_lt first x) [
       or_right (eqb first x) (is_member x (numbers_from (suc first) count)) (member_of_numbers x (suc first) count (omega (arith, later)) (omega (arith, within)))
   | inr here ↦
       or_left (eqb first x) (is_member x (numbers_from (suc first) count))
-      (ap (λ n. eqb n x) (let e : first ≡ x = omega (arith, from, here) in e) ∙ same_number x)
+      (eq-eqb first x (omega (arith, from, here)))
 ]
 
 module _ (facts : Facts) (seat : ℕ) where
@@ -55,17 +51,20 @@ module _ (facts : Facts) (seat : ℕ) where
 
   -- ---- a bracket before the rest of a round
 
-  rest_paired : (reached : Reached) (chosen : Choice) (rest : Option Pairing)
-      → is_some (option_map (λ later. record { pairs = all_pairs reached.seats chosen.lists ++ later.pairs; bye = later.bye }) rest) ≡ true → is_some rest ≡ true
-  rest_paired reached chosen None paired = paired
-  rest_paired reached chosen (Some later) paired = refl
+  rest_paired : (make : Pairing → Pairing) (rest : Option Pairing) → is_some (option_map make rest) ≡ true → is_some rest ≡ true
+  rest_paired make None paired = paired
+  rest_paired make (Some later) paired = refl
+
+  -- the pairs of a bracket in front of those of the rest
+  abbrev with_pairs : Reached → Choice → Pairing → Pairing
+  with_pairs reached chosen later = record { pairs = all_pairs reached.seats chosen.lists ++ later.pairs; bye = later.bye }
 
   stands_here : (reached : Reached) (chosen : Choice) (rest : Round) → is_member seat reached.seats ≡ true → Stands (pairing_in facts reached chosen rest)
   stands_here reached chosen rest here paired = or_left (is_member seat reached.seats) (is_reached rest.reached seat) here
 
   stands_later : (reached : Reached) (chosen : Choice) (rest : Round) → Stands rest → Stands (pairing_in facts reached chosen rest)
   stands_later reached chosen rest later paired =
-      or_right (is_member seat reached.seats) (is_reached rest.reached seat) (later (rest_paired reached chosen rest.pairing paired))
+      or_right (is_member seat reached.seats) (is_reached rest.reached seat) (later (rest_paired (with_pairs reached chosen) rest.pairing paired))
 
   -- ---- the bracket that ends a round
 
