@@ -72,7 +72,7 @@ task_made app words named required accepted none = go (entered (built app) stop)
 -- the program's commands, in their order
 commands_named : AreNamed (built arbiter_app).subs
 unfolding commands_on_literals
-commands_named = (λ rows. refl, (λ rows. refl, (λ rows. refl, (λ rows. refl, (λ rows. refl, (λ rows. refl, tt))))))
+commands_named = (λ rows. refl, (λ rows. refl, (λ rows. refl, (λ rows. refl, (λ rows. refl, (λ rows. refl, (λ rows. refl, tt)))))))
 
 -- no words that clap's rules accept make no task
 pub no_words_without : (app : App) (words : List Text) (made : Option (Text × List Row)) → app ≡ arbiter_app → fault_of app words ≡ []

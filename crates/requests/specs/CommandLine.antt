@@ -7,7 +7,7 @@ use Rattle.clap.specs.declared.builder.action.ArgAction.TheVariants.{SetTrue}
 use Rattle.clap.specs.declared.builder.value_parser.ValueParser.{ValueParser}
 use Rattle.clap.specs.declared.builder.value_parser.ValueParser.TheVariants.{Signed, Unsigned}
 use Rattle.requests.specs.declared.arguments.OptionName.{OptionName}
-use Rattle.requests.specs.declared.arguments.OptionName.TheVariants.{Bracket, From, Count, Player, Instead, Rounds, Initial, Steps, Report, Notes, Points, BoardNames, PlayerNames, By, Bye}
+use Rattle.requests.specs.declared.arguments.OptionName.TheVariants.{Bracket, From, Count, Player, Instead, Round, PlayedRound, Rounds, Initial, Steps, Report, Notes, Points, BoardNames, PlayedNames, PlayerNames, Games, By, Bye}
 use Rattle.trf16.specs.declared.limits.TheConstants.{MOST_ROUNDS}
 
 -- ---- options
@@ -44,6 +44,10 @@ player_rule = number_rule (codes "player") (Signed (pos 1) (pos 9999))
 unfoldable pub instead_rule : Rule
 instead_rule = number_rule (codes "instead") (Signed (pos 0) (pos 9999))
 
+-- `--round N`: from 1 to the most rounds
+unfoldable pub round_rule : Rule
+round_rule = number_rule (codes "round") (Signed (pos 1) (pos MOST_ROUNDS))
+
 -- `--rounds N`: from 1 to the most rounds
 unfoldable pub rounds_rule : Rule
 rounds_rule = number_rule (codes "rounds") (Signed (pos 1) (pos MOST_ROUNDS))
@@ -72,6 +76,10 @@ points_rule = flag_rule (codes "points")
 unfoldable pub names_rule : Rule
 names_rule = flag_rule (codes "names")
 
+-- `--games`
+unfoldable pub games_rule : Rule
+games_rule = flag_rule (codes "games")
+
 -- `--by LIST`
 unfoldable pub by_rule : Rule
 by_rule = option_rule (codes "by")
@@ -87,6 +95,8 @@ rule_for From = from_rule
 rule_for Count = count_rule
 rule_for Player = player_rule
 rule_for Instead = instead_rule
+rule_for Round = round_rule
+rule_for PlayedRound = round_rule
 rule_for Rounds = rounds_rule
 rule_for Initial = initial_rule
 rule_for Steps = steps_rule
@@ -94,7 +104,9 @@ rule_for Report = report_rule
 rule_for Notes = notes_rule
 rule_for Points = points_rule
 rule_for BoardNames = names_rule
+rule_for PlayedNames = names_rule
 rule_for PlayerNames = names_rule
+rule_for Games = games_rule
 rule_for By = by_rule
 rule_for Bye = bye_rule
 
@@ -112,21 +124,25 @@ with_option = with_rule
 abbrev pub with_options : App → List OptionName → App
 with_options = fold (λ app name. with_option app (rule_for name))
 
--- a command with the options of a round: `--rounds`, `--initial` and `--steps`
+-- a command with the options of a round: `--round`, `--rounds`, `--initial` and `--steps`
 unfoldable pub with_round_rules : App → App
-with_round_rules app = with_option (with_option (with_option app rounds_rule) initial_rule) steps_rule
+with_round_rules app = with_option (with_option (with_option (with_option app round_rule) rounds_rule) initial_rule) steps_rule
 
 -- with those of a bracket: `--bracket`, `--from` and `--count`
 unfoldable pub with_bracket_rules : App → App
 with_bracket_rules app = with_option (with_option (with_option app bracket_rule) from_rule) count_rule
 
--- with those of the standings: `--by` and `--names`
+-- with those of the standings: `--by`, `--names`, `--games` and `--round`
 unfoldable pub with_table_rules : App → App
-with_table_rules app = with_option (with_option app by_rule) names_rule
+with_table_rules app = with_option (with_option (with_option (with_option app by_rule) names_rule) games_rule) round_rule
 
 -- `pair`
 unfoldable pub pair_app : App
 pair_app = with_option (with_option (with_option (with_round_rules (new_app (codes "pair"))) names_rule) report_rule) bye_rule
+
+-- `boards`
+unfoldable pub boards_app : App
+boards_app = with_option (with_option (with_option (new_app (codes "boards")) round_rule) names_rule) bye_rule
 
 -- `candidates`
 unfoldable pub candidates_app : App

@@ -12,6 +12,7 @@ use Rattle.requests.specs.Keys.{keys_in, usual_keys}
 use Rattle.tiebreak.specs.declared.key.Key.{Key}
 use Rattle.requests.specs.declared.options.WordFault.{WordFault}
 use Rattle.requests.specs.declared.options.WordFault.TheVariants.{BadColour, BadKeys, BadCursor, NamesAndReport, InsteadAlone}
+use Rattle.requests.specs.declared.options.BoardsOptions.{BoardsOptions}
 use Rattle.requests.specs.declared.options.CandidatesOptions.{CandidatesOptions}
 use Rattle.requests.specs.declared.options.CheckOptions.{CheckOptions}
 use Rattle.requests.specs.declared.options.ExplainOptions.{ExplainOptions}
@@ -66,6 +67,10 @@ colour_named text = if bytes_eq text (codes "white") then Some White else (if by
 -- `--initial`: the colour of the higher-ranked of two players if nothing else decides and that player's start rank is odd (C.04.3 E.5)
 abbrev pub initial_in : List Row → Result (Option Colour) WordFault
 initial_in rows = read_by colour_named BadColour (first_of (codes "initial") rows)
+
+-- `--round`: the round that is asked for (clap lets no words pass with 0 or with a greater one than there can be)
+abbrev pub round_in : List Row → Option ℕ
+round_in rows = number_in MOST_ROUNDS (codes "round") rows
 
 -- `--rounds`: the number of rounds of the tournament (clap lets no words pass with more than there can be)
 abbrev pub rounds_in : List Row → Option ℕ
@@ -125,27 +130,31 @@ check_options rows = record { notes = flag_in (codes "notes") rows }
 
 -- `format`
 abbrev pub format_options : List Row → FormatOptions
-format_options rows = record { points = flag_in (codes "points") rows }
+format_options rows = record { points = flag_in (codes "points") rows; round = round_in rows }
 
 -- `pair`
 unfoldable pub pair_options : List Row → Result PairOptions WordFault
 pair_options rows = do
   initial ← initial_in rows
   shown ← shown_by (flag_in (codes "report") rows) (flag_in (codes "names") rows)
-  Ok (record { rounds = rounds_in rows; initial = initial; steps = steps_in rows; shown = shown })
+  Ok (record { round = round_in rows; rounds = rounds_in rows; initial = initial; steps = steps_in rows; shown = shown })
+
+-- `boards`
+abbrev pub boards_options : List Row → BoardsOptions
+boards_options rows = record { round = round_in rows; names = flag_in (codes "names") rows }
 
 -- `explain`
 unfoldable pub explain_options : List Row → Result ExplainOptions WordFault
 explain_options rows = do
   initial ← initial_in rows
   question ← question_by (player_in rows) (instead_in rows)
-  Ok (record { question = question; rounds = rounds_in rows; initial = initial; steps = steps_in rows })
+  Ok (record { question = question; round = round_in rows; rounds = rounds_in rows; initial = initial; steps = steps_in rows })
 
 -- `standings`
 unfoldable pub standings_options : List Row → Result StandingsOptions WordFault
 standings_options rows = do
   keys ← keys_by (first_of (codes "by") rows)
-  Ok (record { keys = keys; names = flag_in (codes "names") rows })
+  Ok (record { keys = keys; names = flag_in (codes "names") rows; games = flag_in (codes "games") rows; round = round_in rows })
 
 -- `candidates`, where a test says which texts are cursors
 unfoldable pub candidates_options : (Text → Bool) → List Row → Result CandidatesOptions WordFault
@@ -156,6 +165,7 @@ candidates_options is_cursor rows = do
     bracket = bracket_in rows;
     from = cursor;
     count = count_in rows;
+    round = round_in rows;
     rounds = rounds_in rows;
     initial = initial;
     steps = steps_in rows;

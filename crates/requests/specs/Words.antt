@@ -9,11 +9,11 @@ use Rattle.clap.specs.declared.error.kind.ErrorKind.TheVariants.{DisplayHelp, Di
 use Rattle.dutch_order.specs.Prelude.{has_syntax}
 use Rattle.requests.specs.declared.words.Task.{Task}
 use Rattle.requests.specs.declared.words.Request.{Request}
-use Rattle.requests.specs.declared.words.Request.TheVariants.{Check, Format, Pair, Candidates, Explain, Standings}
+use Rattle.requests.specs.declared.words.Request.TheVariants.{Check, Format, Pair, Boards, Candidates, Explain, Standings}
 use Rattle.requests.specs.declared.words.CommandName.{CommandName}
-use Rattle.requests.specs.declared.words.CommandName.TheVariants.{Check as CheckName, Format as FormatName, Pair as PairName, Candidates as CandidatesName, Explain as ExplainName, Standings as StandingsName}
-use Rattle.requests.specs.CommandLine.{bye_rule, candidates_app, explain_app, notes_rule, pair_app, points_rule, standings_app, with_option}
-use Rattle.requests.specs.Options.{◌>>=◌, bye_in, candidates_options, check_options, explain_options, format_options, pair_options, standings_options}
+use Rattle.requests.specs.declared.words.CommandName.TheVariants.{Check as CheckName, Format as FormatName, Pair as PairName, Boards as BoardsName, Candidates as CandidatesName, Explain as ExplainName, Standings as StandingsName}
+use Rattle.requests.specs.CommandLine.{boards_app, bye_rule, candidates_app, explain_app, notes_rule, pair_app, points_rule, round_rule, standings_app, with_option}
+use Rattle.requests.specs.Options.{◌>>=◌, boards_options, bye_in, candidates_options, check_options, explain_options, format_options, pair_options, standings_options}
 use Rattle.requests.specs.declared.words.Meaning.{Meaning}
 use Rattle.requests.specs.declared.words.Meaning.TheVariants.{Command, Help, Mistake, Refused}
 use Rattle.requests.specs.declared.options.WordFault.{WordFault}
@@ -24,13 +24,14 @@ check_app = with_option (with_option (new_app (codes "check")) notes_rule) bye_r
 
 -- `format`
 unfoldable pub format_app : App
-format_app = with_option (with_option (new_app (codes "format")) points_rule) bye_rule
+format_app = with_option (with_option (with_option (new_app (codes "format")) points_rule) round_rule) bye_rule
 
 -- the command of a name
 abbrev pub app_for : CommandName → App
 app_for CheckName = check_app
 app_for FormatName = format_app
 app_for PairName = pair_app
+app_for BoardsName = boards_app
 app_for CandidatesName = candidates_app
 app_for ExplainName = explain_app
 app_for StandingsName = standings_app
@@ -56,9 +57,11 @@ with_command app below = with_subcommand app below.top
 abbrev pub with_commands : App → List CommandName → App
 with_commands = fold (λ app name. with_command app (app_for name))
 
--- a program with the commands that pair the next round, list candidates of it, explain it, and rank the players
+-- a program with the commands that pair the next round, list the boards of one that was paired, list candidates of the next one, explain
+-- it, and rank the players
 unfoldable pub with_engine : App → App
-with_engine app = with_command (with_command (with_command (with_command app pair_app) candidates_app) explain_app) standings_app
+with_engine app =
+    with_command (with_command (with_command (with_command (with_command app pair_app) boards_app) candidates_app) explain_app) standings_app
 
 -- the program's command line
 unfoldable pub arbiter_app : App
@@ -94,9 +97,10 @@ request_of name rows =
     if bytes_eq name (codes "check") then Some (Ok (Check (check_options rows)))
     else (if bytes_eq name (codes "format") then Some (Ok (Format (format_options rows)))
     else (if bytes_eq name (codes "pair") then Some (pair_request rows)
+    else (if bytes_eq name (codes "boards") then Some (Ok (Boards (boards_options rows)))
     else (if bytes_eq name (codes "candidates") then Some (candidates_request rows)
     else (if bytes_eq name (codes "explain") then Some (explain_request rows)
-    else (if bytes_eq name (codes "standings") then Some (standings_request rows) else None)))))
+    else (if bytes_eq name (codes "standings") then Some (standings_request rows) else None))))))
 
 -- a request over a report in which the pairing-allocated bye gives so many half points, or what is wrong with its options
 abbrev pub with_bye : ℕ → Result Request WordFault → Result Task WordFault

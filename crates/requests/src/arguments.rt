@@ -2,8 +2,9 @@
 ghost use Rattle.std.specs.Prelude.{◌≡◌, false};
 ghost use Rattle.clap.specs.Words.{rule_of};
 ghost use Rattle.requests.specs.CommandLine.{bracket_rule, by_rule, bye_rule, count_rule, flag_rule, from_rule};
-ghost use Rattle.requests.specs.CommandLine.{initial_rule, instead_rule, names_rule, notes_rule, option_rule};
-ghost use Rattle.requests.specs.CommandLine.{player_rule, points_rule, report_rule, rounds_rule, rule_for, steps_rule};
+ghost use Rattle.requests.specs.CommandLine.{games_rule, initial_rule, instead_rule, names_rule, notes_rule, option_rule};
+ghost use Rattle.requests.specs.CommandLine.{player_rule, points_rule, report_rule, round_rule, rounds_rule, rule_for};
+ghost use Rattle.requests.specs.CommandLine.{steps_rule};
 
 use clap::{Arg, ArgAction, value_parser};
 use std::alloc::Global;
@@ -22,6 +23,10 @@ pub enum OptionName {
     Player,
     /// `--instead Q`.
     Instead,
+    /// `--round N` of a command that answers on the report as it stood before a round.
+    Round,
+    /// `--round N` of `boards`.
+    PlayedRound,
     /// `--rounds N`.
     Rounds,
     /// `--initial COLOUR`.
@@ -36,8 +41,12 @@ pub enum OptionName {
     Points,
     /// `--names` of `pair`.
     BoardNames,
+    /// `--names` of `boards`.
+    PlayedNames,
     /// `--names` of `standings`.
     PlayerNames,
+    /// `--games`.
+    Games,
     /// `--by LIST`.
     By,
     /// `--bye N`.
@@ -55,6 +64,14 @@ pub fn option_for<'a>(alloc: Global, which: OptionName) -> Arg<'a>
         OptionName::Count => count(alloc),
         OptionName::Player => player(alloc),
         OptionName::Instead => instead(alloc),
+        OptionName::Round => round(
+            alloc,
+            "Answers as on the report as it stood before round N, 1 to 64 [default: before the next round]",
+        ),
+        OptionName::PlayedRound => round(
+            alloc,
+            "The round whose boards are printed, 1 to 64 [default: the last that was paired]",
+        ),
         OptionName::Rounds => rounds(alloc),
         OptionName::Initial => initial(alloc),
         OptionName::Steps => steps(alloc),
@@ -65,7 +82,12 @@ pub fn option_for<'a>(alloc: Global, which: OptionName) -> Arg<'a>
             alloc,
             "Prints the boards with names and scores, in columns for the wall",
         ),
+        OptionName::PlayedNames => names(
+            alloc,
+            "Prints the boards with names, scores before the round and results, in columns for the wall",
+        ),
         OptionName::PlayerNames => names(alloc, "Prints the names too, in columns for the wall"),
+        OptionName::Games => games(alloc),
         OptionName::By => by(alloc),
         OptionName::Bye => bye(alloc),
     }
@@ -144,6 +166,15 @@ fn instead<'a>(alloc: Global) -> Arg<'a>
         "Tells why he does not meet this one, 1 to 9999, or 0: why he has not the bye",
     )
     .value_parser(value_parser!(u16).range(0..=9999))
+}
+
+// `--round N`, with what it does to the output.
+#[tactic(auto, unfolding(crate::specs::CommandLine::round_rule))]
+fn round<'a>(alloc: Global, help: &'a str) -> Arg<'a>
+    ensures rule { rule_of result ≡ round_rule }
+    ensures local { result.global ≡ false }
+{
+    option(alloc, "round", "N", help).value_parser(value_parser!(u8).range(1..=MOST_ROUNDS as i64))
 }
 
 // `--rounds N`.
@@ -236,6 +267,19 @@ fn names<'a>(alloc: Global, help: &'a str) -> Arg<'a>
     ensures local { result.global ≡ false }
 {
     flag(alloc, "names", help)
+}
+
+// `--games`.
+#[tactic(auto, unfolding(crate::specs::CommandLine::games_rule))]
+fn games<'a>(alloc: Global) -> Arg<'a>
+    ensures rule { rule_of result ≡ games_rule }
+    ensures local { result.global ≡ false }
+{
+    flag(
+        alloc,
+        "games",
+        "Prints a column for each round too: opponent, colour and result, or the bye's letter",
+    )
 }
 
 // `--by LIST`.

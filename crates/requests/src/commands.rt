@@ -3,8 +3,8 @@
 ghost use Rattle.std.specs.Prelude.{◌≡◌, IfOk, false};
 ghost use Rattle.clap.specs.declared.Command.{out-Command as fields_of};
 ghost use Rattle.clap.specs.Words.{app_of, new_app, rule_of};
-ghost use Rattle.requests.specs.CommandLine.{HasSameGlobals, candidates_app, explain_app, pair_app, standings_app};
-ghost use Rattle.requests.specs.CommandLine.{with_option, with_options};
+ghost use Rattle.requests.specs.CommandLine.{HasSameGlobals, boards_app, candidates_app, explain_app, pair_app};
+ghost use Rattle.requests.specs.CommandLine.{standings_app, with_option, with_options};
 
 use crate::arguments::{OptionName, option_for};
 use clap::{Arg, Command};
@@ -14,7 +14,8 @@ use std::alloc::{AllocError, Global};
 pub type Made<'a> = Result<Command<'a>, AllocError>;
 
 // The options of `pair`.
-const PAIR: [OptionName; 6] = [
+const PAIR: [OptionName; 7] = [
+    OptionName::Round,
     OptionName::Rounds,
     OptionName::Initial,
     OptionName::Steps,
@@ -23,11 +24,19 @@ const PAIR: [OptionName; 6] = [
     OptionName::Bye,
 ];
 
+// The options of `boards`.
+const BOARDS: [OptionName; 3] = [
+    OptionName::PlayedRound,
+    OptionName::PlayedNames,
+    OptionName::Bye,
+];
+
 // The options of `candidates`.
-const CANDIDATES: [OptionName; 7] = [
+const CANDIDATES: [OptionName; 8] = [
     OptionName::Bracket,
     OptionName::From,
     OptionName::Count,
+    OptionName::Round,
     OptionName::Rounds,
     OptionName::Initial,
     OptionName::Steps,
@@ -35,9 +44,10 @@ const CANDIDATES: [OptionName; 7] = [
 ];
 
 // The options of `explain`.
-const EXPLAIN: [OptionName; 6] = [
+const EXPLAIN: [OptionName; 7] = [
     OptionName::Player,
     OptionName::Instead,
+    OptionName::Round,
     OptionName::Rounds,
     OptionName::Initial,
     OptionName::Steps,
@@ -45,7 +55,13 @@ const EXPLAIN: [OptionName; 6] = [
 ];
 
 // The options of `standings`.
-const STANDINGS: [OptionName; 3] = [OptionName::By, OptionName::PlayerNames, OptionName::Bye];
+const STANDINGS: [OptionName; 5] = [
+    OptionName::By,
+    OptionName::PlayerNames,
+    OptionName::Games,
+    OptionName::Round,
+    OptionName::Bye,
+];
 
 /// The command `pair`.
 #[tactic(auto, unfolding(crate::specs::CommandLine::pair_app, crate::specs::CommandLine::with_round_rules))]
@@ -60,6 +76,21 @@ pub fn pair_command<'a>(alloc: Global) -> Made<'a>
         "The report is read from standard input. Printed are the number of lines that follow, and then a line 'white black' for each board, in start ranks; 'player 0' is the bye.\n\nExample: arbiter pair --rounds 7 --initial white < report.trf",
     );
     with_options(alloc, command, &PAIR)
+}
+
+/// The command `boards`.
+#[tactic(auto, unfolding(crate::specs::CommandLine::boards_app))]
+pub fn boards_command<'a>(alloc: Global) -> Made<'a>
+    ensures app { IfOk result (λ command. app_of command ≡ boards_app) }
+    ensures local { IfOk result (λ command. (fields_of command).has_globals ≡ false) }
+{
+    let command = described(
+        alloc,
+        "boards",
+        "Lists the boards of a round as they stand in the report",
+        "The report is read from standard input. Printed are the boards of the round in the form and order of pair, whoever has paired it.\n\nExamples:\n  arbiter boards < report.trf\n  arbiter boards --round 3 --names < report.trf",
+    );
+    with_options(alloc, command, &BOARDS)
 }
 
 /// The command `candidates`.

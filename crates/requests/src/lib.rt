@@ -17,7 +17,7 @@ mod words;
 
 pub use keys::Keys;
 pub use options::{
-    CandidatesOptions, CheckOptions, ExplainOptions, FormatOptions, GivenCursor, PairOptions,
-    Question, Shown, StandingsOptions, WordFault,
+    BoardsOptions, CandidatesOptions, CheckOptions, ExplainOptions, FormatOptions, GivenCursor,
+    PairOptions, Question, Shown, StandingsOptions, WordFault,
 };
 pub use words::{Meaning, Request, Task, meant, read_words};

@@ -1,10 +1,10 @@
 // The options of the commands, from what clap makes of the words.
 ghost use Rattle.std.specs.Prelude.{◌≡◌, ℕ, List, Bool, option_map, codes, if◌then◌else◌};
 ghost use Rattle.clap.specs.Words.{first_of};
-ghost use Rattle.requests.specs.Options.{bracket_in, bye_in, candidates_options, check_options, count_in};
-ghost use Rattle.requests.specs.Options.{explain_options, flag_in, format_options, from_in, initial_in, keys_by};
-ghost use Rattle.requests.specs.Options.{number_in, pair_options, question_by, rounds_in, rows_in, shown_by};
-ghost use Rattle.requests.specs.Options.{standings_options, steps_in, u16_max};
+ghost use Rattle.requests.specs.Options.{boards_options, bracket_in, bye_in, candidates_options, check_options};
+ghost use Rattle.requests.specs.Options.{count_in, explain_options, flag_in, format_options, from_in, initial_in};
+ghost use Rattle.requests.specs.Options.{keys_by, number_in, pair_options, question_by, round_in, rounds_in, rows_in};
+ghost use Rattle.requests.specs.Options.{shown_by, standings_options, steps_in, u16_max};
 
 use crate::keys::{Keys, keys_in};
 use clap::ArgMatches;
@@ -38,11 +38,15 @@ pub struct CheckOptions {
 pub struct FormatOptions {
     /// Whether each points field is written as a sum, and compared with none.
     pub points: bool,
+    /// The round before which the report is taken as it stood, where the words name one: at most `MOST_ROUNDS`.
+    pub round: Option<u8>,
 }
 
 /// What is asked of `pair`.
 #[derive(Debug, Clone, Copy, PartialEq, Eq)]
 pub struct PairOptions {
+    /// The round before which the report is taken as it stood, where the words name one: at most `MOST_ROUNDS`.
+    pub round: Option<u8>,
     /// The number of rounds of the tournament, where the words name it: at most `MOST_ROUNDS`.
     pub rounds: Option<u8>,
     /// The colour of an odd start rank where nothing else decides (C.04.3 E.5), where the words name it.
@@ -64,11 +68,22 @@ pub enum Shown {
     Report,
 }
 
+/// What is asked of `boards`.
+#[derive(Debug, Clone, Copy, PartialEq, Eq)]
+pub struct BoardsOptions {
+    /// The round whose boards are wanted, where the words name one: at most `MOST_ROUNDS`; else the last that was paired.
+    pub round: Option<u8>,
+    /// Whether names, scores and results are wanted, in columns for the wall.
+    pub names: bool,
+}
+
 /// What is asked of `explain`.
 #[derive(Debug, Clone, Copy, PartialEq, Eq)]
 pub struct ExplainOptions {
     /// What is asked of one player; else the whole round is explained.
     pub question: Option<Question>,
+    /// The round before which the report is taken as it stood, where the words name one: at most `MOST_ROUNDS`.
+    pub round: Option<u8>,
     /// The number of rounds of the tournament, where the words name it: at most `MOST_ROUNDS`.
     pub rounds: Option<u8>,
     /// The colour of an odd start rank where nothing else decides (C.04.3 E.5), where the words name it.
@@ -93,6 +108,10 @@ pub struct StandingsOptions {
     pub keys: Keys,
     /// Whether the names are wanted, in columns for the wall.
     pub names: bool,
+    /// Whether the games are wanted, in a column for each round.
+    pub games: bool,
+    /// The round before which the report is taken as it stood, where the words name one: at most `MOST_ROUNDS`.
+    pub round: Option<u8>,
 }
 
 /// What is asked of `candidates`.
@@ -104,6 +123,8 @@ pub struct CandidatesOptions<'a> {
     pub from: Option<GivenCursor<'a>>,
     /// How many candidates are wanted.
     pub count: usize,
+    /// The round before which the report is taken as it stood, where the words name one: at most `MOST_ROUNDS`.
+    pub round: Option<u8>,
     /// The number of rounds of the tournament, where the words name it.
     pub rounds: Option<u8>,
     /// The colour of an odd start rank where nothing else decides (C.04.3 E.5), where the words name it.
@@ -159,6 +180,7 @@ pub fn format_options(matches: &ArgMatches<'_>) -> FormatOptions
 {
     FormatOptions {
         points: flag_in(matches, "points"),
+        round: round_in(matches),
     }
 }
 
@@ -170,11 +192,22 @@ pub fn pair_options(matches: &ArgMatches<'_>) -> Result<PairOptions, WordFault>
     let initial = initial_in(matches)?;
     let shown = shown_by(flag_in(matches, "report"), flag_in(matches, "names"))?;
     Ok(PairOptions {
+        round: round_in(matches),
         rounds: rounds_in(matches),
         initial,
         steps: steps_in(matches),
         shown,
     })
+}
+
+/// The options of `boards`.
+pub fn boards_options(matches: &ArgMatches<'_>) -> BoardsOptions
+    ensures { result ≡ boards_options (rows_in matches.now) }
+{
+    BoardsOptions {
+        round: round_in(matches),
+        names: flag_in(matches, "names"),
+    }
 }
 
 /// The options of `explain`, or the first thing that is wrong with them.
@@ -187,6 +220,7 @@ pub fn explain_options(matches: &ArgMatches<'_>) -> Result<ExplainOptions, WordF
     let question = question_by(player, instead)?;
     Ok(ExplainOptions {
         question,
+        round: round_in(matches),
         rounds: rounds_in(matches),
         initial,
         steps: steps_in(matches),
@@ -199,8 +233,12 @@ pub fn standings_options(matches: &ArgMatches<'_>) -> Result<StandingsOptions, W
     ensures { result ≡ standings_options (rows_in matches.now) }
 {
     let keys = keys_by(text_in(matches, "by"))?;
-    let names = flag_in(matches, "names");
-    Ok(StandingsOptions { keys, names })
+    Ok(StandingsOptions {
+        keys,
+        names: flag_in(matches, "names"),
+        games: flag_in(matches, "games"),
+        round: round_in(matches),
+    })
 }
 
 /// The options of `candidates`, or the first thing that is wrong with them.
@@ -216,6 +254,7 @@ pub fn candidates_options<'a, S: CursorSyntax>(
         bracket: bracket_in(matches),
         from,
         count: count_in(matches),
+        round: round_in(matches),
         rounds: rounds_in(matches),
         initial,
         steps: steps_in(matches),
@@ -312,6 +351,15 @@ fn count_in(matches: &ArgMatches<'_>) -> usize
     ensures { result ≡ count_in (rows_in matches.now) }
 {
     matches.get_one::<usize>("count").unwrap_or(100)
+}
+
+// `--round`: the round that is asked for. No words with a greater one come here.
+fn round_in(matches: &ArgMatches<'_>) -> Option<u8>
+    ensures { result ≡ round_in (rows_in matches.now) }
+{
+    matches
+        .get_one::<u8>("round")
+        .filter(|round| usize::from(*round) <= MOST_ROUNDS)
 }
 
 // `--rounds`: the number of rounds of the tournament. No words with a greater one come here.

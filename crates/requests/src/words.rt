@@ -12,13 +12,13 @@ ghost use Rattle.requests.specs.Words.{with_commands};
 
 use crate::arguments::OptionName;
 use crate::commands::{
-    Made, candidates_command, described, explain_command, pair_command, standings_command,
-    with_options,
+    Made, boards_command, candidates_command, described, explain_command, pair_command,
+    standings_command, with_options,
 };
 use crate::options::{
-    CandidatesOptions, CheckOptions, CursorSyntax, ExplainOptions, FormatOptions, PairOptions,
-    StandingsOptions, WordFault, bye_in, candidates_options, check_options, explain_options,
-    format_options, pair_options, standings_options,
+    BoardsOptions, CandidatesOptions, CheckOptions, CursorSyntax, ExplainOptions, FormatOptions,
+    PairOptions, StandingsOptions, WordFault, boards_options, bye_in, candidates_options,
+    check_options, explain_options, format_options, pair_options, standings_options,
 };
 use clap::error::ErrorKind;
 use clap::{ArgMatches, Command, Error};
@@ -34,6 +34,8 @@ pub enum Request<'a> {
     Format(FormatOptions),
     /// Pairs the next round.
     Pair(PairOptions),
+    /// Lists the boards of a round that was paired.
+    Boards(BoardsOptions),
     /// Lists candidates of a bracket.
     Candidates(CandidatesOptions<'a>),
     /// Tells why the next round is paired as it is.
@@ -48,6 +50,7 @@ enum CommandName {
     Check,
     Format,
     Pair,
+    Boards,
     Candidates,
     Explain,
     Standings,
@@ -155,6 +158,7 @@ fn request_of<'a>(name: &str, options: &ArgMatches<'a>) -> Option<Result<Request
         "check" => Some(Ok(Request::Check(check_options(options)))),
         "format" => Some(Ok(Request::Format(format_options(options)))),
         "pair" => Some(pair_request(options)),
+        "boards" => Some(Ok(Request::Boards(boards_options(options)))),
         "candidates" => Some(candidates_request(options)),
         "explain" => Some(explain_request(options)),
         "standings" => Some(standings_request(options)),
@@ -226,10 +230,11 @@ fn told<'a>(alloc: Global, error: &Error) -> Result<Meaning<'a>, AllocError>
 }
 
 // The commands of the program, in the order in which help lists them.
-const COMMANDS: [CommandName; 6] = [
+const COMMANDS: [CommandName; 7] = [
     CommandName::Check,
     CommandName::Format,
     CommandName::Pair,
+    CommandName::Boards,
     CommandName::Candidates,
     CommandName::Explain,
     CommandName::Standings,
@@ -291,6 +296,7 @@ fn command_for<'a>(alloc: Global, which: CommandName) -> Made<'a>
         CommandName::Check => check_command(alloc),
         CommandName::Format => format_command(alloc),
         CommandName::Pair => pair_command(alloc),
+        CommandName::Boards => boards_command(alloc),
         CommandName::Candidates => candidates_command(alloc),
         CommandName::Explain => explain_command(alloc),
         CommandName::Standings => standings_command(alloc),
@@ -330,7 +336,7 @@ fn with_settings<'a>(command: Command<'a>) -> Command<'a>
 const CHECK: [OptionName; 2] = [OptionName::Notes, OptionName::Bye];
 
 // The options of `format`.
-const FORMAT: [OptionName; 2] = [OptionName::Points, OptionName::Bye];
+const FORMAT: [OptionName; 3] = [OptionName::Points, OptionName::Round, OptionName::Bye];
 
 // The command `check`.
 #[tactic(auto, unfolding(crate::specs::Words::check_app))]
