@@ -36,7 +36,7 @@ impl Case {
             words: folder.text("words")?,
             report: report_in(folder)?,
             status: folder.number("status")?,
-            output: folder.find("stdout")?,
+            output: output_in(folder)?,
             complaint: folder.find("stderr")?,
         })
     }
@@ -105,11 +105,32 @@ fn report_in(folder: &Folder<'_>) -> io::Result<Vec<u8>> {
     let Some(piece) = folder.find("repeated")? else {
         return Ok(report);
     };
-    for _ in 0..folder.number("times")? {
-        report.extend_from_slice(piece.as_slice())?;
-    }
+    repeat_onto(&mut report, piece.as_slice(), folder.number("times")?)?;
     if let Some(end) = folder.find("end.trf")? {
         report.extend_from_slice(end.as_slice())?;
     }
     Ok(report)
+}
+
+// What must come on standard output, if the case tells it.
+fn output_in(folder: &Folder<'_>) -> io::Result<Option<Vec<u8>>> {
+    let Some(mut output) = folder.find("stdout")? else {
+        return Ok(None);
+    };
+    if let Some(piece) = folder.find("stdout.repeated")? {
+        repeat_onto(
+            &mut output,
+            piece.as_slice(),
+            folder.number("stdout.times")?,
+        )?;
+    }
+    Ok(Some(output))
+}
+
+// Puts a piece behind a text, as often as is said.
+fn repeat_onto(text: &mut Vec<u8>, piece: &[u8], times: u32) -> Result<(), AllocError> {
+    for _ in 0..times {
+        text.extend_from_slice(piece)?;
+    }
+    Ok(())
 }

@@ -7,7 +7,8 @@
 //   end.trf     the rest
 //   words       the program's words, one a line
 //   status      the exit status that must come
-//   stdout      what must come on standard output
+//   stdout      what must come on standard output; of a long text its first part, behind which
+//   stdout.repeated and stdout.times say what stands how often
 //   stderr      what must come on standard error
 //
 // Where stdout or stderr is left out, some text must come there, whatever it says: the help and the complaints about

@@ -9,7 +9,7 @@ use Rattle.dutch_player.specs.Prelude.{Facts, facts_of}
 use Rattle.dutch_player.specs.declared.fault.FieldFault.{FieldFault}
 use Rattle.trf16.specs.Prelude.{with_round, Sheet, written}
 use Rattle.trf16.specs.declared.fault.Fault.{Fault}
-use Rattle.replies.specs.Prelude.{Answer, done, field_refusal, no_pairing, refusal, report_answer, undecided, named_boards_text}
+use Rattle.replies.specs.Prelude.{Answer, done, field_refusal, no_pairing, refusal, undecided, named_boards_text}
 use Rattle.requests.specs.declared.options.PairOptions.{PairOptions}
 use Rattle.requests.specs.declared.options.Shown.{Shown}
 use Rattle.requests.specs.declared.options.Shown.TheVariants.{Boards, Names, Report}
@@ -22,9 +22,9 @@ board_text board = decimal board.0 ++ (codes " " ++ (decimal board.1 ++ codes "\
 abbrev pub boards_text : List (ℕ × ℕ) → List ℕ
 boards_text boards = decimal (length boards) ++ (codes "\n" ++ flat_map board_text boards)
 
--- the report whose next round some boards are, unless it is too long
+-- the report whose next round some boards are, however long
 abbrev pub TellsReport : Sheet → List (ℕ × ℕ) → Answer → Type 0
-TellsReport sheet boards answer = answer ≡ report_answer (written (with_round boards sheet))
+TellsReport sheet boards answer = answer ≡ done (written (with_round boards sheet))
 
 -- the boards, the boards with names and scores, or the report with them
 abbrev pub TellsBoards : Shown → Sheet → List (ℕ × ℕ) → Answer → Type 0

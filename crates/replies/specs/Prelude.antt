@@ -5,7 +5,6 @@ pub use Rattle.replies.specs.Texts.{accepted_text, not_of_bracket_text, not_reac
 unfoldable pub use Rattle.replies.specs.Texts.{halves_text}
 pub use Rattle.replies.specs.Questions.{instead_fault, question_fault}
 pub use Rattle.replies.specs.Statuses.{Answer, behind, code_of, done, field_refusal, is_output, no_pairing, not_of_bracket, not_reached, out_of_memory, plain, question_refusal, read_fault, refusal, tie_refusal, undecided}
-unfoldable pub use Rattle.replies.specs.Statuses.{report_answer}
 pub use Rattle.replies.specs.Replies.{answer_of, note_of, text_of}
 pub use Rattle.replies.specs.WrittenAnswers.{HasInTurn, HasTextOrPart, IsCut, IsNoteCut, IsNoted, IsOnStandardError, IsPrinted, IsToldWith, IsWritten, IsWrittenTo}
 pub use Rattle.replies.specs.Controls.{holds_control, is_control, is_long_control, shown_byte, without_controls}

@@ -5,7 +5,7 @@ use Rattle.trf16.specs.Prelude.{Sheet, rounds_played, summed, verdict_unsummed, 
 use Rattle.trf16.specs.declared.fault.Fault.{Fault}
 use Rattle.replies.specs.NoteTexts.{notes_text}
 use Rattle.replies.specs.RefusalNoteTexts.{with_note, refusal_note}
-use Rattle.replies.specs.Statuses.{Answer, done, refusal, report_answer}
+use Rattle.replies.specs.Statuses.{Answer, done, refusal}
 use Rattle.replies.specs.Texts.{accepted_text}
 
 -- how many players and rounds a report has
@@ -25,9 +25,9 @@ abbrev pub formatted : Bool → Sheet → Sheet
 formatted false sheet = sheet
 formatted true sheet = summed sheet
 
--- `format`: the report in canonical columns, or why it is refused, as it was read or as it would be written
+-- `format`: the report in canonical columns, however long, or why it is refused
 abbrev pub format_answer : Bool → Result Sheet Fault → Answer
-format_answer points (Ok sheet) = report_answer (written (formatted points sheet))
+format_answer points (Ok sheet) = done (written (formatted points sheet))
 format_answer points (Err fault) = refusal fault
 
 -- the verdict that `format` goes by: with `--points` (true) no points field is compared

@@ -1,13 +1,11 @@
 -- A status with the text that goes with it, and those that do not depend on the command.
-use Rattle.std.specs.Prelude.{ℕ, Bool, true, false, if◌then◌else◌, nat_lt, List, [], ◌++◌, length, codes}
+use Rattle.std.specs.Prelude.{ℕ, Bool, true, false, List, [], ◌++◌, codes}
 use Rattle.dutch_player.specs.declared.fault.FieldFault.{FieldFault}
 use Rattle.dutch_player.specs.declared.fault.FieldFault.TheVariants.{OutOfMemory as FieldMemory}
 use Rattle.tiebreak.specs.declared.fault.TieFault.{TieFault}
 use Rattle.tiebreak.specs.declared.fault.TieFault.TheVariants.{OutOfMemory as TieMemory}
-use Rattle.trf16.specs.declared.fault.Excess.TheVariants.{Bytes}
 use Rattle.trf16.specs.declared.fault.Fault.{Fault}
-use Rattle.trf16.specs.declared.fault.Fault.TheVariants.{OutOfMemory, TooMany}
-use Rattle.trf16.specs.declared.limits.TheConstants.{MOST_BYTES}
+use Rattle.trf16.specs.declared.fault.Fault.TheVariants.{OutOfMemory}
 use Rattle.refusals.specs.Texts.{fault_text, field_text, memory_text, tie_text}
 use Rattle.replies.specs.Texts.{not_of_bracket_text, not_reached_text, question_text, read_text, undecided_text}
 use Rattle.replies.specs.declared.question.QuestionFault.{QuestionFault}
@@ -62,10 +60,6 @@ read_fault = plain Trouble read_text
 abbrev pub refusal : Fault → Answer
 refusal OutOfMemory = out_of_memory
 refusal fault = plain Refused (fault_text fault)
-
--- a report was made, and this is its text; one that is longer than a report may be is refused, as it would be where it is read
-unfoldable pub report_answer : List ℕ → Answer
-report_answer text = if nat_lt MOST_BYTES (length text) then refusal (TooMany Bytes) else done text
 
 -- the next round cannot be paired from a report
 abbrev pub field_refusal : FieldFault → Answer

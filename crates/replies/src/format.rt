@@ -1,15 +1,15 @@
 // The command `format`: a report in canonical columns.
-ghost use Rattle.std.specs.Prelude.{◌≡◌, ◌≤◌, IfOk, Ok, false, true};
+ghost use Rattle.std.specs.Prelude.{◌≡◌, ◌≤◌, IfOk, false, true};
 ghost use Rattle.trf16.specs.Prelude.{summed, verdict_unsummed, verdict, written};
 ghost use Rattle.replies.specs.ReportAnswers.{format_answer, format_verdict};
 ghost use Rattle.replies.specs.Replies.{answer_of};
-ghost use Rattle.replies.specs.Statuses.{report_answer};
+ghost use Rattle.replies.specs.Statuses.{done};
 
 use crate::refusal::refused;
 use crate::reply::{Reply, Status};
 use requests::FormatOptions;
 use std::alloc::{AllocError, Global};
-use trf16::{Counted, Excess, Failed, Fault, MOST_BYTES, Report};
+use trf16::{Counted, Failed, Fault, Report};
 
 /// What `format` says of the bytes of a report in which the pairing-allocated bye gives `bye` half points.
 pub fn format(
@@ -55,29 +55,18 @@ fn with_sums(alloc: Global, bytes: &[u8], bye: u16) -> Result<Reply, AllocError>
 
 // The same of a report that was read.
 fn with_its_sums(alloc: Global, report: &Report<'_>) -> Result<Reply, AllocError>
-    ensures { IfOk result (λ reply. answer_of reply ≡ report_answer (written (summed report.now))) }
+    ensures { IfOk result (λ reply. answer_of reply ≡ done (written (summed report.now))) }
 {
     rewritten(alloc, &report.summed(alloc)?)
 }
 
-/// A report in canonical columns, made whole before the first byte is written; or why that text is refused.
+/// A report in canonical columns, however long; it is made whole before the first byte is written.
 pub fn rewritten(alloc: Global, report: &Report<'_>) -> Result<Reply, AllocError>
-    ensures { IfOk result (λ reply. answer_of reply ≡ report_answer (written report.now)) }
+    ensures { IfOk result (λ reply. answer_of reply ≡ done (written report.now)) }
 {
     let mut text = Counted::new(Vec::new(alloc));
     match trf16::write(report, &mut text) {
-        Ok(()) => of_text(alloc, text.into_inner()),
+        Ok(()) => Ok(Reply::bytes(Status::Done, text.into_inner())),
         Err(Failed) => Err(AllocError),
     }
-}
-
-// The text of a report, or that it is longer than a report may be.
-#[tactic(auto, unfolding(crate::specs::Statuses::report_answer))]
-fn of_text(alloc: Global, text: Vec<u8>) -> Result<Reply, AllocError>
-    ensures { IfOk result (λ reply. answer_of reply ≡ report_answer text.items) }
-{
-    if MOST_BYTES < text.len() {
-        return refused(alloc, Fault::TooMany(Excess::Bytes));
-    }
-    Ok(Reply::bytes(Status::Done, text))
 }
