@@ -9,14 +9,14 @@ use Rattle.clap.specs.Words.{Row, Text, one_of, subcommand_of}
 use Rattle.dutch_order.specs.Prelude.{has_syntax}
 use Rattle.trf16.specs.declared.cell.Colour.{Colour}
 use Rattle.command_line.specs.Known.{CanBeAnswered, HasFewRounds}
-use Rattle.requests.specs.Prelude.{bye_in, candidates_options, check_options, explain_options, flag_in, format_options, initial_in, number_in, number_of, pair_options, rounds_in, shown_by, standings_options, steps_in, AsksFor, arbiter_app, candidates_request, explain_request, pair_request, request_of, standings_request, task_by, with_bye}
+use Rattle.requests.specs.Prelude.{boards_options, bye_in, candidates_options, check_options, explain_options, flag_in, format_options, initial_in, number_in, number_of, pair_options, round_in, rounds_in, shown_by, standings_options, steps_in, AsksFor, arbiter_app, candidates_request, explain_request, pair_request, request_of, standings_request, task_by, with_bye}
 use Rattle.requests.specs.Options.{◌>>=◌}
 use Rattle.requests.specs.declared.options.PairOptions.{PairOptions}
 use Rattle.requests.specs.declared.options.Shown.{Shown}
 use Rattle.requests.specs.declared.options.WordFault.{WordFault}
 use Rattle.requests.specs.declared.words.Task.{Task}
 use Rattle.requests.specs.declared.words.Request.{Request}
-use Rattle.requests.specs.declared.words.Request.TheVariants.{Check, Format, Pair, Candidates, Explain, Standings}
+use Rattle.requests.specs.declared.words.Request.TheVariants.{Check, Format, Pair, Boards, Candidates, Explain, Standings}
 use Rattle.trf16.specs.declared.limits.TheConstants.{MOST_ROUNDS}
 
 -- what a step gives that met no fault
@@ -51,7 +51,7 @@ pair_few : (rows : List Row) (options : PairOptions) → pair_options rows ≡ O
 unfolding pair_options
 pair_few rows options e =
     let shown : Result Shown WordFault = shown_by (flag_in (codes "report") rows) (flag_in (codes "names") rows) in
-    let made : Option Colour → Shown → PairOptions = λ initial shown. record { rounds = rounds_in rows; initial = initial; steps = steps_in rows; shown = shown } in
+    let made : Option Colour → Shown → PairOptions = λ initial shown. record { round = round_in rows; rounds = rounds_in rows; initial = initial; steps = steps_in rows; shown = shown } in
     let s = then_ok (initial_in rows) (λ initial. shown >>= (λ shown. Ok (made initial shown))) options e in
     let t = then_ok shown (λ shown. Ok (made s.0 shown)) options s.2 in
     subst HasFewRounds (same_ok (made s.0 t.0) options t.2) (rounds_few rows)
@@ -64,26 +64,28 @@ asked_of (Err fault) f can request e = absurd (not_ok fault request e)
 some_ok : (x y : Result Request WordFault) → Some x ≡ Some y → x ≡ y
 some_ok x y e = cc
 
-asked_at : (rows : List Row) (request : Request) (check format pair candidates explain standings : Bool)
+asked_at : (rows : List Row) (request : Request) (check format pair boards candidates explain standings : Bool)
     → cond check (Some (Ok (Check (check_options rows)))) (cond format (Some (Ok (Format (format_options rows)))) (cond pair (Some (pair_request rows))
-    (cond candidates (Some (candidates_request rows)) (cond explain (Some (explain_request rows)) (cond standings (Some (standings_request rows)) None))))) ≡ Some (Ok request) → CanBeAnswered request
+    (cond boards (Some (Ok (Boards (boards_options rows)))) (cond candidates (Some (candidates_request rows)) (cond explain (Some (explain_request rows))
+    (cond standings (Some (standings_request rows)) None)))))) ≡ Some (Ok request) → CanBeAnswered request
 unfolding pair_request candidates_request explain_request standings_request
-asked_at rows request true format pair candidates explain standings e = subst CanBeAnswered (same_ok (Check (check_options rows)) request (some_ok (Ok (Check (check_options rows))) (Ok request) e)) tt
-asked_at rows request false true pair candidates explain standings e = subst CanBeAnswered (same_ok (Format (format_options rows)) request (some_ok (Ok (Format (format_options rows))) (Ok request) e)) tt
-asked_at rows request false false true candidates explain standings e =
+asked_at rows request true format pair boards candidates explain standings e = subst CanBeAnswered (same_ok (Check (check_options rows)) request (some_ok (Ok (Check (check_options rows))) (Ok request) e)) tt
+asked_at rows request false true pair boards candidates explain standings e = subst CanBeAnswered (same_ok (Format (format_options rows)) request (some_ok (Ok (Format (format_options rows))) (Ok request) e)) tt
+asked_at rows request false false true boards candidates explain standings e =
     asked_of (pair_options rows) (λ options. Pair options) (pair_few rows) request (some_ok (pair_request rows) (Ok request) e)
-asked_at rows request false false false true explain standings e =
+asked_at rows request false false false true candidates explain standings e = subst CanBeAnswered (same_ok (Boards (boards_options rows)) request (some_ok (Ok (Boards (boards_options rows))) (Ok request) e)) tt
+asked_at rows request false false false false true explain standings e =
     asked_of (candidates_options has_syntax rows) (λ options. Candidates options) (λ options e. tt) request (some_ok (candidates_request rows) (Ok request) e)
-asked_at rows request false false false false true standings e =
+asked_at rows request false false false false false true standings e =
     asked_of (explain_options rows) (λ options. Explain options) (λ options e. tt) request (some_ok (explain_request rows) (Ok request) e)
-asked_at rows request false false false false false true e =
+asked_at rows request false false false false false false true e =
     asked_of (standings_options rows) (λ options. Standings options) (λ options e. tt) request (some_ok (standings_request rows) (Ok request) e)
-asked_at rows request false false false false false false e = let bad : None ≡ Some (let made : Result Request WordFault = Ok request in made) = e in cc
+asked_at rows request false false false false false false false e = let bad : None ≡ Some (let made : Result Request WordFault = Ok request in made) = e in cc
 
 command_asked : (command : Text × List Row) (request : Request) → request_of command.0 command.1 ≡ Some (Ok request) → CanBeAnswered request
 command_asked command request e =
     let name : Text = command.0 in
-    asked_at command.1 request (bytes_eq name (codes "check")) (bytes_eq name (codes "format")) (bytes_eq name (codes "pair")) (bytes_eq name (codes "candidates")) (bytes_eq name (codes "explain")) (bytes_eq name (codes "standings")) e
+    asked_at command.1 request (bytes_eq name (codes "check")) (bytes_eq name (codes "format")) (bytes_eq name (codes "pair")) (bytes_eq name (codes "boards")) (bytes_eq name (codes "candidates")) (bytes_eq name (codes "explain")) (bytes_eq name (codes "standings")) e
 
 -- what a command comes to
 abbrev asks : Request → Option (Result Request WordFault)

@@ -10,7 +10,7 @@ use Rattle.command_line.specs.Commands.{Answers, AnswersReport, verdict_for}
 use Rattle.replies.specs.Prelude.{check_answer, format_verdict, Answer, Reading, IsRead, most_read}
 use Rattle.command_line.specs.Run.{IsAnswered, IsInput}
 use Rattle.requests.specs.declared.words.Request.{Request}
-use Rattle.requests.specs.declared.words.Request.TheVariants.{Check, Format, Pair, Candidates, Explain, Standings}
+use Rattle.requests.specs.declared.words.Request.TheVariants.{Check, Format, Pair, Boards, Candidates, Explain, Standings}
 use Rattle.requests.specs.declared.words.Task.{Task}
 use Rattle.trf16.specs.declared.limits.TheConstants.{MOST_BYTES}
 
@@ -35,6 +35,7 @@ verdict_for-long : (request : Request) (bytes : List ℕ) (bye : ℕ) → most_r
 verdict_for-long (Check options) bytes bye h = verdict-long bytes bye h
 verdict_for-long (Format options) bytes bye h = format-long options.points bytes bye h
 verdict_for-long (Pair options) bytes bye h = verdict-long bytes bye h
+verdict_for-long (Boards options) bytes bye h = verdict-long bytes bye h
 verdict_for-long (Candidates options) bytes bye h = verdict-long bytes bye h
 verdict_for-long (Explain options) bytes bye h = verdict-long bytes bye h
 verdict_for-long (Standings options) bytes bye h = verdict-long bytes bye h
@@ -50,6 +51,7 @@ refused_alike : (request : Request) (a b : List ℕ) (bye : ℕ) (answer : Answe
 refused_alike (Check options) a b bye answer h = h ∙ check_alike options.notes a b bye
 refused_alike (Format options) a b bye answer h = h
 refused_alike (Pair options) a b bye answer h = h
+refused_alike (Boards options) a b bye answer h = h
 refused_alike (Candidates options) a b bye answer h = h
 refused_alike (Explain options) a b bye answer h = h
 refused_alike (Standings options) a b bye answer h = h

@@ -10,8 +10,8 @@ use Rattle.dutch_pair.specs.declared.round.BracketAt.TheVariants.{Bracket, NotRe
 use Rattle.dutch_player.specs.Prelude.{Facts, facts_of}
 use Rattle.dutch_player.specs.declared.fault.FieldFault.{FieldFault}
 use Rattle.trf16.specs.Prelude.{Sheet}
-use Rattle.trf16.specs.declared.fault.Fault.{Fault}
-use Rattle.replies.specs.Prelude.{Answer, field_refusal, no_pairing, not_of_bracket, not_reached, refusal, undecided}
+use Rattle.replies.specs.Prelude.{Answer, field_refusal, no_pairing, not_of_bracket, not_reached, undecided, unseen_answer}
+use Rattle.replies.specs.declared.views.Unseen.{Unseen}
 use Rattle.round_lines.specs.CandidateTexts.{bracket_text, line_text}
 use Rattle.round_lines.specs.Listings.{IsListing, ending_text, status_of}
 use Rattle.round_lines.specs.declared.listing.Ending.{Ending}
@@ -59,7 +59,7 @@ abbrev pub InField : CandidatesOptions → Result Facts FieldFault → Answer �
 InField options (Ok facts) answer = IsAnswerToField options facts answer
 InField options (Err fault) answer = answer ≡ field_refusal fault
 
--- `candidates`: what is answered to a report, or why it is refused
-abbrev pub AnswersCandidates : CandidatesOptions → Result Sheet Fault → Answer → Type 0
+-- `candidates`: what is answered to a report, or why there is none
+abbrev pub AnswersCandidates : CandidatesOptions → Result Sheet Unseen → Answer → Type 0
 AnswersCandidates options (Ok sheet) answer = InField options (facts_of sheet options.rounds options.initial) answer
-AnswersCandidates options (Err fault) answer = answer ≡ refusal fault
+AnswersCandidates options (Err why) answer = answer ≡ unseen_answer why

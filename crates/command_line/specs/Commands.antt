@@ -5,19 +5,22 @@ use Rattle.trf16.specs.declared.fault.Fault.{Fault}
 use Rattle.command_line.specs.CandidateAnswers.{AnswersCandidates}
 use Rattle.explained.specs.ExplainAnswers.{AnswersExplain}
 use Rattle.command_line.specs.PairAnswers.{AnswersPair}
-use Rattle.replies.specs.Prelude.{check_answer, format_answer, format_verdict, standings_answer, Answer}
+use Rattle.command_line.specs.BoardsAnswers.{boards_answer}
+use Rattle.replies.specs.Prelude.{check_answer, format_answer, format_verdict, seen_before, standings_answer, Answer}
 use Rattle.requests.specs.declared.words.Task.{Task}
 use Rattle.requests.specs.declared.words.Request.{Request}
-use Rattle.requests.specs.declared.words.Request.TheVariants.{Check, Format, Pair, Candidates, Explain, Standings}
+use Rattle.requests.specs.declared.words.Request.TheVariants.{Check, Format, Pair, Boards, Candidates, Explain, Standings}
 
--- this is an answer to a request over an input, what the pairing-allocated bye gives, and the report that it is, or over why it is refused
+-- this is an answer to a request over an input, what the pairing-allocated bye gives, and the report that it is, or over why it is refused;
+-- where a request asks for a round it is answered on the report as it stood before that round
 abbrev pub AnswersReport : Request → List ℕ → ℕ → Result Sheet Fault → Answer → Type 0
 AnswersReport (Check options) input bye report answer = answer ≡ check_answer report options.notes input bye
-AnswersReport (Format options) input bye report answer = answer ≡ format_answer options.points report
-AnswersReport (Pair options) input bye report answer = AnswersPair options report answer
-AnswersReport (Candidates options) input bye report answer = AnswersCandidates options report answer
-AnswersReport (Explain options) input bye report answer = AnswersExplain options report answer
-AnswersReport (Standings options) input bye report answer = answer ≡ standings_answer options report
+AnswersReport (Format options) input bye report answer = answer ≡ format_answer options.points (seen_before options.round report)
+AnswersReport (Pair options) input bye report answer = AnswersPair options (seen_before options.round report) answer
+AnswersReport (Boards options) input bye report answer = answer ≡ boards_answer options report
+AnswersReport (Candidates options) input bye report answer = AnswersCandidates options (seen_before options.round report) answer
+AnswersReport (Explain options) input bye report answer = AnswersExplain options (seen_before options.round report) answer
+AnswersReport (Standings options) input bye report answer = answer ≡ standings_answer options (seen_before options.round report)
 
 -- the verdict that a request goes by, where the pairing-allocated bye gives so many half points
 abbrev pub verdict_for : Request → List ℕ → ℕ → Result Sheet Fault

@@ -1,5 +1,5 @@
 -- What is known where a request is answered, from its words and from its report: a model that carries the proof that boards fit.
-use Rattle.std.specs.Prelude.{◌≡◌, ℕ, ◌≤◌, List, IfSome, Ok}
+use Rattle.std.specs.Prelude.{◌≤◌, IfSome}
 use Rattle.dutch_bracket.specs.Prelude.{IsOf, frame_of}
 use Rattle.dutch_order.specs.Prelude.{Fits}
 use Rattle.dutch_pair.specs.declared.round.BracketAt.{BracketAt}
@@ -7,10 +7,10 @@ use Rattle.dutch_pair.specs.declared.round.BracketAt.TheVariants.{Bracket, NotRe
 use Rattle.dutch_pair.specs.declared.round.Outcome.{Outcome}
 use Rattle.dutch_pair.specs.declared.round.Outcome.TheVariants.{Paired, NoPairing, Undecided}
 use Rattle.dutch_player.specs.Prelude.{Facts}
-use Rattle.trf16.specs.Prelude.{CanBePaired, Sheet, verdict}
+use Rattle.trf16.specs.Prelude.{CanBePaired, Sheet}
 use Rattle.requests.specs.declared.options.PairOptions.{PairOptions}
 use Rattle.requests.specs.declared.words.Request.{Request}
-use Rattle.requests.specs.declared.words.Request.TheVariants.{Check, Format, Pair, Candidates, Explain, Standings}
+use Rattle.requests.specs.declared.words.Request.TheVariants.{Check, Format, Pair, Boards, Candidates, Explain, Standings}
 use Rattle.trf16.specs.declared.limits.TheConstants.{MOST_ROUNDS}
 
 -- a total of rounds that is asked for is not above the most rounds
@@ -22,15 +22,10 @@ abbrev pub CanBeAnswered : Request → Type 0
 CanBeAnswered (Check options) = Unit {0}
 CanBeAnswered (Format options) = Unit {0}
 CanBeAnswered (Pair options) = HasFewRounds options
+CanBeAnswered (Boards options) = Unit {0}
 CanBeAnswered (Candidates options) = Unit {0}
 CanBeAnswered (Explain options) = Unit {0}
 CanBeAnswered (Standings options) = Unit {0}
-
--- some text is this report, by what the pairing-allocated bye gives
-pub record IsAccepted (sheet : Sheet) : Type 0 where
-  pub bytes : List ℕ
-  pub bye : ℕ
-  pub is : verdict bytes bye ≡ Ok sheet
 
 -- the boards of an outcome, if it has some, can be the next round of a report
 abbrev pub CanBeTold : Sheet → Outcome → Type 0

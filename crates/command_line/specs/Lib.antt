@@ -3,4 +3,5 @@ pub mod Commands
 pub mod Run
 pub mod CandidateAnswers
 pub mod PairAnswers
+pub mod BoardsAnswers
 pub mod Known

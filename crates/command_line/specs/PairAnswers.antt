@@ -8,8 +8,8 @@ use Rattle.dutch_pair.specs.declared.round.Outcome.TheVariants.{Paired, NoPairin
 use Rattle.dutch_player.specs.Prelude.{Facts, facts_of}
 use Rattle.dutch_player.specs.declared.fault.FieldFault.{FieldFault}
 use Rattle.trf16.specs.Prelude.{with_round, Sheet, written}
-use Rattle.trf16.specs.declared.fault.Fault.{Fault}
-use Rattle.replies.specs.Prelude.{Answer, done, field_refusal, no_pairing, refusal, undecided, named_boards_text}
+use Rattle.replies.specs.Prelude.{Answer, done, field_refusal, no_pairing, undecided, named_boards_text, unseen_answer}
+use Rattle.replies.specs.declared.views.Unseen.{Unseen}
 use Rattle.requests.specs.declared.options.PairOptions.{PairOptions}
 use Rattle.requests.specs.declared.options.Shown.{Shown}
 use Rattle.requests.specs.declared.options.Shown.TheVariants.{Boards, Names, Report}
@@ -49,7 +49,7 @@ abbrev pub PairsField : PairOptions → Sheet → Result Facts FieldFault → An
 PairsField options sheet (Ok facts) answer = IsPaired options sheet facts answer
 PairsField options sheet (Err fault) answer = answer ≡ field_refusal fault
 
--- `pair`: what is answered to a report, or why it is refused
-abbrev pub AnswersPair : PairOptions → Result Sheet Fault → Answer → Type 0
+-- `pair`: what is answered to a report, or why there is none
+abbrev pub AnswersPair : PairOptions → Result Sheet Unseen → Answer → Type 0
 AnswersPair options (Ok sheet) answer = PairsField options sheet (facts_of sheet options.rounds options.initial) answer
-AnswersPair options (Err fault) answer = answer ≡ refusal fault
+AnswersPair options (Err why) answer = answer ≡ unseen_answer why

@@ -7,18 +7,19 @@ ghost use Rattle.command_line.specs.CandidateAnswers.{AnswersCandidates, InField
 ghost use Rattle.command_line.specs.Known.{CanBeListed};
 ghost use Rattle.round_lines.specs.Listings.{ending_text};
 ghost use Rattle.round_lines.specs.CandidateTexts.{bracket_text};
-ghost use Rattle.replies.specs.Prelude.{answer_of, not_of_bracket, not_reached};
+ghost use Rattle.replies.specs.Prelude.{answer_of, not_of_bracket, not_reached, seen_before};
 
 use dutch_order::{Budget, Candidates, Cursor, Rule, Shape};
 use dutch_pair::{BracketAt, Reached, bracket_at};
 use dutch_player::{Field, FieldFault};
-use replies::refusal::{cannot_be_paired, no_pairing, refused, undecided};
+use replies::refusal::{cannot_be_paired, no_pairing, undecided};
+use replies::views::{read_before, unseen};
 use replies::{Reply, Status, texts};
 use requests::CandidatesOptions;
 use round_lines::bracket_texts;
 use round_lines::listing::{Bracket, Coming, Listed, lines};
 use std::alloc::{AllocError, Global};
-use trf16::{Fault, Report};
+use trf16::Report;
 
 /// What `candidates` says of the bytes of a report in which the pairing-allocated bye gives `bye` half points.
 pub fn candidates(
@@ -28,12 +29,12 @@ pub fn candidates(
     bye: u16,
 ) -> Result<Reply, AllocError>
     requires { bye ≤ 2 }
-    ensures { IfOk result (λ reply. AnswersCandidates options.now (verdict bytes.now bye) (answer_of reply)) }
+    ensures { IfOk result (λ reply. AnswersCandidates options.now
+        (seen_before options.now.round (verdict bytes.now bye)) (answer_of reply)) }
 {
-    match trf16::read_with(alloc, bytes, bye) {
+    match read_before(alloc, bytes, bye, options.round) {
         Ok(report) => of_report(alloc, options, &report),
-        Err(Fault::OutOfMemory) => Err(AllocError),
-        Err(fault) => refused(alloc, fault),
+        Err(why) => unseen(alloc, why),
     }
 }
 

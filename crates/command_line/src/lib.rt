@@ -3,6 +3,7 @@
 // streams.
 #![tactic(auto)]
 
+mod boards;
 mod candidates;
 mod pair;
 mod running;

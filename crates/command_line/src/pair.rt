@@ -3,25 +3,26 @@ ghost use Rattle.std.specs.Prelude.{◌≡◌, ◌≤◌, ◌++◌, IfOk, Ok, On
 ghost use Rattle.std.specs.List.{flat_map};
 ghost use Rattle.std.specs.Fmt.{decimal};
 ghost use Rattle.dutch_player.specs.Prelude.{facts_of};
-ghost use Rattle.trf16.specs.Prelude.{verdict, CanBePaired, with_round, written};
+ghost use Rattle.trf16.specs.Prelude.{verdict, CanBePaired, HasOwnStarts, with_round, written};
 ghost use Rattle.command_line.specs.PairAnswers.{AnswersPair, PairsField, TellsBoards, TellsOutcome, TellsReport};
 ghost use Rattle.command_line.specs.PairAnswers.{board_text, boards_text};
-ghost use Rattle.command_line.specs.Known.{CanBeTold, HasFewRounds, IsAccepted};
-ghost use Rattle.replies.specs.Prelude.{answer_of, done};
+ghost use Rattle.command_line.specs.Known.{CanBeTold, HasFewRounds};
+ghost use Rattle.replies.specs.Prelude.{answer_of, done, seen_before};
 
 use dutch_pair::boards::Board;
 use dutch_pair::laws::boards_can_be_the_next_round;
 use dutch_pair::{Outcome, pair_round};
 use dutch_player::{Field, FieldFault};
 use replies::format::rewritten;
-use replies::refusal::{cannot_be_paired, no_pairing, refused, undecided};
+use replies::refusal::{cannot_be_paired, no_pairing, undecided};
+use replies::views::{read_before, unseen};
 use replies::{Reply, Status, wall};
 use requests::{PairOptions, Shown};
 use std::alloc::{AllocError, Global};
-use trf16::{Fault, Report};
+use trf16::Report;
 
 /// What `pair` says of the bytes of a report in which the pairing-allocated bye gives `bye` half points.
-#[tactic(auto, using(crate::proofs::PairLemmas::accepted))]
+#[tactic(auto, using(crate::proofs::PairLemmas::seen_own))]
 pub fn pair(
     alloc: Global,
     options: PairOptions,
@@ -30,19 +31,19 @@ pub fn pair(
 ) -> Result<Reply, AllocError>
     requires rounds { HasFewRounds options }
     requires worth { bye ≤ 2 }
-    ensures { IfOk result (λ reply. AnswersPair options (verdict bytes.now bye) (answer_of reply)) }
+    ensures { IfOk result
+        (λ reply. AnswersPair options (seen_before options.round (verdict bytes.now bye)) (answer_of reply)) }
 {
-    match trf16::read_with(alloc, bytes, bye) {
+    match read_before(alloc, bytes, bye, options.round) {
         Ok(report) => of_report(alloc, options, &report),
-        Err(Fault::OutOfMemory) => Err(AllocError),
-        Err(fault) => refused(alloc, fault),
+        Err(why) => unseen(alloc, why),
     }
 }
 
-// The same of an accepted report.
+// The same of an accepted report, or of one as it stood before a round.
 fn of_report(alloc: Global, options: PairOptions, report: &Report<'_>) -> Result<Reply, AllocError>
     requires few { HasFewRounds options }
-    requires accepted { IsAccepted report.now }
+    requires own { HasOwnStarts report.now }
     ensures { IfOk result (λ reply. AnswersPair options (Ok report.now) (answer_of reply)) }
 {
     match Field::new(alloc, report, options.rounds, options.initial) {
@@ -61,7 +62,7 @@ fn of_field(
     field: &Field,
 ) -> Result<Reply, AllocError>
     requires few { HasFewRounds options }
-    requires accepted { IsAccepted report.now }
+    requires own { HasOwnStarts report.now }
     requires field { facts_of report.now options.rounds options.initial ≡ Ok field.now }
     ensures { IfOk result (λ reply. PairsField options report.now (Ok field.now) (answer_of reply)) }
 {
@@ -105,8 +106,8 @@ fn tell_boards(
     }
 }
 
-// The boards in start ranks.
-fn tell_ranks(alloc: Global, boards: &[Board]) -> Result<Reply, AllocError>
+/// The boards in start ranks.
+pub(crate) fn tell_ranks(alloc: Global, boards: &[Board]) -> Result<Reply, AllocError>
     ensures { IfOk result (λ reply. answer_of reply ≡ done (boards_text boards.now)) }
 {
     Ok(Reply::made(Status::Done, board_lines(alloc, boards)?))

@@ -7,6 +7,7 @@ ghost use Rattle.trf16.specs.Prelude.{use_of};
 ghost use Rattle.command_line.specs.Run.{IsAnswer, IsOutOfMemory, IsReplyTo, IsRun};
 ghost use Rattle.requests.specs.Prelude.{meant};
 
+use crate::boards::boards;
 use crate::candidates::candidates;
 use crate::pair::pair;
 use explained::explain::explain;
@@ -93,6 +94,7 @@ fn answer(alloc: Global, task: Task<'_>, input: &[u8]) -> Result<Reply, AllocErr
     match request {
         Request::Check(options) => check(alloc, options, input, bye),
         Request::Format(options) => format(alloc, options, input, bye),
+        Request::Boards(options) => boards(alloc, options, input, bye),
         Request::Candidates(options) => candidates(alloc, &options, input, bye),
         Request::Explain(options) => explain(alloc, options, input, bye),
         Request::Standings(options) => standings(alloc, &options, input, bye),

@@ -6,8 +6,7 @@ use Rattle.std.proofs.lemmas.List.Sorted.{All-permutation}
 use Rattle.std.proofs.lemmas.Map.Keys.{IsDistinct-IsPermutation}
 use Rattle.trf16.specs.declared.cell.Colour.{Colour}
 use Rattle.trf16.specs.declared.limits.TheConstants.{MOST_ROUNDS}
-use Rattle.trf16.specs.Prelude.{Sheet, known, absent, CanBePaired, named_by, verdict}
-use Rattle.trf16.proofs.StartRanks.{own_starts}
+use Rattle.trf16.specs.Prelude.{Sheet, known, absent, CanBePaired, HasOwnStarts, named_by}
 use Rattle.dutch_player.specs.Prelude.{Facts, facts_of, total_of, start_ranks}
 use Rattle.dutch_player.proofs.PresentLemmas.{field_of}
 use Rattle.dutch_pair.specs.Prelude.{boards, NameEverybodyOnce, Pairing, round}
@@ -25,10 +24,9 @@ total_few sheet None total few own e = at' sheet.total own e
 flips : (x y : ℕ) → nat_eq x y ≡ nat_eq y x
 flips x y = grind (arith, nat_tests)
 
-pub can_be_next : (bytes : List ℕ) (bye : ℕ) (sheet : Sheet) (asked : Option ℕ) (initial : Option Colour) (facts : Facts) (pairing : Pairing)
-    → verdict bytes bye ≡ Ok sheet → IfSome asked (λ total. total ≤ MOST_ROUNDS) → facts_of sheet asked initial ≡ Ok facts → (round facts).pairing ≡ Some pairing → CanBePaired (boards facts pairing) sheet
-can_be_next bytes bye sheet asked initial facts pairing read few made paired =
-    let own = own_starts bytes bye sheet read in
+pub can_be_next : (sheet : Sheet) (asked : Option ℕ) (initial : Option Colour) (facts : Facts) (pairing : Pairing)
+    → HasOwnStarts sheet → IfSome asked (λ total. total ≤ MOST_ROUNDS) → facts_of sheet asked initial ≡ Ok facts → (round facts).pairing ≡ Some pairing → CanBePaired (boards facts pairing) sheet
+can_be_next sheet asked initial facts pairing own few made paired =
     let field = field_of sheet asked initial facts own made in
     let order : NameEverybodyOnce facts (boards facts pairing) = everybody_named facts pairing field.from_one paired in
     let named : List ℕ = named_by (boards facts pairing) in

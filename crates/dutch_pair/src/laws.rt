@@ -5,7 +5,7 @@ ghost use Rattle.std.specs.Prelude.{length, true, is_some};
 ghost use Rattle.std.specs.List.{AllByRecursion, concat};
 ghost use Rattle.std.specs.Option.{IsSomeAnd};
 ghost use Rattle.trf16.specs.declared.limits.TheConstants.{MOST_ROUNDS};
-ghost use Rattle.trf16.specs.Prelude.{CanBePaired, Sheet, verdict};
+ghost use Rattle.trf16.specs.Prelude.{CanBePaired, HasOwnStarts, Sheet};
 ghost use Rattle.trf16.specs.declared.cell.Colour.{Colour};
 ghost use Rattle.dutch_bracket.specs.Prelude.{Quality, is_better, first_difference, IsScoregroup, NeighboursDiffer};
 ghost use Rattle.dutch_bracket.specs.Prelude.{HasCandidate, DifferFirstIn, IsInFrontIn, players_counted, who_counts};
@@ -125,12 +125,11 @@ pub fn no_two_left_by_the_penultimate_are_paired(field: &Field)
     scores_do_not_ascend(field);
 }
 
-/// The boards of a round can be the next round of the accepted report that it is paired from, if a total of rounds that
-/// is asked for is within the limit.
+/// The boards of a round can be the next round of the report that it is paired from, if its start ranks are each a
+/// player's own, as those of every accepted report are, and a total of rounds that is asked for is within the limit.
 pub fn boards_can_be_the_next_round()
-    ensures { (bytes : List ℕ) (bye : ℕ) (sheet : Sheet) (asked : Option ℕ) (initial : Option Colour) (facts : Facts)
-        (pairing : Pairing)
-        → verdict bytes bye ≡ Ok sheet → IfSome asked (λ total. total ≤ MOST_ROUNDS)
+    ensures { (sheet : Sheet) (asked : Option ℕ) (initial : Option Colour) (facts : Facts) (pairing : Pairing)
+        → HasOwnStarts sheet → IfSome asked (λ total. total ≤ MOST_ROUNDS)
         → facts_of sheet asked initial ≡ Ok facts → (round facts).pairing ≡ Some pairing
         → CanBePaired (boards facts pairing) sheet }
 {}

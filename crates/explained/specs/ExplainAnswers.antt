@@ -6,12 +6,12 @@ use Rattle.dutch_pair.specs.declared.round.AllStages.TheVariants.{Paired, NoPair
 use Rattle.dutch_player.specs.Prelude.{Facts, facts_of, seat_with}
 use Rattle.dutch_player.specs.declared.fault.FieldFault.{FieldFault}
 use Rattle.trf16.specs.Prelude.{Sheet}
-use Rattle.trf16.specs.declared.fault.Fault.{Fault}
 use Rattle.explained.specs.BarrierTexts.{reason_text}
 use Rattle.explained.specs.ExplainTexts.{round_text, stages_text}
 use Rattle.explained.specs.InsteadAnswers.{AnswersInstead, PairedRound}
 use Rattle.round_lines.specs.PlayerTexts.{absent_text, player_text}
-use Rattle.replies.specs.Prelude.{question_fault, Answer, behind, done, field_refusal, no_pairing, plain, question_refusal, refusal, undecided}
+use Rattle.replies.specs.Prelude.{question_fault, Answer, behind, done, field_refusal, no_pairing, plain, question_refusal, undecided, unseen_answer}
+use Rattle.replies.specs.declared.views.Unseen.{Unseen}
 use Rattle.requests.specs.declared.options.ExplainOptions.{ExplainOptions}
 use Rattle.requests.specs.declared.options.Question.{Question}
 use Rattle.replies.specs.declared.question.QuestionFault.{QuestionFault}
@@ -82,7 +82,7 @@ abbrev pub ExplainsField : ExplainOptions → Sheet → Result Facts FieldFault 
 ExplainsField options sheet (Ok facts) answer = ExplainsAsked options sheet facts (question_fault sheet options.question) answer
 ExplainsField options sheet (Err fault) answer = answer ≡ field_refusal fault
 
--- `explain`: what is answered to a report, or why it is refused
-abbrev pub AnswersExplain : ExplainOptions → Result Sheet Fault → Answer → Type 0
+-- `explain`: what is answered to a report, or why there is none
+abbrev pub AnswersExplain : ExplainOptions → Result Sheet Unseen → Answer → Type 0
 AnswersExplain options (Ok sheet) answer = ExplainsField options sheet (facts_of sheet options.rounds options.initial) answer
-AnswersExplain options (Err fault) answer = answer ≡ refusal fault
+AnswersExplain options (Err why) answer = answer ≡ unseen_answer why

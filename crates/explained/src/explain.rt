@@ -7,19 +7,20 @@ ghost use Rattle.dutch_bracket.specs.Prelude.{AreSeats};
 ghost use Rattle.dutch_player.specs.Prelude.{seat_with};
 ghost use Rattle.explained.specs.ExplainAnswers.{AnswersExplain, ExplainsField, IsExplained, IsToldBehind};
 ghost use Rattle.explained.specs.ExplainAnswers.{TellsPaired, about_text, front_text, present_text};
-ghost use Rattle.replies.specs.Prelude.{answer_of};
+ghost use Rattle.replies.specs.Prelude.{answer_of, seen_before};
 
 use crate::barrier_lines::no_pairing_because;
 use crate::bracket_lines::{put_stages, round_line};
 use crate::instead::{Paired, Question, instead};
 use dutch_pair::{AllStages, stages};
 use dutch_player::{Field, FieldFault};
-use replies::refusal::{cannot_be_asked, cannot_be_paired, refused, undecided};
+use replies::refusal::{cannot_be_asked, cannot_be_paired, undecided};
+use replies::views::{read_before, unseen};
 use replies::{Reply, Status, question_fault};
 use requests::ExplainOptions;
 use round_lines::{put_absent, put_player};
 use std::alloc::{AllocError, Global};
-use trf16::{Fault, Report};
+use trf16::Report;
 
 /// What `explain` says of the bytes of a report in which the pairing-allocated bye gives `bye` half points.
 pub fn explain(
@@ -29,12 +30,12 @@ pub fn explain(
     bye: u16,
 ) -> Result<Reply, AllocError>
     requires { bye ≤ 2 }
-    ensures { IfOk result (λ reply. AnswersExplain options (verdict bytes.now bye) (answer_of reply)) }
+    ensures { IfOk result
+        (λ reply. AnswersExplain options (seen_before options.round (verdict bytes.now bye)) (answer_of reply)) }
 {
-    match trf16::read_with(alloc, bytes, bye) {
+    match read_before(alloc, bytes, bye, options.round) {
         Ok(report) => of_report(alloc, options, &report),
-        Err(Fault::OutOfMemory) => Err(AllocError),
-        Err(fault) => refused(alloc, fault),
+        Err(why) => unseen(alloc, why),
     }
 }
 

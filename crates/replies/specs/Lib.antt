@@ -15,3 +15,4 @@ pub mod Tables
 pub mod WallTexts
 pub mod StandingsAnswers
 pub mod Prelude
+pub mod Views

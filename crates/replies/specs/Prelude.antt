@@ -1,10 +1,10 @@
 -- The words of replies by one name: for its proofs, and for the crates above.
 pub use Rattle.replies.specs.Devices.{IsKept, IsUnread, Reading, reading_of}
 pub use Rattle.replies.specs.Input.{IsRead, ReadsInput, most_read}
-pub use Rattle.replies.specs.Texts.{accepted_text, not_of_bracket_text, not_reached_text, question_text, read_text, undecided_text, word_text, write_text}
+pub use Rattle.replies.specs.Texts.{accepted_text, not_of_bracket_text, not_reached_text, question_text, read_text, round_not_reached_text, undecided_text, word_text, write_text}
 unfoldable pub use Rattle.replies.specs.Texts.{halves_text}
 pub use Rattle.replies.specs.Questions.{instead_fault, question_fault}
-pub use Rattle.replies.specs.Statuses.{Answer, behind, code_of, done, field_refusal, is_output, no_pairing, not_of_bracket, not_reached, out_of_memory, plain, question_refusal, read_fault, refusal, tie_refusal, undecided}
+pub use Rattle.replies.specs.Statuses.{Answer, behind, code_of, done, field_refusal, is_output, no_pairing, not_of_bracket, not_reached, out_of_memory, plain, question_refusal, read_fault, refusal, round_not_reached, tie_refusal, undecided}
 pub use Rattle.replies.specs.Replies.{answer_of, note_of, text_of}
 pub use Rattle.replies.specs.WrittenAnswers.{HasInTurn, HasTextOrPart, IsCut, IsNoteCut, IsNoted, IsOnStandardError, IsPrinted, IsToldWith, IsWritten, IsWrittenTo}
 pub use Rattle.replies.specs.Controls.{holds_control, is_control, is_long_control, shown_byte, without_controls}
@@ -19,3 +19,4 @@ pub use Rattle.replies.specs.Tables.{LabelFacts, gap, labels_text, left, padded,
 pub use Rattle.replies.specs.WallTexts.{boards_labels, named_boards_text, named_rows_text, opponent_labels, paired_labels, rows_labels, shown, values_labels}
 unfoldable pub use Rattle.replies.specs.WallTexts.{board_labels, player_labels, row_labels}
 pub use Rattle.replies.specs.StandingsAnswers.{lines_text, standings_answer, table_answer}
+pub use Rattle.replies.specs.Views.{Sees, seen_before, unseen_answer}

@@ -7,6 +7,8 @@ use Rattle.replies.specs.NoteTexts.{notes_text}
 use Rattle.replies.specs.RefusalNoteTexts.{with_note, refusal_note}
 use Rattle.replies.specs.Statuses.{Answer, done, refusal}
 use Rattle.replies.specs.Texts.{accepted_text}
+use Rattle.replies.specs.Views.{unseen_answer}
+use Rattle.replies.specs.declared.views.Unseen.{Unseen}
 
 -- how many players and rounds a report has
 abbrev pub size_text : Sheet → List ℕ
@@ -25,10 +27,10 @@ abbrev pub formatted : Bool → Sheet → Sheet
 formatted false sheet = sheet
 formatted true sheet = summed sheet
 
--- `format`: the report in canonical columns, however long, or why it is refused
-abbrev pub format_answer : Bool → Result Sheet Fault → Answer
+-- `format`: the report in canonical columns, however long, or why there is none
+abbrev pub format_answer : Bool → Result Sheet Unseen → Answer
 format_answer points (Ok sheet) = done (written (formatted points sheet))
-format_answer points (Err fault) = refusal fault
+format_answer points (Err why) = unseen_answer why
 
 -- the verdict that `format` goes by: with `--points` (true) no points field is compared
 abbrev pub format_verdict : Bool → List ℕ → ℕ → Result Sheet Fault

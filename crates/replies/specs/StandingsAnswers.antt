@@ -4,9 +4,10 @@ use Rattle.tiebreak.specs.Prelude.{RowFacts, standings_of}
 use Rattle.tiebreak.specs.declared.fault.TieFault.{TieFault}
 use Rattle.tiebreak.specs.declared.key.Key.{Key}
 use Rattle.trf16.specs.Prelude.{Sheet}
-use Rattle.trf16.specs.declared.fault.Fault.{Fault}
 use Rattle.replies.specs.StandingsTexts.{rows_text}
-use Rattle.replies.specs.Statuses.{Answer, done, refusal, tie_refusal}
+use Rattle.replies.specs.Statuses.{Answer, done, tie_refusal}
+use Rattle.replies.specs.Views.{unseen_answer}
+use Rattle.replies.specs.declared.views.Unseen.{Unseen}
 use Rattle.replies.specs.WallTexts.{named_rows_text}
 use Rattle.requests.specs.declared.options.StandingsOptions.{StandingsOptions}
 
@@ -20,7 +21,7 @@ abbrev pub table_answer : StandingsOptions → Sheet → Result (List RowFacts) 
 table_answer options sheet (Ok rows) = done (lines_text options.names sheet options.keys rows)
 table_answer options sheet (Err fault) = tie_refusal fault
 
--- `standings`: the players in order, or why a report is refused
-abbrev pub standings_answer : StandingsOptions → Result Sheet Fault → Answer
+-- `standings`: the players in order, or why there is no report
+abbrev pub standings_answer : StandingsOptions → Result Sheet Unseen → Answer
 standings_answer options (Ok sheet) = table_answer options sheet (standings_of sheet options.keys)
-standings_answer options (Err fault) = refusal fault
+standings_answer options (Err why) = unseen_answer why

@@ -7,7 +7,7 @@ use Rattle.tiebreak.specs.declared.fault.TieFault.TheVariants.{OutOfMemory as Ti
 use Rattle.trf16.specs.declared.fault.Fault.{Fault}
 use Rattle.trf16.specs.declared.fault.Fault.TheVariants.{OutOfMemory}
 use Rattle.refusals.specs.Texts.{fault_text, field_text, memory_text, tie_text}
-use Rattle.replies.specs.Texts.{not_of_bracket_text, not_reached_text, question_text, read_text, undecided_text}
+use Rattle.replies.specs.Texts.{not_of_bracket_text, not_reached_text, question_text, read_text, round_not_reached_text, undecided_text}
 use Rattle.replies.specs.declared.question.QuestionFault.{QuestionFault}
 use Rattle.replies.specs.declared.reply.Status.{Status}
 use Rattle.replies.specs.declared.reply.Status.TheVariants.{Done, Refused, BadWords, NoPairing, Undecided, Trouble}
@@ -81,6 +81,10 @@ undecided number used = plain Undecided (undecided_text number used)
 -- the round ends before the bracket that is asked for
 abbrev pub not_reached : ℕ → Answer
 not_reached number = plain BadWords (not_reached_text number)
+
+-- the report does not reach the round that is asked for
+abbrev pub round_not_reached : ℕ → Answer
+round_not_reached round = plain BadWords (round_not_reached_text round)
 
 -- the cursor is not one of the bracket that is asked for
 abbrev pub not_of_bracket : ℕ → Answer

@@ -39,6 +39,10 @@ undecided_text number used = codes "undecided bracket " ++ (decimal number ++ (c
 abbrev pub not_reached_text : ℕ → List ℕ
 not_reached_text number = codes "words: bracket " ++ (decimal number ++ codes " is not reached\n")
 
+-- a report does not reach a round
+abbrev pub round_not_reached_text : ℕ → List ℕ
+round_not_reached_text round = codes "words: round " ++ (decimal round ++ codes " is not reached\n")
+
 -- a cursor is not one of a bracket
 abbrev pub not_of_bracket_text : ℕ → List ℕ
 not_of_bracket_text number = codes "words: cursor is not of bracket " ++ (decimal number ++ codes "\n")

@@ -1,15 +1,16 @@
 // The command `format`: a report in canonical columns.
 ghost use Rattle.std.specs.Prelude.{◌≡◌, ◌≤◌, IfOk, false, true};
 ghost use Rattle.trf16.specs.Prelude.{summed, verdict_unsummed, verdict, written};
+ghost use Rattle.replies.specs.Views.{seen_before};
 ghost use Rattle.replies.specs.ReportAnswers.{format_answer, format_verdict};
 ghost use Rattle.replies.specs.Replies.{answer_of};
 ghost use Rattle.replies.specs.Statuses.{done};
 
-use crate::refusal::refused;
 use crate::reply::{Reply, Status};
+use crate::views::{read_before, read_unsummed_before, unseen};
 use requests::FormatOptions;
 use std::alloc::{AllocError, Global};
-use trf16::{Counted, Failed, Fault, Report};
+use trf16::{Counted, Failed, Report};
 
 /// What `format` says of the bytes of a report in which the pairing-allocated bye gives `bye` half points.
 pub fn format(
@@ -20,36 +21,35 @@ pub fn format(
 ) -> Result<Reply, AllocError>
     requires { bye ≤ 2 }
     ensures { IfOk result (λ reply. answer_of reply
-        ≡ format_answer options.points (format_verdict options.points bytes.now bye)) }
+        ≡ format_answer options.points (seen_before options.round (format_verdict options.points bytes.now bye))) }
 {
     if options.points {
-        with_sums(alloc, bytes, bye)
+        with_sums(alloc, bytes, bye, options.round)
     } else {
-        as_it_is(alloc, bytes, bye)
+        as_it_is(alloc, bytes, bye, options.round)
     }
 }
 
-// The report as it was read.
-fn as_it_is(alloc: Global, bytes: &[u8], bye: u16) -> Result<Reply, AllocError>
+// The report as it was read, or as it stood before a round.
+fn as_it_is(alloc: Global, bytes: &[u8], bye: u16, round: Option<u8>) -> Result<Reply, AllocError>
     requires { bye ≤ 2 }
-    ensures { IfOk result (λ reply. answer_of reply ≡ format_answer false (verdict bytes.now bye)) }
+    ensures { IfOk result (λ reply. answer_of reply ≡ format_answer false (seen_before round (verdict bytes.now bye))) }
 {
-    match trf16::read_with(alloc, bytes, bye) {
+    match read_before(alloc, bytes, bye, round) {
         Ok(report) => rewritten(alloc, &report),
-        Err(Fault::OutOfMemory) => Err(AllocError),
-        Err(fault) => refused(alloc, fault),
+        Err(why) => unseen(alloc, why),
     }
 }
 
-// The report with its points fields summed, whatever they say.
-fn with_sums(alloc: Global, bytes: &[u8], bye: u16) -> Result<Reply, AllocError>
+// The same with its points fields summed, whatever they say.
+fn with_sums(alloc: Global, bytes: &[u8], bye: u16, round: Option<u8>) -> Result<Reply, AllocError>
     requires { bye ≤ 2 }
-    ensures { IfOk result (λ reply. answer_of reply ≡ format_answer true (verdict_unsummed bytes.now bye)) }
+    ensures { IfOk result
+        (λ reply. answer_of reply ≡ format_answer true (seen_before round (verdict_unsummed bytes.now bye))) }
 {
-    match trf16::read_unsummed(alloc, bytes, bye) {
+    match read_unsummed_before(alloc, bytes, bye, round) {
         Ok(report) => with_its_sums(alloc, &report),
-        Err(Fault::OutOfMemory) => Err(AllocError),
-        Err(fault) => refused(alloc, fault),
+        Err(why) => unseen(alloc, why),
     }
 }
 

@@ -22,6 +22,7 @@ mod reply;
 pub mod standings;
 mod table;
 pub mod texts;
+pub mod views;
 pub mod wall;
 
 pub use input::{InputFault, read_input};

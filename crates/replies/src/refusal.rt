@@ -1,7 +1,8 @@
 // The answers that several commands have: to a report that is refused, and if there is no pairing or the steps end
 // first.
 ghost use Rattle.std.specs.Prelude.{◌≡◌, IfOk};
-ghost use Rattle.replies.specs.Statuses.{field_refusal, no_pairing, question_refusal, refusal, tie_refusal, undecided};
+ghost use Rattle.replies.specs.Statuses.{field_refusal, no_pairing, question_refusal, refusal, round_not_reached};
+ghost use Rattle.replies.specs.Statuses.{tie_refusal, undecided};
 ghost use Rattle.replies.specs.Replies.{answer_of};
 
 use crate::question::QuestionFault;
@@ -47,6 +48,13 @@ pub fn cannot_be_asked(alloc: Global, fault: QuestionFault) -> Result<Reply, All
     ensures { IfOk result (λ reply. answer_of reply ≡ question_refusal fault) }
 {
     Ok(Reply::made(Status::BadWords, texts::bad_question(alloc, fault)?))
+}
+
+/// The report does not reach a round.
+pub fn round_not_reached(alloc: Global, round: u8) -> Result<Reply, AllocError>
+    ensures { IfOk result (λ reply. answer_of reply ≡ round_not_reached round) }
+{
+    Ok(Reply::made(Status::BadWords, texts::round_not_reached(alloc, round)?))
 }
 
 /// No pairing meets the absolute criteria.

@@ -4,15 +4,17 @@ ghost use Rattle.trf16.specs.Prelude.{verdict};
 ghost use Rattle.replies.specs.Replies.{answer_of};
 ghost use Rattle.replies.specs.StandingsAnswers.{standings_answer, table_answer};
 ghost use Rattle.replies.specs.StandingsTexts.{row_text, rows_text, value_text, values_text};
+ghost use Rattle.replies.specs.Views.{seen_before};
 
 use crate::points::{HalfPoints, KeyValue};
-use crate::refusal::{has_no_standings, refused};
+use crate::refusal::has_no_standings;
 use crate::reply::{Reply, Status};
+use crate::views::{read_before, unseen};
 use crate::wall;
 use requests::StandingsOptions;
 use std::alloc::{AllocError, Global};
 use tiebreak::{Key, Row, TieFault};
-use trf16::{Fault, Report};
+use trf16::Report;
 
 /// What `standings` says of the bytes of a report in which the pairing-allocated bye gives `bye` half points.
 pub fn standings(
@@ -22,12 +24,12 @@ pub fn standings(
     bye: u16,
 ) -> Result<Reply, AllocError>
     requires { bye ≤ 2 }
-    ensures { IfOk result (λ reply. answer_of reply ≡ standings_answer options.now (verdict bytes.now bye)) }
+    ensures { IfOk result (λ reply. answer_of reply
+        ≡ standings_answer options.now (seen_before options.now.round (verdict bytes.now bye))) }
 {
-    match trf16::read_with(alloc, bytes, bye) {
+    match read_before(alloc, bytes, bye, options.round) {
         Ok(report) => of_report(alloc, options, &report),
-        Err(Fault::OutOfMemory) => Err(AllocError),
-        Err(fault) => refused(alloc, fault),
+        Err(why) => unseen(alloc, why),
     }
 }
 

@@ -2,7 +2,7 @@
 ghost use Rattle.std.specs.Prelude.{◌≡◌, ◌++◌, IfOk, codes, string_bytes};
 ghost use Rattle.std.specs.Fmt.{decimal};
 ghost use Rattle.replies.specs.Texts.{accepted_text, halves_text, not_of_bracket_text, not_reached_text};
-ghost use Rattle.replies.specs.Texts.{question_text, undecided_text, word_text};
+ghost use Rattle.replies.specs.Texts.{question_text, round_not_reached_text, undecided_text, word_text};
 
 use crate::points::HalfPoints;
 use crate::question::QuestionFault;
@@ -55,6 +55,13 @@ pub fn not_reached(alloc: Global, number: u16) -> Result<String, AllocError>
     ensures { IfOk result (λ text. string_bytes text ≡ not_reached_text number) }
 {
     format!(in alloc; "words: bracket {number} is not reached\n")
+}
+
+/// A report does not reach a round.
+pub fn round_not_reached(alloc: Global, round: u8) -> Result<String, AllocError>
+    ensures { IfOk result (λ text. string_bytes text ≡ round_not_reached_text round) }
+{
+    format!(in alloc; "words: round {round} is not reached\n")
 }
 
 /// A cursor is not one of a bracket.

@@ -1,0 +1,86 @@
+// The report that a command answers on: the one that some bytes are, or that one as it stood before a round.
+ghost use Rattle.std.specs.Prelude.{◌≡◌, ◌≤◌, IfOk, Ok};
+ghost use Rattle.trf16.specs.Prelude.{verdict, verdict_unsummed};
+ghost use Rattle.replies.specs.Replies.{answer_of};
+ghost use Rattle.replies.specs.Views.{Sees, seen_before, unseen_answer};
+
+use crate::refusal::{refused, round_not_reached};
+use crate::reply::Reply;
+use std::alloc::{AllocError, Global};
+use trf16::{Fault, Report};
+
+/// Why there is no report to answer on.
+#[derive(Drop)]
+pub enum Unseen {
+    /// It is refused, or memory was.
+    Refused(Fault),
+    /// It does not reach the round that is asked for, which counts from 1.
+    NotReached(u8),
+}
+
+/// The report that some bytes are, in which the pairing-allocated bye gives `bye` half points; where a round is asked
+/// for, as it stood before that round.
+///
+/// # Errors
+/// It is refused, or then does not reach the round; or memory was refused.
+pub fn read_before<'a>(
+    alloc: Global,
+    bytes: &'a [u8],
+    bye: u16,
+    round: Option<u8>,
+) -> Result<Report<'a>, Unseen>
+    requires { bye ≤ 2 }
+    ensures { Sees result (seen_before round (verdict bytes.now bye)) }
+{
+    match trf16::read_with(alloc, bytes, bye) {
+        Ok(report) => seen_before(alloc, report, round),
+        Err(fault) => Err(Unseen::Refused(fault)),
+    }
+}
+
+/// The same of a report whose points fields are not compared.
+///
+/// # Errors
+/// It is refused, or then does not reach the round; or memory was refused.
+pub fn read_unsummed_before<'a>(
+    alloc: Global,
+    bytes: &'a [u8],
+    bye: u16,
+    round: Option<u8>,
+) -> Result<Report<'a>, Unseen>
+    requires { bye ≤ 2 }
+    ensures { Sees result (seen_before round (verdict_unsummed bytes.now bye)) }
+{
+    match trf16::read_unsummed(alloc, bytes, bye) {
+        Ok(report) => seen_before(alloc, report, round),
+        Err(fault) => Err(Unseen::Refused(fault)),
+    }
+}
+
+// A report that was read; where a round is asked for, as it stood before that round.
+fn seen_before<'a>(
+    alloc: Global,
+    report: Report<'a>,
+    round: Option<u8>,
+) -> Result<Report<'a>, Unseen>
+    ensures { Sees result (seen_before round (Ok report.entry)) }
+{
+    let Some(round) = round else {
+        return Ok(report);
+    };
+    match report.before_round(alloc, round) {
+        Ok(Some(view)) => Ok(view),
+        Ok(None) => Err(Unseen::NotReached(round)),
+        Err(AllocError) => Err(Unseen::Refused(Fault::OutOfMemory)),
+    }
+}
+
+/// What is answered where there is no report to answer on, unless memory was refused.
+pub fn unseen(alloc: Global, why: Unseen) -> Result<Reply, AllocError>
+    ensures { IfOk result (λ reply. answer_of reply ≡ unseen_answer why) }
+{
+    match why {
+        Unseen::Refused(fault) => refused(alloc, fault),
+        Unseen::NotReached(round) => round_not_reached(alloc, round),
+    }
+}
