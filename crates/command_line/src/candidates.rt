@@ -13,7 +13,7 @@ use dutch_order::{Budget, Candidates, Cursor, Rule, Shape};
 use dutch_pair::{BracketAt, Reached, bracket_at};
 use dutch_player::{Field, FieldFault};
 use replies::refusal::{cannot_be_paired, no_pairing, undecided};
-use replies::views::{read_before, unseen};
+use replies::views::{not_seen, read_before};
 use replies::{Reply, Status, texts};
 use requests::CandidatesOptions;
 use round_lines::bracket_texts;
@@ -34,7 +34,7 @@ pub fn candidates(
 {
     match read_before(alloc, bytes, bye, options.round) {
         Ok(report) => of_report(alloc, options, &report),
-        Err(why) => unseen(alloc, why),
+        Err(why) => not_seen(alloc, why),
     }
 }
 

@@ -15,7 +15,7 @@ use dutch_pair::{Outcome, pair_round};
 use dutch_player::{Field, FieldFault};
 use replies::format::rewritten;
 use replies::refusal::{cannot_be_paired, no_pairing, undecided};
-use replies::views::{read_before, unseen};
+use replies::views::{not_seen, read_before};
 use replies::{Reply, Status, wall};
 use requests::{PairOptions, Shown};
 use std::alloc::{AllocError, Global};
@@ -36,7 +36,7 @@ pub fn pair(
 {
     match read_before(alloc, bytes, bye, options.round) {
         Ok(report) => of_report(alloc, options, &report),
-        Err(why) => unseen(alloc, why),
+        Err(why) => not_seen(alloc, why),
     }
 }
 

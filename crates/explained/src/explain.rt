@@ -15,7 +15,7 @@ use crate::instead::{Paired, Question, instead};
 use dutch_pair::{AllStages, stages};
 use dutch_player::{Field, FieldFault};
 use replies::refusal::{cannot_be_asked, cannot_be_paired, undecided};
-use replies::views::{read_before, unseen};
+use replies::views::{not_seen, read_before};
 use replies::{Reply, Status, question_fault};
 use requests::ExplainOptions;
 use round_lines::{put_absent, put_player};
@@ -35,7 +35,7 @@ pub fn explain(
 {
     match read_before(alloc, bytes, bye, options.round) {
         Ok(report) => of_report(alloc, options, &report),
-        Err(why) => unseen(alloc, why),
+        Err(why) => not_seen(alloc, why),
     }
 }
 

@@ -7,7 +7,7 @@ ghost use Rattle.replies.specs.Replies.{answer_of};
 ghost use Rattle.replies.specs.Statuses.{done};
 
 use crate::reply::{Reply, Status};
-use crate::views::{read_before, read_unsummed_before, unseen};
+use crate::views::{not_seen, read_before, read_unsummed_before};
 use requests::FormatOptions;
 use std::alloc::{AllocError, Global};
 use trf16::{Counted, Failed, Report};
@@ -37,7 +37,7 @@ fn as_it_is(alloc: Global, bytes: &[u8], bye: u16, round: Option<u8>) -> Result<
 {
     match read_before(alloc, bytes, bye, round) {
         Ok(report) => rewritten(alloc, &report),
-        Err(why) => unseen(alloc, why),
+        Err(why) => not_seen(alloc, why),
     }
 }
 
@@ -49,7 +49,7 @@ fn with_sums(alloc: Global, bytes: &[u8], bye: u16, round: Option<u8>) -> Result
 {
     match read_unsummed_before(alloc, bytes, bye, round) {
         Ok(report) => with_its_sums(alloc, &report),
-        Err(why) => unseen(alloc, why),
+        Err(why) => not_seen(alloc, why),
     }
 }
 

@@ -9,7 +9,7 @@ ghost use Rattle.replies.specs.Views.{seen_before};
 use crate::points::{HalfPoints, KeyValue};
 use crate::refusal::has_no_standings;
 use crate::reply::{Reply, Status};
-use crate::views::{read_before, unseen};
+use crate::views::{not_seen, read_before};
 use crate::wall;
 use requests::StandingsOptions;
 use std::alloc::{AllocError, Global};
@@ -29,7 +29,7 @@ pub fn standings(
 {
     match read_before(alloc, bytes, bye, options.round) {
         Ok(report) => of_report(alloc, options, &report),
-        Err(why) => unseen(alloc, why),
+        Err(why) => not_seen(alloc, why),
     }
 }
 

@@ -76,7 +76,7 @@ fn seen_before<'a>(
 }
 
 /// What is answered where there is no report to answer on, unless memory was refused.
-pub fn unseen(alloc: Global, why: Unseen) -> Result<Reply, AllocError>
+pub fn not_seen(alloc: Global, why: Unseen) -> Result<Reply, AllocError>
     ensures { IfOk result (λ reply. answer_of reply ≡ unseen_answer why) }
 {
     match why {
