@@ -32,7 +32,7 @@ pub fn candidates(
     ensures { IfOk result (λ reply. AnswersCandidates options.now
         (seen_before options.now.round (verdict bytes.now bye)) (answer_of reply)) }
 {
-    match read_before(alloc, bytes, bye, options.round) {
+    match read_before(alloc, bytes, bye, options.round)? {
         Ok(report) => of_report(alloc, options, &report),
         Err(why) => not_seen(alloc, why),
     }

@@ -34,7 +34,7 @@ pub fn pair(
     ensures { IfOk result
         (λ reply. AnswersPair options (seen_before options.round (verdict bytes.now bye)) (answer_of reply)) }
 {
-    match read_before(alloc, bytes, bye, options.round) {
+    match read_before(alloc, bytes, bye, options.round)? {
         Ok(report) => of_report(alloc, options, &report),
         Err(why) => not_seen(alloc, why),
     }

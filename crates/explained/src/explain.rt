@@ -33,7 +33,7 @@ pub fn explain(
     ensures { IfOk result
         (λ reply. AnswersExplain options (seen_before options.round (verdict bytes.now bye)) (answer_of reply)) }
 {
-    match read_before(alloc, bytes, bye, options.round) {
+    match read_before(alloc, bytes, bye, options.round)? {
         Ok(report) => of_report(alloc, options, &report),
         Err(why) => not_seen(alloc, why),
     }

@@ -19,4 +19,4 @@ pub use Rattle.replies.specs.Tables.{LabelFacts, gap, labels_text, left, padded,
 pub use Rattle.replies.specs.WallTexts.{boards_labels, named_boards_text, named_rows_text, opponent_labels, paired_labels, rows_labels, shown, values_labels}
 unfoldable pub use Rattle.replies.specs.WallTexts.{board_labels, player_labels, row_labels}
 pub use Rattle.replies.specs.StandingsAnswers.{lines_text, standings_answer, table_answer}
-pub use Rattle.replies.specs.Views.{Sees, seen_before, unseen_answer}
+pub use Rattle.replies.specs.Views.{seen_before, unseen_answer}

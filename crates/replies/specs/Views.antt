@@ -1,9 +1,8 @@
 -- The report that a command answers on: the one that was read, or that one as it stood before a round.
-use Rattle.std.specs.Prelude.{◌≡◌, ℕ, Option, Some, None, Result, Ok, Err}
+use Rattle.std.specs.Prelude.{ℕ, Option, Some, None, Result, Ok, Err}
 use Rattle.std.specs.Option.{ok_or}
 use Rattle.trf16.specs.Prelude.{Sheet, before_round}
 use Rattle.trf16.specs.declared.fault.Fault.{Fault}
-use Rattle.trf16.specs.declared.fault.Fault.TheVariants.{OutOfMemory}
 use Rattle.replies.specs.Statuses.{Answer, refusal, round_not_reached}
 use Rattle.replies.specs.declared.views.Unseen.{Unseen}
 use Rattle.replies.specs.declared.views.Unseen.TheVariants.{Refused, NotReached}
@@ -14,12 +13,6 @@ abbrev pub seen_before : Option ℕ → Result Sheet Fault → Result Sheet Unse
 seen_before round (Err fault) = Err (Refused fault)
 seen_before None (Ok sheet) = Ok sheet
 seen_before (Some round) (Ok sheet) = ok_or (before_round sheet round) (NotReached round)
-
--- a call answers the report that is seen, or why there is none, or that memory was refused
-abbrev pub Sees : Result Sheet Unseen → Result Sheet Unseen → Type 0
-Sees (Ok report) seen = seen ≡ Ok report
-Sees (Err (Refused OutOfMemory)) seen = Unit {0}
-Sees (Err why) seen = seen ≡ Err why
 
 -- why there is no report to answer on
 abbrev pub unseen_answer : Unseen → Answer

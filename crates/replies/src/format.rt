@@ -35,7 +35,7 @@ fn as_it_is(alloc: Global, bytes: &[u8], bye: u16, round: Option<u8>) -> Result<
     requires { bye ≤ 2 }
     ensures { IfOk result (λ reply. answer_of reply ≡ format_answer false (seen_before round (verdict bytes.now bye))) }
 {
-    match read_before(alloc, bytes, bye, round) {
+    match read_before(alloc, bytes, bye, round)? {
         Ok(report) => rewritten(alloc, &report),
         Err(why) => not_seen(alloc, why),
     }
@@ -47,7 +47,7 @@ fn with_sums(alloc: Global, bytes: &[u8], bye: u16, round: Option<u8>) -> Result
     ensures { IfOk result
         (λ reply. answer_of reply ≡ format_answer true (seen_before round (verdict_unsummed bytes.now bye))) }
 {
-    match read_unsummed_before(alloc, bytes, bye, round) {
+    match read_unsummed_before(alloc, bytes, bye, round)? {
         Ok(report) => with_its_sums(alloc, &report),
         Err(why) => not_seen(alloc, why),
     }

@@ -27,7 +27,7 @@ pub fn standings(
     ensures { IfOk result (λ reply. answer_of reply
         ≡ standings_answer options.now (seen_before options.now.round (verdict bytes.now bye))) }
 {
-    match read_before(alloc, bytes, bye, options.round) {
+    match read_before(alloc, bytes, bye, options.round)? {
         Ok(report) => of_report(alloc, options, &report),
         Err(why) => not_seen(alloc, why),
     }

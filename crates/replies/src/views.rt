@@ -2,7 +2,7 @@
 ghost use Rattle.std.specs.Prelude.{◌≡◌, ◌≤◌, IfOk, Ok};
 ghost use Rattle.trf16.specs.Prelude.{verdict, verdict_unsummed};
 ghost use Rattle.replies.specs.Replies.{answer_of};
-ghost use Rattle.replies.specs.Views.{Sees, seen_before, unseen_answer};
+ghost use Rattle.replies.specs.Views.{seen_before, unseen_answer};
 
 use crate::refusal::{refused, round_not_reached};
 use crate::reply::Reply;
@@ -12,48 +12,53 @@ use trf16::{Fault, Report};
 /// Why there is no report to answer on.
 #[derive(Drop)]
 pub enum Unseen {
-    /// It is refused, or memory was.
+    /// It is refused.
     Refused(Fault),
     /// It does not reach the round that is asked for, which counts from 1.
     NotReached(u8),
 }
 
+/// A report, or why there is none.
+pub type Seen<'a> = Result<Report<'a>, Unseen>;
+
 /// The report that some bytes are, in which the pairing-allocated bye gives `bye` half points; where a round is asked
 /// for, as it stood before that round.
 ///
 /// # Errors
-/// It is refused, or then does not reach the round; or memory was refused.
+/// Memory was refused.
 pub fn read_before<'a>(
     alloc: Global,
     bytes: &'a [u8],
     bye: u16,
     round: Option<u8>,
-) -> Result<Report<'a>, Unseen>
+) -> Result<Seen<'a>, AllocError>
     requires { bye ≤ 2 }
-    ensures { Sees result (seen_before round (verdict bytes.now bye)) }
+    ensures { IfOk result (λ seen. seen ≡ seen_before round (verdict bytes.now bye)) }
 {
     match trf16::read_with(alloc, bytes, bye) {
         Ok(report) => seen_before(alloc, report, round),
-        Err(fault) => Err(Unseen::Refused(fault)),
+        Err(Fault::OutOfMemory) => Err(AllocError),
+        Err(fault) => Ok(Err(Unseen::Refused(fault))),
     }
 }
 
 /// The same of a report whose points fields are not compared.
 ///
 /// # Errors
-/// It is refused, or then does not reach the round; or memory was refused.
+/// Memory was refused.
 pub fn read_unsummed_before<'a>(
     alloc: Global,
     bytes: &'a [u8],
     bye: u16,
     round: Option<u8>,
-) -> Result<Report<'a>, Unseen>
+) -> Result<Seen<'a>, AllocError>
     requires { bye ≤ 2 }
-    ensures { Sees result (seen_before round (verdict_unsummed bytes.now bye)) }
+    ensures { IfOk result (λ seen. seen ≡ seen_before round (verdict_unsummed bytes.now bye)) }
 {
     match trf16::read_unsummed(alloc, bytes, bye) {
         Ok(report) => seen_before(alloc, report, round),
-        Err(fault) => Err(Unseen::Refused(fault)),
+        Err(Fault::OutOfMemory) => Err(AllocError),
+        Err(fault) => Ok(Err(Unseen::Refused(fault))),
     }
 }
 
@@ -62,16 +67,15 @@ fn seen_before<'a>(
     alloc: Global,
     report: Report<'a>,
     round: Option<u8>,
-) -> Result<Report<'a>, Unseen>
-    ensures { Sees result (seen_before round (Ok report.entry)) }
+) -> Result<Seen<'a>, AllocError>
+    ensures { IfOk result (λ seen. seen ≡ seen_before round (Ok report.entry)) }
 {
     let Some(round) = round else {
-        return Ok(report);
+        return Ok(Ok(report));
     };
-    match report.before_round(alloc, round) {
-        Ok(Some(view)) => Ok(view),
-        Ok(None) => Err(Unseen::NotReached(round)),
-        Err(AllocError) => Err(Unseen::Refused(Fault::OutOfMemory)),
+    match report.before_round(alloc, round)? {
+        Some(view) => Ok(Ok(view)),
+        None => Ok(Err(Unseen::NotReached(round))),
     }
 }
 
