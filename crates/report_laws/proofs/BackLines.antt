@@ -2,21 +2,23 @@
 --
 -- A line XXZ of a report that was read names start ranks alone, so it is ASCII: cut or not, the text stays what it is, UTF-8 or not, and so
 -- do the columns of all other lines. The lines are put together again as a text (`text_of`), which falls into them (`lines-text`).
-use Rattle.std.proofs.Common.{◌≡◌, ℕ, ◌+◌, Bool, true, false, ◌&&◌, ◌||◌, nat_lt, cond, List, [], ◌∷◌, ◌++◌, take, drop, map, refl, sym, ap, ◌∙◌, subst, inl, inr, Option, Some, None, Result, Ok, Err}
+use Rattle.std.proofs.Common.{◌≡◌, ℕ, ◌+◌, Bool, true, false, ◌&&◌, ◌||◌, nat_lt, cond, List, [], ◌∷◌, ◌++◌, take, drop, map, refl, sym, ap, ◌∙◌, subst, inl, inr, Option, Some, None, Result, Ok, Err, arith, ◌==◌}
 use Rattle.std.specs.Prelude.{codes, option_map, is_some}
 use Rattle.std.specs.List.{list_all}
 use Rattle.std.specs.Option.{ok_or, option_map_or}
-use Rattle.std.specs.Char.{is_ascii}
+use Rattle.std.specs.Char.{is_ascii, to_ascii_lowercase}
 use Rattle.std.specs.Str.{is_utf8}
 use Rattle.std.proofs.lemmas.Bool.{and_parts, and_from, cases_Bool, true≢false, false_from_ne_true}
+use Rattle.std.proofs.lemmas.Bool.Decides.{nat_tests}
 use Rattle.std.proofs.lemmas.List.{take-append-drop}
 use Rattle.std.proofs.lemmas.List.Folds.{list_all-append}
-use Rattle.trf16.specs.Prelude.{columns, joined, text, words_of, number_of, is_kind, is_word, rounds_in, colour_in, are_start_ranks, Entry, Sheet, with_player, lines, player_at, start_at, is_player, is_too_long, rounds_onto, colour_onto, start_ranks_onto, player_onto, line_onto, lines_onto, carried_line, has_too_many_rounds, line_back}
+use Rattle.trf16.specs.Prelude.{columns, joined, text, words_of, number_of, is_kind, rounds_in, colour_in, are_start_ranks, Entry, Sheet, with_player, lines, player_at, start_at, is_player, is_too_long, rounds_onto, colour_onto, start_ranks_onto, player_onto, line_onto, lines_onto, carried_line, has_too_many_rounds, line_back}
 use Rattle.trf16.specs.Outcomes.{◌>>=◌}
 use Rattle.trf16.specs.declared.cell.Colour.{Colour}
 use Rattle.trf16.specs.declared.fault.Fault.{Fault}
 use Rattle.trf16.specs.declared.fault.Fault.TheVariants.{BadExtension, Duplicate}
 use Rattle.trf16.proofs.AnsweringLemmas.{not_of_kind}
+use Rattle.trf16.proofs.BackLemmas.{lower_is, alone, no_other, IsOfOthers, test_back}
 use Rattle.trf16.proofs.ColumnLemmas.{joined-append, joined-columns}
 use Rattle.trf16.proofs.LineSteps.{line_keeps, line_adds}
 use Rattle.trf16.proofs.StepLemmas.{same_ok}
@@ -24,7 +26,6 @@ use Rattle.trf16.proofs.WrittenCells.{ascii-digits}
 use Rattle.trf16.proofs.WrittenReport.{first_onto, onto_from}
 use Rattle.trf16.proofs.WrittenRounds.{ascii-words, number_is}
 use Rattle.trf16.proofs.WrittenText.{is_inside, are_inside, are_utf8, has_mark, lines-line, line-no_mark, utf8_ascii}
-use Rattle.report_laws.proofs.BackLemmas.{bare_kind, other_kind, PassesBy, test-back}
 
 -- ---- a report that carries other lines
 
@@ -95,7 +96,37 @@ module _ (carried : List (Option (List ℕ))) (sheet : Sheet) (n : ℕ) (line : 
 
 -- ---- a line XXZ
 
-pub not_player : PassesBy is_player
+letter : (b : ℕ) → to_ascii_lowercase b ≡ 120 → (is_ascii b ≡ true) × (is_inside b ≡ true) × ((b == 239) ≡ false)
+letter b e = (grind (arith, nat_tests), grind (arith, nat_tests), grind (arith, nat_tests))
+
+last_letter : (b : ℕ) → to_ascii_lowercase b ≡ 122 → (is_ascii b ≡ true) × (is_inside b ≡ true)
+last_letter b e = (grind (arith, nat_tests), grind (arith, nat_tests))
+
+-- the letters of a kind are ASCII, end no line and begin no byte order mark
+record AreLetters (kind : List ℕ) : Type 0 where
+  ascii : list_all is_ascii kind ≡ true
+  inside : list_all is_inside kind ≡ true
+  unmarked : (rest : List ℕ) → has_mark (kind ++ rest) ≡ false
+
+letters : (kind : List ℕ) → map to_ascii_lowercase kind ≡ 120 ∷ 120 ∷ 122 ∷ [] → AreLetters kind
+letters [] e = absurd (cc)
+letters (a ∷ []) e = absurd (cc)
+letters (a ∷ b ∷ []) e = absurd (cc)
+letters (a ∷ b ∷ c ∷ d ∷ rest) e = absurd (cc)
+letters (a ∷ b ∷ c ∷ []) e =
+    let first = letter a (cc) in
+    let second = letter b (cc) in
+    let third = last_letter c (cc) in
+    record {
+      ascii = rw (first.0, second.0, third.0) refl;
+      inside = rw (first.1, second.1, third.1) refl;
+      unmarked = λ rest. rw first.2 refl;
+    }
+
+letters_of : (line : List (List ℕ)) → is_kind (codes "XXZ") line ≡ true → AreLetters (text line 1 3)
+letters_of line kind = letters (text line 1 3) (lower_is (text line 1 3) kind)
+
+pub not_player : IsOfOthers is_player
 not_player line e = false_from_ne_true (is_player line) (λ is. true≢false (sym e ∙ not_of_kind line (codes "XXZ") refl is))
 
 -- what is read of a line XXZ: start ranks, and nothing is added
@@ -107,7 +138,7 @@ absent_read : (sheet next : Sheet) (n : ℕ) (line : List (List ℕ)) → is_kin
 unfolding line_onto start_ranks_onto
 absent_read sheet next n line kind e =
     by (are_start_ranks (words_of line)) refl
-    (rw (not_player line kind, other_kind line (codes "XXR") refl kind, other_kind line (codes "XXC") refl kind, kind) at e)
+    (rw (not_player line kind, no_other (codes "XXR") line refl kind, no_other (codes "XXC") line refl kind, kind) at e)
   where
     by : (b : Bool) → are_start_ranks (words_of line) ≡ b → ◌≡◌ {A = Result Sheet Fault} (cond b (Ok sheet) (Err (BadExtension n))) (Ok next) → IsPassed sheet next line
     by true is e = record { same = same_ok sheet next e; named = is }
@@ -116,10 +147,7 @@ absent_read sheet next n line kind e =
 bare_read : (sheet : Sheet) (n : ℕ) (line : List (List ℕ)) → is_kind (codes "XXZ") line ≡ true → words_of line ≡ [] → line_onto sheet n line ≡ Ok sheet
 unfolding line_onto start_ranks_onto
 bare_read sheet n line kind none =
-    rw (not_player line kind, other_kind line (codes "XXR") refl kind, other_kind line (codes "XXC") refl kind, kind, none) refl
-
-pub bare_again : (utf8 : Bool) (line : List (List ℕ)) → is_kind (codes "XXZ") line ≡ true → is_kind (codes "XXZ") (columns utf8 (text line 1 3)) ≡ true
-bare_again utf8 line kind = ap (λ (word : List ℕ). is_word word (codes "XXZ")) (bare_kind utf8 line kind).kind ∙ kind
+    rw (not_player line kind, no_other (codes "XXR") line refl kind, no_other (codes "XXC") line refl kind, kind, none) refl
 
 ascii_ranks : (all : List (List ℕ)) → are_start_ranks all ≡ true → list_all (λ word. list_all is_ascii word) all ≡ true
 ascii_ranks [] are = refl
@@ -135,7 +163,7 @@ ascii_ranks (word ∷ rest) are =
 ascii_line : (utf8 : Bool) (line : List ℕ) → is_kind (codes "XXZ") (columns utf8 line) ≡ true → are_start_ranks (words_of (columns utf8 line)) ≡ true → list_all is_ascii line ≡ true
 ascii_line utf8 line kind named =
     let cols = columns utf8 line in
-    let front : list_all is_ascii (joined (take 3 cols)) ≡ true = (bare_kind utf8 cols kind).ascii in
+    let front : list_all is_ascii (joined (take 3 cols)) ≡ true = (letters_of cols kind).ascii in
     let back : list_all is_ascii (joined (drop 3 cols)) ≡ true = ascii-words (joined (drop 3 cols)) (ascii_ranks (words_of cols) named) in
     let parts : joined (take 3 cols) ++ joined (drop 3 cols) ≡ line =
     sym (joined-append (take 3 cols) (drop 3 cols)) ∙ ap joined (take-append-drop 3 cols) ∙ joined-columns utf8 line in
@@ -156,11 +184,11 @@ cut_line utf8 sheet next n line e = by (is_kind (codes "XXZ") (columns utf8 line
     by false is = record { read = rw is e; same = rw is refl }
     by true is =
         let cols = columns utf8 line in
-        let b = bare_kind utf8 cols is in
+        let b = alone utf8 cols is in
         let passed = absent_read sheet next n cols is e in
         record {
-          read = rw is (bare_read sheet n (columns utf8 (text cols 1 3)) (bare_again utf8 cols is) b.words ∙ ap (λ (s : Sheet). Ok s) passed.same);
-          same = rw is (utf8_ascii (text cols 1 3) b.ascii ∙ sym (utf8_ascii line (ascii_line utf8 line is passed.named)));
+          read = rw is (bare_read sheet n (columns utf8 (text cols 1 3)) b.kind b.words ∙ ap (λ (s : Sheet). Ok s) passed.same);
+          same = rw is (utf8_ascii (text cols 1 3) (letters_of cols is).ascii ∙ sym (utf8_ascii line (ascii_line utf8 line is passed.named)));
         }
 
 -- what a line leaves as it is
@@ -222,7 +250,7 @@ are_cut utf8 carried sheet final n (line ∷ rest) u e =
 
 carried-cut : (utf8 : Bool) (line : List ℕ) → carried_line utf8 (line_back utf8 line) ≡ option_map (line_back utf8) (carried_line utf8 line)
 carried-cut utf8 line =
-    ap (λ b. cond b None (Some (line_back utf8 line))) (test-back is_player utf8 line not_player) ∙ by (is_player (columns utf8 line))
+    ap (λ b. cond b None (Some (line_back utf8 line))) (test_back is_player not_player utf8 line) ∙ by (is_player (columns utf8 line))
   where
     by : (b : Bool) → ◌≡◌ {A = Option (List ℕ)} (cond b None (Some (line_back utf8 line))) (option_map (line_back utf8) (cond b None (Some line)))
     by true = refl
@@ -234,13 +262,13 @@ all_carried-cut utf8 (line ∷ rest) =
     ap (λ (o : Option (List ℕ)). o ∷ map (carried_line utf8) (map (line_back utf8) rest)) (carried-cut utf8 line)
     ∙ ap (λ (os : List (Option (List ℕ))). option_map (line_back utf8) (carried_line utf8 line) ∷ os) (all_carried-cut utf8 rest)
 
-not_long : PassesBy (λ line. is_player line && is_too_long line)
+not_long : IsOfOthers (λ line. is_player line && is_too_long line)
 not_long line e = rw (not_player line e) refl
 
 pub long-cut : (utf8 : Bool) (all : List (List ℕ)) → has_too_many_rounds utf8 (map (line_back utf8) all) ≡ has_too_many_rounds utf8 all
 long-cut utf8 [] = refl
 long-cut utf8 (line ∷ rest) =
-    ap (λ b. b || has_too_many_rounds utf8 (map (line_back utf8) rest)) (test-back (λ cols. is_player cols && is_too_long cols) utf8 line not_long)
+    ap (λ b. b || has_too_many_rounds utf8 (map (line_back utf8) rest)) (test_back (λ cols. is_player cols && is_too_long cols) not_long utf8 line)
     ∙ ap (λ b. (is_player (columns utf8 line) && is_too_long (columns utf8 line)) || b) (long-cut utf8 rest)
 
 -- ---- a text of these lines
@@ -262,7 +290,7 @@ inside-cut utf8 line inside = by (is_kind (codes "XXZ") (columns utf8 line)) ref
   where
     by : (b : Bool) → is_kind (codes "XXZ") (columns utf8 line) ≡ b → list_all is_inside (cond b (text (columns utf8 line) 1 3) line) ≡ true
     by false is = inside
-    by true is = (bare_kind utf8 (columns utf8 line) is).inside
+    by true is = (letters_of (columns utf8 line) is).inside
 
 pub all_inside-cut : (utf8 : Bool) (all : List (List ℕ)) → are_inside all ≡ true → are_inside (map (line_back utf8) all) ≡ true
 all_inside-cut utf8 [] inside = refl
@@ -278,4 +306,4 @@ mark-cut utf8 bytes (line ∷ rest) e none = by (is_kind (codes "XXZ") (columns 
   where
     by : (b : Bool) → is_kind (codes "XXZ") (columns utf8 line) ≡ b → has_mark (cond b (text (columns utf8 line) 1 3) line ++ (10 ∷ text_of (map (line_back utf8) rest))) ≡ false
     by false is = line-no_mark bytes line rest (text_of (map (line_back utf8) rest)) e none
-    by true is = (bare_kind utf8 (columns utf8 line) is).unmarked (10 ∷ text_of (map (line_back utf8) rest))
+    by true is = (letters_of (columns utf8 line) is).unmarked (10 ∷ text_of (map (line_back utf8) rest))

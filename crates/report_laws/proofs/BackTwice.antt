@@ -1,16 +1,16 @@
 -- A report that is taken back, and then further, is what it is when it is taken back so far at once.
 use Rattle.std.proofs.Common.{◌≡◌, ◌⊎◌, inl, inr, ℕ, zero, suc, ◌+◌, ◌-◌, ◌<◌, ◌≤◌, Bool, true, false, ◌&&◌, ◌==◌, nat_eq, nat_lt, cond, List, [], ◌∷◌, get_or, take, map, refl, sym, ap, ◌∙◌, arith, subst, Option, Some, None}
-use Rattle.std.specs.Prelude.{codes, option_map, sum_by}
+use Rattle.std.specs.Prelude.{option_map, sum_by}
 use Rattle.std.specs.List.{list_all}
 use Rattle.std.proofs.lemmas.Bool.{eqb-true, eqb-false, eq-eqb, ne_eqb, lt-ltb}
-use Rattle.trf16.specs.Prelude.{columns, text, without_last, is_kind, Entry, Sheet, cell_at, half_points, rounds_played, is_blank_cell, with_cell, cell_back, cells_back, entry_back, line_back, taken_back, before_round}
+use Rattle.trf16.specs.Prelude.{without_last, Entry, Sheet, cell_at, half_points, rounds_played, is_blank_cell, with_cell, cell_back, cells_back, entry_back, line_back, taken_back, before_round}
 use Rattle.trf16.specs.declared.cell.Cell.{Cell}
 use Rattle.trf16.specs.declared.cell.Cell.TheVariants.{Blank}
+use Rattle.trf16.proofs.BackLemmas.{line_back-twice}
 use Rattle.trf16.proofs.PairedRound.{with_cell-here, with_cell-there}
 use Rattle.report_laws.proofs.CellLemmas.{AreAlike, all-alike, look_alike, taken-alike, rest_alike}
 use Rattle.report_laws.proofs.FieldLemmas.{points-alike}
-use Rattle.report_laws.proofs.BackLemmas.{back-there, start-back, bare_kind}
-use Rattle.report_laws.proofs.BackLines.{bare_again}
+use Rattle.report_laws.proofs.CellsBack.{back-there, start-back}
 use Rattle.report_laws.proofs.ViewCases.{IsAsItIs, IsTakenBack, which}
 
 -- ---- cells
@@ -67,18 +67,11 @@ entries-twice bye n m (entry ∷ rest) lt =
     ap (λ (e : Entry). e ∷ map (entry_back bye n) (map (entry_back bye m) rest)) (entry-twice bye n m entry lt)
     ∙ ap (λ (es : List Entry). entry_back bye n entry ∷ es) (entries-twice bye n m rest lt)
 
-line-twice : (utf8 : Bool) (line : List ℕ) → line_back utf8 (line_back utf8 line) ≡ line_back utf8 line
-line-twice utf8 line = by (is_kind (codes "XXZ") (columns utf8 line)) refl
-  where
-    by : (b : Bool) → is_kind (codes "XXZ") (columns utf8 line) ≡ b → line_back utf8 (cond b (text (columns utf8 line) 1 3) line) ≡ cond b (text (columns utf8 line) 1 3) line
-    by false is = rw is refl
-    by true is = rw (bare_again utf8 (columns utf8 line) is) (bare_kind utf8 (columns utf8 line) is).kind
-
 lines-twice : (utf8 : Bool) (lines : List (Option (List ℕ))) → map (option_map (line_back utf8)) (map (option_map (line_back utf8)) lines) ≡ map (option_map (line_back utf8)) lines
 lines-twice utf8 [] = refl
 lines-twice utf8 (None ∷ rest) = ap (λ (ls : List (Option (List ℕ))). None ∷ ls) (lines-twice utf8 rest)
 lines-twice utf8 (Some line ∷ rest) =
-    ap (λ (l : List ℕ). Some l ∷ map (option_map (line_back utf8)) (map (option_map (line_back utf8)) rest)) (line-twice utf8 line)
+    ap (λ (l : List ℕ). Some l ∷ map (option_map (line_back utf8)) (map (option_map (line_back utf8)) rest)) (line_back-twice utf8 line)
     ∙ ap (λ (ls : List (Option (List ℕ))). Some (line_back utf8 line) ∷ ls) (lines-twice utf8 rest)
 
 -- ---- reports

@@ -1,8 +1,9 @@
 pub mod CellLemmas
+pub mod CellsBack
 pub mod FieldLemmas
-pub mod BackLemmas
 pub mod PairedView
 pub mod ViewCases
 pub mod BackLines
 pub mod WrittenView
 pub mod BackTwice
+pub mod AskedBack

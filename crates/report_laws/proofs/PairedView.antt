@@ -9,21 +9,22 @@ use Rattle.std.specs.Option.{option_map_or}
 use Rattle.std.proofs.lemmas.Bool.{eqb-true, eq-eqb, ne_eqb, lt-ltb, or_left, or_right, false_from_ne_true, true≢false}
 use Rattle.std.proofs.lemmas.List.Elements.{recursion_from_All}
 use Rattle.std.proofs.lemmas.Simd.{map-map}
-use Rattle.trf16.specs.Prelude.{Entry, Sheet, known, cells_of, half_points, is_paired, last_paired, last_paired_of, rounds_played, unfinished, unfinished_of, absent, apart, is_absence, is_named_absent, is_of, names_both, starts_of, HasOwnStarts, CanBePaired, named_by, cell_by, with_cell, cells_with, entry_with, with_round, cell_back, cells_back, entry_back, taken_back, before_round}
+use Rattle.trf16.specs.Prelude.{Entry, Sheet, known, cells_of, half_points, is_paired, last_paired, last_paired_of, rounds_played, unfinished, unfinished_of, absent, is_absence, names_both, starts_of, HasOwnStarts, CanBePaired, named_by, cell_by, with_cell, cells_with, entry_with, with_round, cell_back, cells_back, entry_back, taken_back, before_round}
 use Rattle.trf16.specs.declared.cell.Colour.TheVariants.{White, Black}
 use Rattle.trf16.specs.declared.cell.Bye.TheVariants.{Half, Full, Allocated, Zero}
 use Rattle.trf16.specs.declared.cell.Cell.{Cell}
 use Rattle.trf16.specs.declared.cell.Cell.TheVariants.{Blank, Bye, Game, Forfeit, Unfinished}
 use Rattle.trf16.specs.declared.kind.LineKind.TheVariants.{Xxa, Xxs, Rank}
+use Rattle.trf16.proofs.BackLemmas.{HasLinesBack, some_back, nobody_absent, first_of-back, others_both}
 use Rattle.trf16.proofs.BoardLemmas.{eq-self, eq-sym, all_in}
 use Rattle.trf16.proofs.PairedRound.{given, with_cell-here, named_head, named_black, named_tail, cells-there, played_again}
 use Rattle.trf16.proofs.RoundLemmas.{starts-with}
-use Rattle.dutch_player.specs.Prelude.{seats_of, unsupported}
+use Rattle.dutch_player.specs.Prelude.{seats_of}
 use Rattle.report_laws.specs.Boards.{NameAllPresent}
 use Rattle.report_laws.specs.Fields.{GivesFieldOf}
 use Rattle.report_laws.proofs.CellLemmas.{LookAlike, StartAlike, EndsUnpaired, ends_unpaired, paired-alike, unfinished-alike}
 use Rattle.report_laws.proofs.FieldLemmas.{SaysAlike, TellsAlike, OpenAlike, facts-alike, seats-alike, played-alike, open-alike, cells-alike, points-alike, apart-alike}
-use Rattle.report_laws.proofs.BackLemmas.{ends-back, back-here, back-there, some-back, first-back, not_both, not_unsupported, nobody-back}
+use Rattle.report_laws.proofs.CellsBack.{ends-back, back-here, back-there}
 
 -- ---- whom boards name
 
@@ -181,9 +182,7 @@ record IsView (report : Sheet) (boards : List (ℕ × ℕ)) (view : Sheet) : Typ
   total : view.total ≡ report.total
   initial : view.initial ≡ report.initial
   players : view.players ≡ map (turn_of report.bye boards (rounds_played report)) report.players
-  apart : (a b : ℕ) → apart view a b ≡ apart report a b
-  unsupported : unsupported view ≡ unsupported report
-  nobody : (start : ℕ) → is_named_absent view start ≡ false
+  lines : HasLinesBack report view
 
 players_are : (bye : ℕ) (boards : List (ℕ × ℕ)) (n : ℕ) (entries : List Entry) → map (entry_back bye n) (map (entry_with bye boards n) entries) ≡ map (turn_of bye boards n) entries
 unfolding turn_of
@@ -195,9 +194,7 @@ is_view report boards = record {
   total = refl;
   initial = refl;
   players = players_are report.bye boards (rounds_played report) report.players;
-  apart = λ a b. ap (λ t. not (a == b) && t) (some-back (names_both a b) report.utf8 report.carried (not_both a b));
-  unsupported = first-back (λ line. list_any (is_of line) (Xxa ∷ Xxs ∷ Rank ∷ [])) report.utf8 1 report.carried not_unsupported;
-  nobody = λ start. nobody-back start report.utf8 report.carried;
+  lines = record { columns = refl; lines = refl };
 }
 
 -- what is known of a report and of the boards of its next round
@@ -255,7 +252,7 @@ absent-again report boards view start v g is =
     ∙ tells_absence boards n f.entry f.holds.player f.holds.last
     ∙ ap (λ s. not (list_any (nat_eq s) (named_by boards))) f.is in
     let was : absent report start ≡ not named = opposite (absent report start) named (g.all start is) (λ on. all_in (λ s. absent report s ≡ false) (named_by boards) start g.present on) in
-    ap (λ b. b || is_absence (get_or (cells_of view.players start) (rounds_played view + 1 - 1) Blank)) (v.nobody start) ∙ cell ∙ sym was
+    ap (λ b. b || is_absence (get_or (cells_of view.players start) (rounds_played view + 1 - 1) Blank)) (nobody_absent start report view v.lines) ∙ cell ∙ sym was
 
 says-again : (report : Sheet) (boards : List (ℕ × ℕ)) (view : Sheet) → IsView report boards view → IsGood boards report → SaysAlike report view
 says-again report boards view v g =
@@ -271,7 +268,7 @@ says-again report boards view v g =
           (cells-alike n turn report.players start (start-turned report.bye boards n)
           (all_of (IsUpTo n) (λ (entry : Entry). StartAlike n (turn entry).cells entry.cells) report.players (λ entry up. rounds-turned report.bye boards n entry) g.players))
           le;
-      apart = apart-alike report view v.apart (ap starts_of v.players ∙ starts-with turn (start-turned report.bye boards n) report.players);
+      apart = apart-alike report view (λ a b. ap (λ t. not (a == b) && t) (some_back (names_both a b) (others_both a b) report view v.lines)) (ap starts_of v.players ∙ starts-with turn (start-turned report.bye boards n) report.players);
     }
 
 seats-again : (report : Sheet) (boards : List (ℕ × ℕ)) (view : Sheet) → IsView report boards view → IsGood boards report → seats_of view view.players ≡ seats_of report report.players
@@ -305,7 +302,7 @@ tells-again report boards view v g = record {
   initial = v.initial;
   played = rounds-again report boards view v g;
   unfinished = open-again report boards view v g;
-  unsupported = v.unsupported;
+  unsupported = first_of-back (Xxa ∷ Xxs ∷ Rank ∷ []) report view v.lines;
   seats = seats-again report boards view v g;
 }
 

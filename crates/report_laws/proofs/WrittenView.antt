@@ -27,7 +27,7 @@ use Rattle.trf16.proofs.WrittenReport.{IsLaidOut, IsLaidOutOf, Turns, known-turn
 use Rattle.trf16.proofs.WrittenText.{are_utf8, no_mark, without_marks-no_mark, lines-inside, utf8_lines}
 use Rattle.report_laws.proofs.CellLemmas.{StartAlike}
 use Rattle.report_laws.proofs.FieldLemmas.{cells-alike, points-alike}
-use Rattle.report_laws.proofs.BackLemmas.{back-there, start-back, ends-back}
+use Rattle.report_laws.proofs.CellsBack.{back-there, start-back, ends-back}
 use Rattle.report_laws.proofs.BackLines.{carrying, are_cut, all_carried-cut, long-cut, text_of, lines-text, all_inside-cut, mark-cut}
 use Rattle.report_laws.proofs.ViewCases.{IsAsItIs, IsTakenBack, which}
 

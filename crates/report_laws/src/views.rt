@@ -1,10 +1,12 @@
 // Laws of a report as it stood before a round.
-ghost use Rattle.std.specs.Prelude.{◌≡◌, ◌+◌, ◌<◌, ◌≤◌, ℕ, List, Ok, Some, length};
+ghost use Rattle.std.specs.Prelude.{◌≡◌, ◌+◌, ◌<◌, ◌≤◌, ℕ, IfSome, IsPermutation, List, Ok, Option, Some, length};
+ghost use Rattle.dutch_player.specs.Prelude.{Facts, facts_of, start_ranks};
 ghost use Rattle.report_laws.specs.Boards.{NameAllPresent};
-ghost use Rattle.report_laws.specs.Fields.{GivesFieldOf};
-ghost use Rattle.trf16.specs.Prelude.{CanBePaired, HasOwnStarts, Sheet, before_round, rounds_played, verdict};
+ghost use Rattle.report_laws.specs.Fields.{GivesFacts, GivesFieldOf};
+ghost use Rattle.trf16.specs.Prelude.{CanBePaired, HasOwnStarts, Sheet, before_round, named_by, rounds_played, verdict};
 ghost use Rattle.trf16.specs.Prelude.{with_round, written};
-ghost use Rattle.trf16.specs.declared.limits.TheConstants.{MOST_BYTES};
+ghost use Rattle.trf16.specs.declared.cell.Colour.{Colour};
+ghost use Rattle.trf16.specs.declared.limits.TheConstants.{MOST_BYTES, MOST_ROUNDS};
 
 /// If boards that name each present player, and nobody else, are put into a report as its next round, then the report
 /// that comes of it has a view before that round, and the next round of the view is paired from what that of the first
@@ -15,6 +17,20 @@ pub fn a_paired_round_has_its_field_back()
     ensures { (report : Sheet) (boards : List (ℕ × ℕ)) → HasOwnStarts report → CanBePaired boards report
         → NameAllPresent boards report → 0 < length boards
         → GivesFieldOf (before_round (with_round boards report) (rounds_played report + 1)) report }
+{}
+
+/// If boards that name each player of some facts, once, and nobody else, are put into the accepted report that these are
+/// the facts of, then the report that comes of it has a view before that round, and the next round of the view is paired
+/// from the very same facts, if the same total of rounds and the same initial colour are asked for, or none. The boards
+/// of a round are such boards (`everybody_is_named_once` of `dutch_pair`). A total that is asked for is at most
+/// `MOST_ROUNDS`.
+pub fn the_round_is_asked_back()
+    ensures { (bytes : List ℕ) (bye : ℕ) (sheet : Sheet) (asked : Option ℕ) (initial : Option Colour) (facts : Facts)
+        (boards : List (ℕ × ℕ))
+        → verdict bytes bye ≡ Ok sheet → IfSome asked (λ total. total ≤ MOST_ROUNDS)
+        → facts_of sheet asked initial ≡ Ok facts → IsPermutation (start_ranks facts) (named_by boards)
+        → 0 < length boards
+        → GivesFacts (before_round (with_round boards sheet) (rounds_played sheet + 1)) asked initial facts }
 {}
 
 /// The next round of a report as it stood before a round is that round.

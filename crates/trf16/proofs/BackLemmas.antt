@@ -20,7 +20,7 @@ use Rattle.trf16.proofs.WrittenColumns.{each, columns-ascii}
 -- ---- one line
 
 -- a line that is a kind and no more: its columns are three, and spell the kind
-record IsKindAlone (utf8 : Bool) (line : List ℕ) : Type 0 where
+pub record IsKindAlone (utf8 : Bool) (line : List ℕ) : Type 0 where
   pub kind : is_kind (codes "XXZ") (columns utf8 line) ≡ true
   pub again : text (columns utf8 line) 1 3 ≡ line
   pub words : words_of (columns utf8 line) ≡ []
@@ -31,7 +31,7 @@ letter b e = grind (arith, nat_tests)
 last_letter : (b : ℕ) → (to_ascii_lowercase b ≡ 122) → is_ascii b ≡ true
 last_letter b e = grind (arith, nat_tests)
 
-lower_is : (kind : List ℕ) → is_word kind (codes "XXZ") ≡ true → map to_ascii_lowercase kind ≡ 120 ∷ 120 ∷ 122 ∷ []
+pub lower_is : (kind : List ℕ) → is_word kind (codes "XXZ") ≡ true → map to_ascii_lowercase kind ≡ 120 ∷ 120 ∷ 122 ∷ []
 lower_is kind is = (bytes_eq-Decides (map to_ascii_lowercase kind) (map to_ascii_lowercase (codes "XXZ"))).0 is
 
 three : (utf8 : Bool) (kind : List ℕ) → is_word kind (codes "XXZ") ≡ true → map to_ascii_lowercase kind ≡ 120 ∷ 120 ∷ 122 ∷ [] → IsKindAlone utf8 kind
@@ -51,15 +51,15 @@ three utf8 (a ∷ b ∷ c ∷ []) is e =
     }
 three utf8 (a ∷ b ∷ c ∷ d ∷ rest) is e = absurd (cc)
 
-alone : (utf8 : Bool) (line : List (List ℕ)) → is_kind (codes "XXZ") line ≡ true → IsKindAlone utf8 (text line 1 3)
+pub alone : (utf8 : Bool) (line : List (List ℕ)) → is_kind (codes "XXZ") line ≡ true → IsKindAlone utf8 (text line 1 3)
 alone utf8 line is = three utf8 (text line 1 3) is (lower_is (text line 1 3) is)
 
 -- a line XXZ is of no other kind
-no_other : (capitals : List ℕ) (line : List (List ℕ)) → is_word (codes "XXZ") capitals ≡ false → is_kind (codes "XXZ") line ≡ true → is_kind capitals line ≡ false
+pub no_other : (capitals : List ℕ) (line : List (List ℕ)) → is_word (codes "XXZ") capitals ≡ false → is_kind (codes "XXZ") line ≡ true → is_kind capitals line ≡ false
 no_other capitals line differs is = ap (λ (kind : List ℕ). bytes_eq kind (map to_ascii_lowercase capitals)) (lower_is (text line 1 3) is) ∙ differs
 
 -- a test that no line XXZ passes
-abbrev IsOfOthers : (List (List ℕ) → Bool) → Type 0
+abbrev pub IsOfOthers : (List (List ℕ) → Bool) → Type 0
 IsOfOthers test = (line : List (List ℕ)) → is_kind (codes "XXZ") line ≡ true → test line ≡ false
 
 pub others_together : IsOfOthers (is_kind (codes "XXP"))
@@ -90,7 +90,7 @@ nobody_back start utf8 line = by (is_kind (codes "XXZ") (columns utf8 line)) ref
     by true is = let left = alone utf8 (columns utf8 line) is in rw (left.kind, left.words) refl
     by false is = rw is refl
 
-line_back-twice : (utf8 : Bool) (line : List ℕ) → line_back utf8 (line_back utf8 line) ≡ line_back utf8 line
+pub line_back-twice : (utf8 : Bool) (line : List ℕ) → line_back utf8 (line_back utf8 line) ≡ line_back utf8 line
 line_back-twice utf8 line = by (is_kind (codes "XXZ") (columns utf8 line)) refl
   where
     by : (is : Bool) → is_kind (codes "XXZ") (columns utf8 line) ≡ is
