@@ -4,19 +4,20 @@ _arbiter() {
     COMPREPLY=()
     case $before in
         '<' | '>' | '>>') compopt -o default; return ;;
-        --rounds | --steps | --bracket | --from | --count | --player | --instead) return ;;
+        --round | --rounds | --steps | --bracket | --from | --count | --player | --instead) return ;;
         --initial) words="white black" ;;
         --bye) words="0 1 2" ;;
         --by) words="direct buchholz sb" front=${word%"${word##*,}"} ;;
         *)
             case ${COMP_CWORD},${COMP_WORDS[1]} in
-                1,*) words="check format pair candidates explain standings --help --version" ;;
+                1,*) words="check format pair boards candidates explain standings --help --version" ;;
                 *,check) words="--notes --bye --help" ;;
-                *,format) words="--points --bye --help" ;;
-                *,pair) words="--rounds --initial --steps --report --names --bye --help" ;;
-                *,candidates) words="--bracket --from --count --rounds --initial --steps --bye --help" ;;
-                *,explain) words="--player --instead --rounds --initial --steps --bye --help" ;;
-                *,standings) words="--by --names --bye --help" ;;
+                *,format) words="--round --points --bye --help" ;;
+                *,pair) words="--round --rounds --initial --steps --report --names --bye --help" ;;
+                *,boards) words="--round --names --bye --help" ;;
+                *,candidates) words="--bracket --from --count --round --rounds --initial --steps --bye --help" ;;
+                *,explain) words="--player --instead --round --rounds --initial --steps --bye --help" ;;
+                *,standings) words="--round --by --names --games --bye --help" ;;
             esac
             ;;
     esac
