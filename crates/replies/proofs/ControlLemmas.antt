@@ -1,5 +1,5 @@
 -- What is shown of a text holds no control character.
-use Rattle.std.proofs.Common.{◌≡◌, ◌∙◌, ◌<◌, ◌&&◌, ◌||◌, ◌==◌, cond, refl, sym, ap, arith, append-nil, append_assoc, ℕ, Bool, true, false, List, [], ◌∷◌, ◌++◌, length, drop, get_or}
+use Rattle.std.proofs.Common.{◌≡◌, ◌∙◌, ◌<◌, ◌||◌, ◌==◌, refl, sym, ap, arith, append-nil, append_assoc, ℕ, false, List, [], ◌∷◌, ◌++◌, length, drop, get_or}
 use Rattle.std.proofs.lemmas.Bool.{and_right, cond_both, or_from}
 use Rattle.std.specs.Prelude.{⊤}
 use Rattle.replies.specs.Prelude.{holds_control, is_control, is_long_control, shown_byte, without_controls}

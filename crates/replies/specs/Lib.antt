@@ -12,6 +12,7 @@ pub mod RefusalNoteTexts
 pub mod ReportAnswers
 pub mod StandingsTexts
 pub mod Tables
+pub mod GameTexts
 pub mod WallTexts
 pub mod StandingsAnswers
 pub mod Prelude

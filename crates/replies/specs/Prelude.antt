@@ -16,7 +16,8 @@ pub use Rattle.replies.specs.ReportAnswers.{check_answer, format_answer, format_
 pub use Rattle.replies.specs.StandingsTexts.{quarter_text, quarters_text, rows_text, value_text, values_text}
 unfoldable pub use Rattle.replies.specs.StandingsTexts.{row_text}
 pub use Rattle.replies.specs.Tables.{LabelFacts, gap, labels_text, left, padded, padded_by, right, table_text, widest, width, width_in, widths}
-pub use Rattle.replies.specs.WallTexts.{boards_labels, named_boards_text, named_rows_text, opponent_labels, paired_labels, rows_labels, shown, values_labels}
+pub use Rattle.replies.specs.GameTexts.{game_text, games_labels, games_text}
+pub use Rattle.replies.specs.WallTexts.{boards_labels, marks_labels, named_boards_text, named_rows_text, opponent_labels, paired_labels, played_boards_text, played_labels, result_labels, result_mark, rows_labels, shown, values_labels}
 unfoldable pub use Rattle.replies.specs.WallTexts.{board_labels, player_labels, row_labels}
-pub use Rattle.replies.specs.StandingsAnswers.{lines_text, standings_answer, table_answer}
+pub use Rattle.replies.specs.StandingsAnswers.{lines_text, rounds_shown, standings_answer, table_answer}
 pub use Rattle.replies.specs.Views.{seen_before, unseen_answer}

@@ -4,6 +4,8 @@ use Rattle.std.specs.Fmt.{decimal}
 use Rattle.tiebreak.specs.Prelude.{RowFacts}
 use Rattle.tiebreak.specs.declared.key.Key.{Key}
 use Rattle.tiebreak.specs.declared.key.Key.TheVariants.{Direct, Buchholz, SonnebornBerger}
+use Rattle.trf16.specs.Prelude.{Sheet}
+use Rattle.replies.specs.GameTexts.{games_text}
 use Rattle.replies.specs.Texts.{halves_text}
 
 -- the decimals of quarters of a point
@@ -27,12 +29,12 @@ values_text [] values = []
 values_text (key ∷ keys) [] = []
 values_text (key ∷ keys) (value ∷ values) = codes " " ++ (value_text key value ++ values_text keys values)
 
--- the line of a player: place, start rank, score, and the values of the keys
+-- a player: place, start rank, score, and the values of the keys
 unfoldable pub row_text : List Key → ℕ → RowFacts → List ℕ
-row_text keys place row =
-    decimal place ++ (codes " " ++ (decimal row.start ++ (codes " " ++ (halves_text row.score ++ (values_text keys row.values ++ codes "\n")))))
+row_text keys place row = decimal place ++ (codes " " ++ (decimal row.start ++ (codes " " ++ (halves_text row.score ++ values_text keys row.values))))
 
--- the lines of players from a place on
-abbrev pub rows_text : List Key → ℕ → List RowFacts → List ℕ
-rows_text keys place [] = []
-rows_text keys place (row ∷ rows) = row_text keys place row ++ rows_text keys (place + 1) rows
+-- the lines of players from a place on, each with the player's games of so many rounds
+abbrev pub rows_text : Sheet → List Key → ℕ → ℕ → List RowFacts → List ℕ
+rows_text sheet keys rounds place [] = []
+rows_text sheet keys rounds place (row ∷ rows) =
+    row_text keys place row ++ (games_text sheet row.start rounds ++ (codes "\n" ++ rows_text sheet keys rounds (place + 1) rows))

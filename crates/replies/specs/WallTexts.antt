@@ -1,10 +1,13 @@
 -- The boards and the standings for the wall: with names, in columns.
-use Rattle.std.specs.Prelude.{ℕ, ◌+◌, ◌==◌, if◌then◌else◌, List, [], ◌∷◌, ◌++◌, length, Option, codes}
+use Rattle.std.specs.Prelude.{ℕ, ◌+◌, ◌-◌, true, ◌==◌, if◌then◌else◌, List, [], ◌∷◌, ◌++◌, length, Option, codes}
 use Rattle.std.specs.Fmt.{decimal}
 use Rattle.tiebreak.specs.Prelude.{RowFacts}
 use Rattle.tiebreak.specs.declared.key.Key.{Key}
-use Rattle.trf16.specs.Prelude.{name_in, Sheet, points_upto, rounds_played}
+use Rattle.trf16.specs.declared.cell.Cell.{Cell}
+use Rattle.trf16.specs.declared.cell.Cell.TheVariants.{Game, Forfeit}
+use Rattle.trf16.specs.Prelude.{cell_in, name_in, outcome_letter, Sheet, points_upto, rounds_played}
 use Rattle.replies.specs.Controls.{without_controls}
+use Rattle.replies.specs.GameTexts.{games_labels}
 use Rattle.replies.specs.StandingsTexts.{value_text}
 use Rattle.replies.specs.Tables.{LabelFacts, left, right, table_text}
 use Rattle.replies.specs.Texts.{halves_text}
@@ -20,26 +23,55 @@ player_labels sheet start score = right (decimal start) ∷ left (shown (name_in
 
 -- ---- boards
 
--- a player of the next round, with the score so far
-abbrev pub paired_labels : Sheet → ℕ → List LabelFacts
-paired_labels sheet start = player_labels sheet start (points_upto sheet start (rounds_played sheet))
+-- a player of a round, with the score of the rounds before it, so many of them
+abbrev pub paired_labels : Sheet → ℕ → ℕ → List LabelFacts
+paired_labels sheet before start = player_labels sheet start (points_upto sheet start before)
 
 -- who meets white: black, or where black is 0 nobody, since white has the bye
-abbrev pub opponent_labels : Sheet → ℕ → List LabelFacts
-opponent_labels sheet black = if black == 0 then right (codes "bye") ∷ [] else paired_labels sheet black
+abbrev pub opponent_labels : Sheet → ℕ → ℕ → List LabelFacts
+opponent_labels sheet before black = if black == 0 then right (codes "bye") ∷ [] else paired_labels sheet before black
 
--- a board: its number, white and black
+-- a board behind its number: white and black
 unfoldable pub board_labels : Sheet → ℕ → ℕ × ℕ → List LabelFacts
-board_labels sheet number board = right (decimal number) ∷ [] ++ paired_labels sheet board.0 ++ opponent_labels sheet board.1
+board_labels sheet before board = paired_labels sheet before board.0 ++ opponent_labels sheet before board.1
 
--- boards from a number on
+-- boards of the next round from a number on
 abbrev pub boards_labels : Sheet → ℕ → List (ℕ × ℕ) → List (List LabelFacts)
 boards_labels sheet number [] = []
-boards_labels sheet number (board ∷ rest) = board_labels sheet number board ∷ boards_labels sheet (number + 1) rest
+boards_labels sheet number (board ∷ rest) =
+    (right (decimal number) ∷ board_labels sheet (rounds_played sheet) board) ∷ boards_labels sheet (number + 1) rest
 
--- the boards, which have seven columns
+-- the boards of the next round, which have seven columns
 abbrev pub named_boards_text : Sheet → List (ℕ × ℕ) → List ℕ
 named_boards_text sheet boards = table_text sheet.utf8 7 (boards_labels sheet 1 boards)
+
+-- ---- boards of a round that was paired
+
+-- what a cell says of the result: 1, = or 0 of a game, rated or not, + or - of a forfeit, and nothing where there is no result
+abbrev pub result_mark : Cell → List ℕ
+result_mark (Game opponent colour rated got) = outcome_letter true got ∷ []
+result_mark (Forfeit opponent colour won) = if won then codes "+" else codes "-"
+result_mark other = []
+
+-- the result of a board by the marks of white and of black; nothing where one of them has none
+abbrev pub marks_labels : List ℕ → List ℕ → List LabelFacts
+marks_labels [] black = []
+marks_labels (white ∷ whites) [] = []
+marks_labels (white ∷ whites) (black ∷ blacks) = right (white ∷ whites ++ (codes "-" ++ (black ∷ blacks))) ∷ []
+
+-- the result of a board in a round
+abbrev pub result_labels : Sheet → ℕ → ℕ × ℕ → List LabelFacts
+result_labels sheet round board = marks_labels (result_mark (cell_in sheet board.0 round)) (result_mark (cell_in sheet board.1 round))
+
+-- boards of a round from a number on, with the scores before the round, and the results
+abbrev pub played_labels : Sheet → ℕ → ℕ → List (ℕ × ℕ) → List (List LabelFacts)
+played_labels sheet round number [] = []
+played_labels sheet round number (board ∷ rest) =
+    (right (decimal number) ∷ board_labels sheet (round - 1) board ++ result_labels sheet round board) ∷ played_labels sheet round (number + 1) rest
+
+-- the boards of a round that was paired, which have eight columns
+abbrev pub played_boards_text : Sheet → ℕ → List (ℕ × ℕ) → List ℕ
+played_boards_text sheet round boards = table_text sheet.utf8 8 (played_labels sheet round 1 boards)
 
 -- ---- standings
 
@@ -53,11 +85,12 @@ values_labels (key ∷ keys) (value ∷ values) = right (value_text key value) �
 unfoldable pub row_labels : Sheet → List Key → RowFacts → List LabelFacts
 row_labels sheet keys row = player_labels sheet row.start row.score ++ values_labels keys row.values
 
--- rows from a place on
-abbrev pub rows_labels : Sheet → List Key → ℕ → List RowFacts → List (List LabelFacts)
-rows_labels sheet keys place [] = []
-rows_labels sheet keys place (row ∷ rest) = (right (decimal place) ∷ row_labels sheet keys row) ∷ rows_labels sheet keys (place + 1) rest
+-- rows from a place on, each with the player's games of so many rounds
+abbrev pub rows_labels : Sheet → List Key → ℕ → ℕ → List RowFacts → List (List LabelFacts)
+rows_labels sheet keys rounds place [] = []
+rows_labels sheet keys rounds place (row ∷ rest) =
+    (right (decimal place) ∷ row_labels sheet keys row ++ games_labels sheet row.start rounds) ∷ rows_labels sheet keys rounds (place + 1) rest
 
--- the standings, which have four columns and one for each key
-abbrev pub named_rows_text : Sheet → List Key → List RowFacts → List ℕ
-named_rows_text sheet keys rows = table_text sheet.utf8 (4 + length keys) (rows_labels sheet keys 1 rows)
+-- the standings, which have four columns, one for each key and one for each round that is shown
+abbrev pub named_rows_text : Sheet → List Key → ℕ → List RowFacts → List ℕ
+named_rows_text sheet keys rounds rows = table_text sheet.utf8 (4 + length keys + rounds) (rows_labels sheet keys rounds 1 rows)

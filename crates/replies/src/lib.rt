@@ -12,6 +12,7 @@
 pub mod check;
 mod controls;
 pub mod format;
+mod games;
 mod input;
 mod notes;
 pub mod points;

@@ -2,10 +2,11 @@
 ghost use Rattle.std.specs.Prelude.{◌≡◌, ◌++◌, ◌≤◌, ◌<◌, IfOk, Ok, OnOk, length, string_bytes};
 ghost use Rattle.trf16.specs.Prelude.{verdict};
 ghost use Rattle.replies.specs.Replies.{answer_of};
-ghost use Rattle.replies.specs.StandingsAnswers.{standings_answer, table_answer};
+ghost use Rattle.replies.specs.StandingsAnswers.{rounds_shown, standings_answer, table_answer};
 ghost use Rattle.replies.specs.StandingsTexts.{row_text, rows_text, value_text, values_text};
 ghost use Rattle.replies.specs.Views.{seen_before};
 
+use crate::games::{put_games, rounds_shown};
 use crate::points::{HalfPoints, KeyValue};
 use crate::refusal::has_no_standings;
 use crate::reply::{Reply, Status};
@@ -57,33 +58,40 @@ fn of_rows(
 ) -> Result<Reply, AllocError>
     ensures { IfOk result (λ reply. answer_of reply ≡ table_answer options.now report.now (Ok rows.now)) }
 {
-    let keys = options.keys.as_slice();
     if options.names {
-        return wall::standings(alloc, report, keys, rows);
+        return wall::standings(alloc, options, report, rows);
     }
-    Ok(Reply::made(Status::Done, row_lines(alloc, keys, rows)?))
+    Ok(Reply::made(Status::Done, row_lines(alloc, options, report, rows)?))
 }
 
 // The lines of all players without names.
-fn row_lines(alloc: Global, keys: &[Key], rows: &[Row]) -> Result<String, AllocError>
-    ensures { IfOk result (λ text. string_bytes text ≡ rows_text keys.now 1 rows.now) }
+fn row_lines(
+    alloc: Global,
+    options: &StandingsOptions,
+    report: &Report<'_>,
+    rows: &[Row],
+) -> Result<String, AllocError>
+    ensures { IfOk result (λ text. string_bytes text
+        ≡ rows_text report.now options.now.keys (rounds_shown options.now report.now) 1 rows.now) }
 {
+    let (keys, rounds) = (options.keys.as_slice(), rounds_shown(options, report));
     let mut text = String::new(alloc);
     for (i, row) in rows.iter().enumerate() {
         put_row(&mut text, keys, i + 1, row)?;
+        put_games(&mut text, report, row.start(), rounds)?;
+        text.push_str("\n")?;
     }
     Ok(text)
 }
 
-// Puts the line of a player.
+// Puts a player: place, start rank, score and the values of the keys.
 #[tactic(auto, unfolding(crate::specs::StandingsTexts::row_text))]
 fn put_row(text: &mut String, keys: &[Key], place: usize, row: &Row) -> Result<(), AllocError>
     ensures { OnOk result (string_bytes text.new ≡ string_bytes text.old ++ row_text keys.now place row.now) }
 {
     let (start, score) = (row.start(), HalfPoints(u32::from(row.score())));
     write!(text, "{place} {start} {score}")?;
-    put_values(*text.allocator(), text, keys, row.values())?;
-    text.push_str("\n")
+    put_values(*text.allocator(), text, keys, row.values())
 }
 
 // Puts the values of some keys, in their order.

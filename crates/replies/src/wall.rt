@@ -1,17 +1,23 @@
 // The boards and the standings for the wall: with names, in columns.
-ghost use Rattle.std.specs.Prelude.{◌≡◌, ◌++◌, ◌∷◌, [], IfOk, OnOk, length};
+ghost use Rattle.std.specs.Prelude.{◌≡◌, ◌++◌, ◌∷◌, ◌<◌, [], IfOk, OnOk, length};
+ghost use Rattle.std.specs.Fmt.{decimal};
 ghost use Rattle.replies.specs.Replies.{answer_of};
 ghost use Rattle.replies.specs.Statuses.{done};
-ghost use Rattle.replies.specs.WallTexts.{board_labels, boards_labels, named_boards_text, named_rows_text};
-ghost use Rattle.replies.specs.WallTexts.{opponent_labels, paired_labels, player_labels, row_labels, rows_labels};
-ghost use Rattle.replies.specs.WallTexts.{values_labels};
+ghost use Rattle.replies.specs.StandingsAnswers.{rounds_shown};
+ghost use Rattle.replies.specs.Tables.{right};
+ghost use Rattle.replies.specs.WallTexts.{board_labels, boards_labels, marks_labels, named_boards_text};
+ghost use Rattle.replies.specs.WallTexts.{named_rows_text, opponent_labels, paired_labels, played_boards_text};
+ghost use Rattle.replies.specs.WallTexts.{played_labels, player_labels, result_labels, result_mark, row_labels};
+ghost use Rattle.replies.specs.WallTexts.{rows_labels, values_labels};
 
+use crate::games::{push_games, rounds_shown};
 use crate::points::{HalfPoints, KeyValue};
 use crate::reply::{Reply, Status};
 use crate::table::{TableLine, table};
+use requests::StandingsOptions;
 use std::alloc::{AllocError, Global};
 use tiebreak::{Key, Row};
-use trf16::Report;
+use trf16::{Cell, GameOutcome, Report};
 
 /// The start ranks of white and of black at a board; black 0 is the bye.
 type Board = (u16, u16);
@@ -20,68 +26,151 @@ type Board = (u16, u16);
 pub fn boards(alloc: Global, report: &Report<'_>, boards: &[Board]) -> Result<Reply, AllocError>
     ensures { IfOk result (λ reply. answer_of reply ≡ done (named_boards_text report.now boards.now)) }
 {
+    let before = report.rounds_played();
     let mut lines = Vec::new(alloc);
     for (i, board) in boards.iter().enumerate() {
-        lines.push(board_line(alloc, report, i + 1, *board)?)?;
+        let mut line = numbered(alloc, i + 1)?;
+        push_board(&mut line, report, before, *board)?;
+        lines.push(line)?;
     }
     let text = table(alloc, lines.as_slice(), report.is_utf8(), 7)?;
     Ok(Reply::bytes(Status::Done, text))
 }
 
-/// The standings with names: for each player the place, name, score and the values of the keys.
-pub fn standings(
+/// The boards of a round that was paired, with names, the scores before that round, and the results.
+pub fn played_boards(
     alloc: Global,
     report: &Report<'_>,
-    keys: &[Key],
-    rows: &[Row],
+    round: u8,
+    boards: &[Board],
 ) -> Result<Reply, AllocError>
-    ensures { IfOk result (λ reply. answer_of reply ≡ done (named_rows_text report.now keys.now rows.now)) }
+    requires { 0 < round }
+    ensures { IfOk result (λ reply. answer_of reply ≡ done (played_boards_text report.now round boards.now)) }
 {
     let mut lines = Vec::new(alloc);
-    for (i, row) in rows.iter().enumerate() {
-        let mut line = TableLine::new(alloc);
-        line.push_text((i + 1).to_string(alloc)?)?;
-        push_row(&mut line, report, keys, row)?;
+    for (i, board) in boards.iter().enumerate() {
+        let mut line = numbered(alloc, i + 1)?;
+        push_board(&mut line, report, round - 1, *board)?;
+        push_result(&mut line, report, round, *board)?;
         lines.push(line)?;
     }
-    let text = table(alloc, lines.as_slice(), report.is_utf8(), 4 + keys.len())?;
+    let text = table(alloc, lines.as_slice(), report.is_utf8(), 8)?;
     Ok(Reply::bytes(Status::Done, text))
 }
 
-// A board: its number, white, and black or the bye.
-#[tactic(auto, unfolding(crate::specs::WallTexts::board_labels))]
-fn board_line(
+/// The standings with names: for each player the place, name, score, the values of the keys, and the games if they are
+/// wanted.
+pub fn standings(
     alloc: Global,
+    options: &StandingsOptions,
     report: &Report<'_>,
-    number: usize,
-    board: Board,
-) -> Result<TableLine, AllocError>
-    ensures { IfOk result (λ line. line ≡ board_labels report.now number board) }
+    rows: &[Row],
+) -> Result<Reply, AllocError>
+    ensures { IfOk result (λ reply. answer_of reply
+        ≡ done (named_rows_text report.now options.now.keys (rounds_shown options.now report.now) rows.now)) }
 {
-    let (white, black) = board;
+    let (keys, rounds) = (options.keys.as_slice(), rounds_shown(options, report));
+    let mut lines = Vec::new(alloc);
+    for (i, row) in rows.iter().enumerate() {
+        let mut line = numbered(alloc, i + 1)?;
+        push_row(&mut line, report, keys, row)?;
+        push_games(&mut line, report, row.start(), rounds)?;
+        lines.push(line)?;
+    }
+    let columns = 4 + keys.len() + usize::from(rounds);
+    let text = table(alloc, lines.as_slice(), report.is_utf8(), columns)?;
+    Ok(Reply::bytes(Status::Done, text))
+}
+
+// A line that begins with its number.
+fn numbered(alloc: Global, number: usize) -> Result<TableLine, AllocError>
+    ensures { IfOk result (λ line. line ≡ right (decimal number) ∷ []) }
+{
     let mut line = TableLine::new(alloc);
     line.push_text(number.to_string(alloc)?)?;
-    push_paired(&mut line, report, white)?;
-    push_opponent(&mut line, report, black)?;
     Ok(line)
 }
 
+// Puts a board: white, and black or the bye, with the scores of the rounds before.
+#[tactic(auto, unfolding(crate::specs::WallTexts::board_labels))]
+fn push_board(
+    line: &mut TableLine,
+    report: &Report<'_>,
+    before: u8,
+    board: Board,
+) -> Result<(), AllocError>
+    ensures { OnOk result (line.new ≡ line.old ++ board_labels report.now before board) }
+{
+    let (white, black) = board;
+    push_paired(line, report, before, white)?;
+    push_opponent(line, report, before, black)
+}
+
 // Puts who meets white: black, or if black is 0, that white has the bye.
-fn push_opponent(line: &mut TableLine, report: &Report<'_>, black: u16) -> Result<(), AllocError>
-    ensures { OnOk result (line.new ≡ line.old ++ opponent_labels report.now black) }
+fn push_opponent(
+    line: &mut TableLine,
+    report: &Report<'_>,
+    before: u8,
+    black: u16,
+) -> Result<(), AllocError>
+    ensures { OnOk result (line.new ≡ line.old ++ opponent_labels report.now before black) }
 {
     if black == 0 {
         return line.push_text(String::from_str(line.allocator(), "bye")?);
     }
-    push_paired(line, report, black)
+    push_paired(line, report, before, black)
 }
 
-// Puts a player of the next round, with the score so far.
-fn push_paired(line: &mut TableLine, report: &Report<'_>, start: u16) -> Result<(), AllocError>
-    ensures { OnOk result (line.new ≡ line.old ++ paired_labels report.now start) }
+// Puts a player of a round, with the score of the rounds before it.
+fn push_paired(
+    line: &mut TableLine,
+    report: &Report<'_>,
+    before: u8,
+    start: u16,
+) -> Result<(), AllocError>
+    ensures { OnOk result (line.new ≡ line.old ++ paired_labels report.now before start) }
 {
-    let score = report.points(start, report.rounds_played());
-    push_player(line, report, start, score)
+    push_player(line, report, start, report.points(start, before))
+}
+
+// Puts the result of a board in a round, if there is one.
+fn push_result(
+    line: &mut TableLine,
+    report: &Report<'_>,
+    round: u8,
+    board: Board,
+) -> Result<(), AllocError>
+    requires { 0 < round }
+    ensures { OnOk result (line.new ≡ line.old ++ result_labels report.now round board) }
+{
+    let white = result_mark(report.cell(board.0, round));
+    let black = result_mark(report.cell(board.1, round));
+    push_marks(line, white, black)
+}
+
+// Puts the result by the marks of white and of black, if both have one.
+fn push_marks(line: &mut TableLine, white: &str, black: &str) -> Result<(), AllocError>
+    ensures { OnOk result (line.new ≡ line.old ++ marks_labels white.now black.now) }
+{
+    if white.is_empty() || black.is_empty() {
+        return Ok(());
+    }
+    line.push_text(format!(in line.allocator(); "{white}-{black}")?)
+}
+
+// What a cell says of the result: 1, = or 0 of a game, + or - of a forfeit.
+fn result_mark(cell: Cell) -> &'static str
+    ensures { result.now ≡ result_mark cell }
+{
+    match cell {
+        Cell::Game { got, .. } => match got {
+            GameOutcome::Win => "1",
+            GameOutcome::Draw => "=",
+            GameOutcome::Loss => "0",
+        },
+        Cell::Forfeit { won, .. } => { if won { "+" } else { "-" } }
+        Cell::Blank | Cell::Bye(_) | Cell::Unfinished { .. } => "",
+    }
 }
 
 // Puts a player: start rank, name and score.
