@@ -118,6 +118,13 @@ module _ (facts : Facts) where
   weighed : (w : ℕ → ℕ) (pairing : Pairing) → (round facts).pairing ≡ Some pairing → pairing_total w pairing ≡ total w (everybody facts)
   weighed w pairing e = (subst (λ found. Weighs w (total w (everybody facts)) found) e (round_whole w facts)).0
 
+  -- whoever is paired has a seat
+  pub pairs_of_seats : (pairing : Pairing) → (round facts).pairing ≡ Some pairing → AllByRecursion (IsPair facts) pairing.pairs
+  pairs_of_seats pairing e =
+      let none = weighed outside pairing e in
+      let empty = nobody_outside 0 (length facts.seats) (omega arith) in
+      pairs_inside pairing.pairs (omega (arith, none, empty))
+
   all_starts : map start_of (everybody facts) ≡ start_ranks facts
   unfolding start_of
   all_starts =
@@ -128,9 +135,7 @@ module _ (facts : Facts) where
       → total w (start_ranks facts) ≡ total w (named_by (boards facts pairing))
   boards_weighed pairing from e w =
       let by_start : ℕ → ℕ = λ seat. w (start_of seat) in
-      let none = weighed outside pairing e in
-      let empty = nobody_outside 0 (length facts.seats) (omega arith) in
-      let inside : AllByRecursion (IsPair facts) pairing.pairs = pairs_inside pairing.pairs (omega (arith, none, empty)) in
+      let inside : AllByRecursion (IsPair facts) pairing.pairs = pairs_of_seats pairing e in
       let all : List (ℕ × ℕ) = ordered facts pairing.pairs in
       let in_order : AllByRecursion (IsPair facts) all = pairs_ordered facts pairing.pairs inside in
       let whole = weighed by_start pairing e in

@@ -73,7 +73,7 @@ both-swap false false false true = refl
 both-swap false false false false = refl
 
 -- two who are not the same rank one above the other
-above_other : (f : ℕ → ℕ) (a b : ℕ) → (a ≡ b → ⊥)
+pub above_other : (f : ℕ → ℕ) (a b : ℕ) → (a ≡ b → ⊥)
     → (nat_lt (f a) (f b) || ((f b == f a) && nat_lt b a)) ≡ not (nat_lt (f b) (f a) || ((f a == f b) && nat_lt a b))
 above_other f a b apart = grind (arith, nat_tests)
 
@@ -109,7 +109,7 @@ unknown-cells (e ∷ es) start unknown = by (e.start == start) unknown (unknown-
     by true unknown rest = absurd (cc)
     by false unknown rest = rest unknown
 
-first-above : (es : List Entry) (start : ℕ) → All (λ n. (0 < n) × (n ≤ 9999)) (starts_of es) → list_any (λ (e : Entry). e.start == start) es ≡ true → 0 < start
+pub first-above : (es : List Entry) (start : ℕ) → All (λ n. (0 < n) × (n ≤ 9999)) (starts_of es) → list_any (λ (e : Entry). e.start == start) es ≡ true → 0 < start
 first-above [] start within known' = absurd (cc)
 first-above (e ∷ es) start within known' =
     by (e.start == start) refl known' (first-above es start (All-tail (λ n. (0 < n) × (n ≤ 9999)) e.start (starts_of es) within))

@@ -1,2 +1,4 @@
 pub mod CountLemmas
 pub mod HostLemmas
+pub mod Orders
+pub mod PutBoards

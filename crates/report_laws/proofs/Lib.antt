@@ -7,3 +7,4 @@ pub mod BackLines
 pub mod WrittenView
 pub mod BackTwice
 pub mod AskedBack
+pub mod PairedBoards

@@ -5,4 +5,5 @@
 //! definitions of `trf16` on earlier rounds to those of the crates above it, which `trf16` itself cannot name.
 #![tactic(auto)]
 
+pub mod paired;
 pub mod views;
