@@ -21,11 +21,10 @@ use Rattle.trf16.specs.declared.cell.Colour.{Colour}
 use Rattle.trf16.specs.declared.cell.Colour.TheVariants.{White, Black}
 use Rattle.trf16.specs.declared.limits.TheConstants.{MOST_ROUNDS}
 use Rattle.trf16.specs.Outcomes.{◌>>=◌}
-use Rattle.trf16.specs.Prelude.{CanBePaired, Entry, HasOwnStarts, Sheet, absent, cell_by, cells_of, cells_with, entry_with, half_points, named_by, points_upto, rounds_played, starts_of, verdict, with_cell, with_round}
+use Rattle.trf16.specs.Prelude.{CanBePaired, Entry, HasOwnStarts, Sheet, absent, cell_by, cells_of, cells_with, entry_with, half_points, named_by, points_upto, rounds_played, starts_of, with_cell, with_round}
 use Rattle.trf16.proofs.BoardLemmas.{eq-self, eq-sym}
 use Rattle.trf16.proofs.PairedRound.{named_black, named_head, named_tail}
 use Rattle.trf16.proofs.RankLemmas.{ranked_moves}
-use Rattle.trf16.proofs.StartRanks.{own_starts}
 use Rattle.dutch_player.specs.declared.fault.FieldFault.{FieldFault}
 use Rattle.dutch_player.specs.Prelude.{Facts, SeatFacts, colour_of_higher, colours, initial_of, no_seat, ranked, seat_at, seats_of, start_ranks, total_for, with_colour}
 use Rattle.dutch_player.specs.Facts.{facts_of, seat_of}
@@ -401,11 +400,10 @@ module _ (sheet : Sheet) (facts : Facts) (pairing : Pairing) (own : HasOwnStarts
       round_boards sheet all_boards own can
       (strict_pairs (ordered facts pairing.pairs) inside (boards_in_order facts pairing.pairs) (one_bye facts pairing paired) can.once)
 
-pub paired_boards : (bytes : List ℕ) (bye : ℕ) (sheet : Sheet) (asked : Option ℕ) (initial : Option Colour) (facts : Facts) (pairing : Pairing)
-    → verdict bytes bye ≡ Ok sheet → IfSome asked (λ total. total ≤ MOST_ROUNDS) → facts_of sheet asked initial ≡ Ok facts → (round facts).pairing ≡ Some pairing
+pub paired_boards : (sheet : Sheet) (asked : Option ℕ) (initial : Option Colour) (facts : Facts) (pairing : Pairing)
+    → HasOwnStarts sheet → IfSome asked (λ total. total ≤ MOST_ROUNDS) → facts_of sheet asked initial ≡ Ok facts → (round facts).pairing ≡ Some pairing
     → boards_of (with_round (boards facts pairing) sheet) (rounds_played sheet + 1) ≡ boards facts pairing
-paired_boards bytes bye sheet asked initial facts pairing read few made paired =
-    let own = own_starts bytes bye sheet read in
+paired_boards sheet asked initial facts pairing own few made paired =
     let field = field_of sheet asked initial facts own made in
     same_boards sheet facts pairing own (seats_are sheet asked initial facts made) field.once field.from_one
-    (can_be_next bytes bye sheet asked initial facts pairing read few made paired) paired
+    (can_be_next sheet asked initial facts pairing own few made paired) paired
