@@ -1,0 +1,7 @@
+pub mod LineLemmas
+pub mod TableLemmas
+pub mod OrderLemmas
+pub mod NewStarts
+mod RenumberedLine
+mod UnderMap
+mod NewMap
