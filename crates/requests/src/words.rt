@@ -315,7 +315,7 @@ fn named<'a>(alloc: Global) -> Made<'a>
         "Pairs, explains, checks, rewrites and ranks a chess tournament whose report, in TRF16 columns, is read from standard input",
         "The exit status is 0 where all is done, 1 where the report is refused, 2 where the words are, 3 where there is no pairing, 4 where the steps ended first, and 5 where a device failed or memory was refused.\n\nExample: arbiter pair < report.trf",
     )
-    .version("1.1 (FIDE C.04.3, 2017; TRF16)")
+    .version("1.2 (FIDE C.04.3, 2017; TRF16)")
     .bin_name("arbiter")
 }
 

@@ -155,7 +155,7 @@ fn help_and_version_are_printed(rt: HostRuntime) {
         (["check", "--help"].as_slice(), "Usage: arbiter check"),
         (
             ["--version"].as_slice(),
-            "arbiter 1.1 (FIDE C.04.3, 2017; TRF16)\n",
+            "arbiter 1.2 (FIDE C.04.3, 2017; TRF16)\n",
         ),
     ];
     for (words, part) in table {
