@@ -73,8 +73,8 @@ given_own None (Ok sheet) report own e = own report e'
     e' = cc
 given_own (Some round) (Ok sheet) report own e = view_own sheet report round (before_round sheet round) refl (own sheet refl) e
 
-pub seen_own : (bytes : List ℕ) (bye : ℕ) (round : Option ℕ) (report : Sheet) → seen_before round (verdict bytes bye) ≡ Ok report → HasOwnStarts report
-seen_own bytes bye round report e = given_own round (verdict bytes bye) report (λ sheet read. own_starts bytes bye sheet read) e
+pub seen_own : (bytes : List ℕ) (bye : ℕ) (round : Option ℕ) (report : Sheet) → Ok report ≡ seen_before round (verdict bytes bye) → HasOwnStarts report
+seen_own bytes bye round report e = given_own round (verdict bytes bye) report (λ sheet read. own_starts bytes bye sheet read) (sym e)
 
 -- ---- the boards of an outcome
 

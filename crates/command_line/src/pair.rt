@@ -22,7 +22,6 @@ use std::alloc::{AllocError, Global};
 use trf16::Report;
 
 /// What `pair` says of the bytes of a report in which the pairing-allocated bye gives `bye` half points.
-#[tactic(auto, using(crate::proofs::PairLemmas::seen_own))]
 pub fn pair(
     alloc: Global,
     options: PairOptions,
