@@ -5,3 +5,4 @@ pub mod NewStarts
 mod RenumberedLine
 mod UnderMap
 mod NewMap
+mod Twice

@@ -51,3 +51,9 @@ pub fn players_are_kept()
         → option_map (rating_of sheet.utf8) (player_of (renumbered sheet).players (new_start sheet start))
         ≡ option_map (rating_of sheet.utf8) (player_of sheet.players start) }
 {}
+
+/// A report that is renumbered twice is the report that is renumbered once.
+pub fn renumbering_twice_is_renumbering_once()
+    ensures { (bytes : List ℕ) (bye : ℕ) (sheet : Sheet) → verdict bytes bye ≡ Ok sheet
+        → renumbered (renumbered sheet) ≡ renumbered sheet }
+{}
