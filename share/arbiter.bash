@@ -12,7 +12,7 @@ _arbiter() {
             case ${COMP_CWORD},${COMP_WORDS[1]} in
                 1,*) words="check format pair boards candidates explain standings --help --version" ;;
                 *,check) words="--notes --bye --help" ;;
-                *,format) words="--round --points --bye --help" ;;
+                *,format) words="--round --points --renumber --bye --help" ;;
                 *,pair) words="--round --rounds --initial --steps --report --names --bye --help" ;;
                 *,boards) words="--round --names --bye --help" ;;
                 *,candidates) words="--bracket --from --count --round --rounds --initial --steps --bye --help" ;;

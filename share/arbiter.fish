@@ -25,4 +25,5 @@ complete -c arbiter -n '__fish_seen_subcommand_from check format pair boards can
 complete -c arbiter -n '__fish_seen_subcommand_from pair boards standings' -l names -d 'With names, in columns for the wall'
 complete -c arbiter -n '__fish_seen_subcommand_from standings' -l games -d 'With the games, a column a round'
 complete -c arbiter -n '__fish_seen_subcommand_from format' -l points -d 'Write each points field as the sum'
+complete -c arbiter -n '__fish_seen_subcommand_from format' -l renumber -d 'Give start ranks by rating and title'
 complete -c arbiter -n '__fish_seen_subcommand_from check' -l notes -d 'Tell too what looks like a mistake'

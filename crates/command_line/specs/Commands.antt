@@ -15,7 +15,7 @@ use Rattle.requests.specs.declared.words.Request.TheVariants.{Check, Format, Pai
 -- where a request asks for a round it is answered on the report as it stood before that round
 abbrev pub AnswersReport : Request → List ℕ → ℕ → Result Sheet Fault → Answer → Type 0
 AnswersReport (Check options) input bye report answer = answer ≡ check_answer report options.notes input bye
-AnswersReport (Format options) input bye report answer = answer ≡ format_answer options.points (seen_before options.round report)
+AnswersReport (Format options) input bye report answer = answer ≡ format_answer options.points options.renumber (seen_before options.round report)
 AnswersReport (Pair options) input bye report answer = AnswersPair options (seen_before options.round report) answer
 AnswersReport (Boards options) input bye report answer = answer ≡ boards_answer options report
 AnswersReport (Candidates options) input bye report answer = AnswersCandidates options (seen_before options.round report) answer

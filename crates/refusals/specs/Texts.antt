@@ -41,6 +41,10 @@ fault_text (Results player round) = round_text player round (codes ": results\n"
 fault_text (Points player) = codes "refused: player " ++ (decimal player ++ codes ": points\n")
 fault_text OutOfMemory = memory_text
 
+-- why a report cannot be renumbered: its first line that names players in a way that is not read
+abbrev pub unread_text : ℕ → List ℕ
+unread_text line = codes "refused: line " ++ (decimal line ++ codes ": unsupported\n")
+
 -- why the next round cannot be paired from a report
 abbrev pub field_text : FieldFault → List ℕ
 field_text (Unfinished player round) = round_text player round (codes ": unfinished\n")

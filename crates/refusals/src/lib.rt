@@ -1,4 +1,4 @@
-//! Why a report is refused, cannot be paired further, or has no standings, as a line for people.
+//! Why a report is refused, cannot be renumbered or paired further, or has no standings, as a line for people.
 //!
 //! Each call makes one line from the reason that a crate below gives: `refused: `, where it is (the line of the report,
 //! or the start rank of a player and perhaps a round), and what it is. Where memory was refused the line is `memory:
@@ -9,4 +9,4 @@
 
 mod texts;
 
-pub use texts::{cannot_be_paired, has_no_standings, refused};
+pub use texts::{cannot_be_paired, cannot_be_renumbered, has_no_standings, refused};

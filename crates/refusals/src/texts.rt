@@ -1,7 +1,7 @@
 // The lines, reason by reason.
 ghost use Rattle.std.specs.Prelude.{◌≡◌, ◌++◌, IfOk, codes, string_bytes};
 ghost use Rattle.std.specs.Fmt.{decimal};
-ghost use Rattle.refusals.specs.Texts.{excess_text, fault_text, field_text, round_text, tie_text};
+ghost use Rattle.refusals.specs.Texts.{excess_text, fault_text, field_text, round_text, tie_text, unread_text};
 
 use dutch_player::FieldFault;
 use std::alloc::{AllocError, Global};
@@ -39,6 +39,17 @@ pub fn refused(alloc: Global, fault: Fault) -> Result<String, AllocError>
         Fault::Points { player } => format!(in alloc; "refused: player {player}: points\n"),
         Fault::OutOfMemory => String::from_str(alloc, "memory: refused\n"),
     }
+}
+
+/// Why a report cannot be renumbered: the number of its first line, from 1, that names players in a way that is not
+/// read.
+///
+/// # Errors
+/// Memory was refused.
+pub fn cannot_be_renumbered(alloc: Global, line: usize) -> Result<String, AllocError>
+    ensures { IfOk result (λ text. string_bytes text ≡ unread_text line) }
+{
+    of_line(alloc, line, ": unsupported\n")
 }
 
 /// Why the next round cannot be paired from a report.

@@ -4,7 +4,7 @@ pub use Rattle.replies.specs.Input.{IsRead, ReadsInput, most_read}
 pub use Rattle.replies.specs.Texts.{accepted_text, not_of_bracket_text, not_reached_text, question_text, read_text, round_not_reached_text, undecided_text, word_text, write_text}
 unfoldable pub use Rattle.replies.specs.Texts.{halves_text}
 pub use Rattle.replies.specs.Questions.{instead_fault, question_fault}
-pub use Rattle.replies.specs.Statuses.{Answer, behind, code_of, done, field_refusal, is_output, no_pairing, not_of_bracket, not_reached, out_of_memory, plain, question_refusal, read_fault, refusal, round_not_reached, tie_refusal, undecided}
+pub use Rattle.replies.specs.Statuses.{Answer, behind, code_of, done, field_refusal, is_output, no_pairing, not_of_bracket, not_reached, out_of_memory, plain, question_refusal, read_fault, refusal, round_not_reached, tie_refusal, undecided, unread_refusal}
 pub use Rattle.replies.specs.Replies.{answer_of, note_of, text_of}
 pub use Rattle.replies.specs.WrittenAnswers.{HasInTurn, HasTextOrPart, IsCut, IsNoteCut, IsNoted, IsOnStandardError, IsPrinted, IsToldWith, IsWritten, IsWrittenTo}
 pub use Rattle.replies.specs.Controls.{holds_control, is_control, is_long_control, shown_byte, without_controls}
@@ -12,7 +12,7 @@ pub use Rattle.replies.specs.NoteTexts.{kind_named, kind_text, note_text, notes_
 unfoldable pub use Rattle.replies.specs.NoteTexts.{front_text}
 pub use Rattle.replies.specs.RefusalNoteTexts.{held_text, line_in_bytes, line_note, points_note, refusal_note, with_note}
 unfoldable pub use Rattle.replies.specs.RefusalNoteTexts.{bytes_text, columns_text, sums_text}
-pub use Rattle.replies.specs.ReportAnswers.{check_answer, format_answer, format_verdict, formatted, size_text}
+pub use Rattle.replies.specs.ReportAnswers.{check_answer, format_answer, format_verdict, formatted, size_text, written_answer}
 pub use Rattle.replies.specs.StandingsTexts.{quarter_text, quarters_text, rows_text, value_text, values_text}
 unfoldable pub use Rattle.replies.specs.StandingsTexts.{row_text}
 pub use Rattle.replies.specs.Tables.{LabelFacts, gap, labels_text, left, padded, padded_by, right, table_text, widest, width, width_in, widths}

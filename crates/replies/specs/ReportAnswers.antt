@@ -1,11 +1,12 @@
 -- What the commands answer that only read a report: `check` and `format`.
 use Rattle.std.specs.Prelude.{ℕ, Bool, true, false, List, ◌++◌, length, Result, Ok, Err}
+use Rattle.std.specs.Option.{option_map_or}
 use Rattle.report_notes.specs.Notes.{notes_of}
-use Rattle.trf16.specs.Prelude.{Sheet, rounds_played, summed, verdict_unsummed, verdict, written}
+use Rattle.trf16.specs.Prelude.{Sheet, first_unread, renumbered, rounds_played, summed, verdict_unsummed, verdict, written}
 use Rattle.trf16.specs.declared.fault.Fault.{Fault}
 use Rattle.replies.specs.NoteTexts.{notes_text}
 use Rattle.replies.specs.RefusalNoteTexts.{with_note, refusal_note}
-use Rattle.replies.specs.Statuses.{Answer, done, refusal}
+use Rattle.replies.specs.Statuses.{Answer, done, refusal, unread_refusal}
 use Rattle.replies.specs.Texts.{accepted_text}
 use Rattle.replies.specs.Views.{unseen_answer}
 use Rattle.replies.specs.declared.views.Unseen.{Unseen}
@@ -27,10 +28,16 @@ abbrev pub formatted : Bool → Sheet → Sheet
 formatted false sheet = sheet
 formatted true sheet = summed sheet
 
+-- a report in canonical columns as it is, or with `--renumber` (true) with new start ranks; a line that names players in a way that is
+-- not read keeps it from that
+abbrev pub written_answer : Bool → Sheet → Answer
+written_answer false sheet = done (written sheet)
+written_answer true sheet = option_map_or unread_refusal (first_unread sheet) (done (written (renumbered sheet)))
+
 -- `format`: the report in canonical columns, however long, or why there is none
-abbrev pub format_answer : Bool → Result Sheet Unseen → Answer
-format_answer points (Ok sheet) = done (written (formatted points sheet))
-format_answer points (Err why) = unseen_answer why
+abbrev pub format_answer : Bool → Bool → Result Sheet Unseen → Answer
+format_answer points renumber (Ok sheet) = written_answer renumber (formatted points sheet)
+format_answer points renumber (Err why) = unseen_answer why
 
 -- the verdict that `format` goes by: with `--points` (true) no points field is compared
 abbrev pub format_verdict : Bool → List ℕ → ℕ → Result Sheet Fault

@@ -6,7 +6,7 @@ use Rattle.tiebreak.specs.declared.fault.TieFault.{TieFault}
 use Rattle.tiebreak.specs.declared.fault.TieFault.TheVariants.{OutOfMemory as TieMemory}
 use Rattle.trf16.specs.declared.fault.Fault.{Fault}
 use Rattle.trf16.specs.declared.fault.Fault.TheVariants.{OutOfMemory}
-use Rattle.refusals.specs.Texts.{fault_text, field_text, memory_text, tie_text}
+use Rattle.refusals.specs.Texts.{fault_text, field_text, memory_text, tie_text, unread_text}
 use Rattle.replies.specs.Texts.{not_of_bracket_text, not_reached_text, question_text, read_text, round_not_reached_text, undecided_text}
 use Rattle.replies.specs.declared.question.QuestionFault.{QuestionFault}
 use Rattle.replies.specs.declared.reply.Status.{Status}
@@ -60,6 +60,10 @@ read_fault = plain Trouble read_text
 abbrev pub refusal : Fault → Answer
 refusal OutOfMemory = out_of_memory
 refusal fault = plain Refused (fault_text fault)
+
+-- a report cannot be renumbered, since a line names players in a way that is not read
+abbrev pub unread_refusal : ℕ → Answer
+unread_refusal line = plain Refused (unread_text line)
 
 -- the next round cannot be paired from a report
 abbrev pub field_refusal : FieldFault → Answer

@@ -2,12 +2,14 @@
 ghost use Rattle.std.specs.Prelude.{◌≡◌, ◌≤◌, IfOk, false, true};
 ghost use Rattle.trf16.specs.Prelude.{summed, verdict_unsummed, verdict, written};
 ghost use Rattle.replies.specs.Views.{seen_before};
-ghost use Rattle.replies.specs.ReportAnswers.{format_answer, format_verdict};
+ghost use Rattle.replies.specs.ReportAnswers.{format_answer, format_verdict, written_answer};
 ghost use Rattle.replies.specs.Replies.{answer_of};
 ghost use Rattle.replies.specs.Statuses.{done};
 
+use crate::refusal::cannot_be_renumbered;
 use crate::reply::{Reply, Status};
 use crate::views::{not_seen, read_before, read_unsummed_before};
+use renumbering::{first_unread, renumbered_text};
 use requests::FormatOptions;
 use std::alloc::{AllocError, Global};
 use trf16::{Counted, Failed, Report};
@@ -20,44 +22,76 @@ pub fn format(
     bye: u16,
 ) -> Result<Reply, AllocError>
     requires { bye ≤ 2 }
-    ensures { IfOk result (λ reply. answer_of reply
-        ≡ format_answer options.points (seen_before options.round (format_verdict options.points bytes.now bye))) }
+    ensures { IfOk result (λ reply. answer_of reply ≡ format_answer options.points options.renumber
+        (seen_before options.round (format_verdict options.points bytes.now bye))) }
 {
     if options.points {
-        with_sums(alloc, bytes, bye, options.round)
+        with_sums(alloc, options, bytes, bye)
     } else {
-        as_it_is(alloc, bytes, bye, options.round)
+        as_it_is(alloc, options, bytes, bye)
     }
 }
 
 // The report as it was read, or as it stood before a round.
-fn as_it_is(alloc: Global, bytes: &[u8], bye: u16, round: Option<u8>) -> Result<Reply, AllocError>
+fn as_it_is(
+    alloc: Global,
+    options: FormatOptions,
+    bytes: &[u8],
+    bye: u16,
+) -> Result<Reply, AllocError>
     requires { bye ≤ 2 }
-    ensures { IfOk result (λ reply. answer_of reply ≡ format_answer false (seen_before round (verdict bytes.now bye))) }
+    ensures { IfOk result (λ reply. answer_of reply
+        ≡ format_answer false options.renumber (seen_before options.round (verdict bytes.now bye))) }
 {
-    match read_before(alloc, bytes, bye, round)? {
-        Ok(report) => rewritten(alloc, &report),
+    match read_before(alloc, bytes, bye, options.round)? {
+        Ok(report) => answered(alloc, &report, options.renumber),
         Err(why) => not_seen(alloc, why),
     }
 }
 
 // The same with its points fields summed, whatever they say.
-fn with_sums(alloc: Global, bytes: &[u8], bye: u16, round: Option<u8>) -> Result<Reply, AllocError>
+fn with_sums(
+    alloc: Global,
+    options: FormatOptions,
+    bytes: &[u8],
+    bye: u16,
+) -> Result<Reply, AllocError>
     requires { bye ≤ 2 }
-    ensures { IfOk result
-        (λ reply. answer_of reply ≡ format_answer true (seen_before round (verdict_unsummed bytes.now bye))) }
+    ensures { IfOk result (λ reply. answer_of reply
+        ≡ format_answer true options.renumber (seen_before options.round (verdict_unsummed bytes.now bye))) }
 {
-    match read_unsummed_before(alloc, bytes, bye, round)? {
-        Ok(report) => with_its_sums(alloc, &report),
+    match read_unsummed_before(alloc, bytes, bye, options.round)? {
+        Ok(report) => with_its_sums(alloc, &report, options.renumber),
         Err(why) => not_seen(alloc, why),
     }
 }
 
 // The same of a report that was read.
-fn with_its_sums(alloc: Global, report: &Report<'_>) -> Result<Reply, AllocError>
-    ensures { IfOk result (λ reply. answer_of reply ≡ done (written (summed report.now))) }
+fn with_its_sums(alloc: Global, report: &Report<'_>, renumber: bool) -> Result<Reply, AllocError>
+    ensures { IfOk result (λ reply. answer_of reply ≡ written_answer renumber (summed report.now)) }
 {
-    rewritten(alloc, &report.summed(alloc)?)
+    answered(alloc, &report.summed(alloc)?, renumber)
+}
+
+// A report as it is, or with new start ranks.
+fn answered(alloc: Global, report: &Report<'_>, renumber: bool) -> Result<Reply, AllocError>
+    ensures { IfOk result (λ reply. answer_of reply ≡ written_answer renumber report.now) }
+{
+    if renumber {
+        renumbered(alloc, report)
+    } else {
+        rewritten(alloc, report)
+    }
+}
+
+// A report with new start ranks, unless a line names players in a way that is not read.
+fn renumbered(alloc: Global, report: &Report<'_>) -> Result<Reply, AllocError>
+    ensures { IfOk result (λ reply. answer_of reply ≡ written_answer true report.now) }
+{
+    match first_unread(report) {
+        Some(line) => cannot_be_renumbered(alloc, line),
+        None => Ok(Reply::bytes(Status::Done, renumbered_text(alloc, report)?)),
+    }
 }
 
 /// A report in canonical columns, however long; it is made whole before the first byte is written.

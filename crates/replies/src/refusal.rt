@@ -2,6 +2,7 @@
 // first.
 ghost use Rattle.std.specs.Prelude.{◌≡◌, IfOk};
 ghost use Rattle.replies.specs.Statuses.{field_refusal, no_pairing, question_refusal, refusal, round_not_reached};
+ghost use Rattle.replies.specs.Statuses.{unread_refusal};
 ghost use Rattle.replies.specs.Statuses.{tie_refusal, undecided};
 ghost use Rattle.replies.specs.Replies.{answer_of};
 
@@ -21,6 +22,16 @@ pub fn refused(alloc: Global, fault: Fault) -> Result<Reply, AllocError>
         Fault::OutOfMemory => Err(AllocError),
         _ => Ok(Reply::made(Status::Refused, refusals::refused(alloc, fault)?)),
     }
+}
+
+/// Why a report cannot be renumbered: its first line, from 1, that names players in a way that is not read.
+pub fn cannot_be_renumbered(alloc: Global, line: usize) -> Result<Reply, AllocError>
+    ensures { IfOk result (λ reply. answer_of reply ≡ unread_refusal line) }
+{
+    Ok(Reply::made(
+        Status::Refused,
+        refusals::cannot_be_renumbered(alloc, line)?,
+    ))
 }
 
 /// Why the next round cannot be paired from a report, unless memory was refused.

@@ -7,7 +7,7 @@ use Rattle.clap.specs.declared.builder.action.ArgAction.TheVariants.{SetTrue}
 use Rattle.clap.specs.declared.builder.value_parser.ValueParser.{ValueParser}
 use Rattle.clap.specs.declared.builder.value_parser.ValueParser.TheVariants.{Signed, Unsigned}
 use Rattle.requests.specs.declared.arguments.OptionName.{OptionName}
-use Rattle.requests.specs.declared.arguments.OptionName.TheVariants.{Bracket, From, Count, Player, Instead, Round, PlayedRound, Rounds, Initial, Steps, Report, Notes, Points, BoardNames, PlayedNames, PlayerNames, Games, By, Bye}
+use Rattle.requests.specs.declared.arguments.OptionName.TheVariants.{Bracket, From, Count, Player, Instead, Round, PlayedRound, Rounds, Initial, Steps, Report, Notes, Points, Renumber, BoardNames, PlayedNames, PlayerNames, Games, By, Bye}
 use Rattle.trf16.specs.declared.limits.TheConstants.{MOST_ROUNDS}
 
 -- ---- options
@@ -72,6 +72,10 @@ notes_rule = flag_rule (codes "notes")
 unfoldable pub points_rule : Rule
 points_rule = flag_rule (codes "points")
 
+-- `--renumber`
+unfoldable pub renumber_rule : Rule
+renumber_rule = flag_rule (codes "renumber")
+
 -- `--names`
 unfoldable pub names_rule : Rule
 names_rule = flag_rule (codes "names")
@@ -103,6 +107,7 @@ rule_for Steps = steps_rule
 rule_for Report = report_rule
 rule_for Notes = notes_rule
 rule_for Points = points_rule
+rule_for Renumber = renumber_rule
 rule_for BoardNames = names_rule
 rule_for PlayedNames = names_rule
 rule_for PlayerNames = names_rule

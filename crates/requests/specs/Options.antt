@@ -130,7 +130,7 @@ check_options rows = record { notes = flag_in (codes "notes") rows }
 
 -- `format`
 abbrev pub format_options : List Row → FormatOptions
-format_options rows = record { points = flag_in (codes "points") rows; round = round_in rows }
+format_options rows = record { points = flag_in (codes "points") rows; renumber = flag_in (codes "renumber") rows; round = round_in rows }
 
 -- `pair`
 unfoldable pub pair_options : List Row → Result PairOptions WordFault

@@ -12,7 +12,7 @@ use Rattle.requests.specs.declared.words.Request.{Request}
 use Rattle.requests.specs.declared.words.Request.TheVariants.{Check, Format, Pair, Boards, Candidates, Explain, Standings}
 use Rattle.requests.specs.declared.words.CommandName.{CommandName}
 use Rattle.requests.specs.declared.words.CommandName.TheVariants.{Check as CheckName, Format as FormatName, Pair as PairName, Boards as BoardsName, Candidates as CandidatesName, Explain as ExplainName, Standings as StandingsName}
-use Rattle.requests.specs.CommandLine.{boards_app, bye_rule, candidates_app, explain_app, notes_rule, pair_app, points_rule, round_rule, standings_app, with_option}
+use Rattle.requests.specs.CommandLine.{boards_app, bye_rule, candidates_app, explain_app, notes_rule, pair_app, points_rule, renumber_rule, round_rule, standings_app, with_option}
 use Rattle.requests.specs.Options.{◌>>=◌, boards_options, bye_in, candidates_options, check_options, explain_options, format_options, pair_options, standings_options}
 use Rattle.requests.specs.declared.words.Meaning.{Meaning}
 use Rattle.requests.specs.declared.words.Meaning.TheVariants.{Command, Help, Mistake, Refused}
@@ -24,7 +24,7 @@ check_app = with_option (with_option (new_app (codes "check")) notes_rule) bye_r
 
 -- `format`
 unfoldable pub format_app : App
-format_app = with_option (with_option (with_option (new_app (codes "format")) points_rule) round_rule) bye_rule
+format_app = with_option (with_option (with_option (with_option (new_app (codes "format")) points_rule) renumber_rule) round_rule) bye_rule
 
 -- the command of a name
 abbrev pub app_for : CommandName → App

@@ -3,7 +3,7 @@ ghost use Rattle.std.specs.Prelude.{◌≡◌, false};
 ghost use Rattle.clap.specs.Words.{rule_of};
 ghost use Rattle.requests.specs.CommandLine.{bracket_rule, by_rule, bye_rule, count_rule, flag_rule, from_rule};
 ghost use Rattle.requests.specs.CommandLine.{games_rule, initial_rule, instead_rule, names_rule, notes_rule, option_rule};
-ghost use Rattle.requests.specs.CommandLine.{player_rule, points_rule, report_rule, round_rule, rounds_rule, rule_for};
+ghost use Rattle.requests.specs.CommandLine.{player_rule, points_rule, renumber_rule, report_rule, round_rule, rounds_rule, rule_for};
 ghost use Rattle.requests.specs.CommandLine.{steps_rule};
 
 use clap::{Arg, ArgAction, value_parser};
@@ -39,6 +39,8 @@ pub enum OptionName {
     Notes,
     /// `--points`.
     Points,
+    /// `--renumber`.
+    Renumber,
     /// `--names` of `pair`.
     BoardNames,
     /// `--names` of `boards`.
@@ -78,6 +80,7 @@ pub fn option_for<'a>(alloc: Global, which: OptionName) -> Arg<'a>
         OptionName::Report => report(alloc),
         OptionName::Notes => notes(alloc),
         OptionName::Points => points(alloc),
+        OptionName::Renumber => renumber(alloc),
         OptionName::BoardNames => names(
             alloc,
             "Prints the boards with names and scores, in columns for the wall",
@@ -257,6 +260,19 @@ fn points<'a>(alloc: Global) -> Arg<'a>
         alloc,
         "points",
         "Writes each points field as the sum over the rounds that were paired, whatever it says",
+    )
+}
+
+// `--renumber`.
+#[tactic(auto, unfolding(crate::specs::CommandLine::renumber_rule))]
+fn renumber<'a>(alloc: Global) -> Arg<'a>
+    ensures rule { rule_of result ≡ renumber_rule }
+    ensures local { result.global ≡ false }
+{
+    flag(
+        alloc,
+        "renumber",
+        "Gives the players the start ranks 1, 2 and so on by rating, title and the start rank that they have",
     )
 }
 

@@ -38,6 +38,8 @@ pub struct CheckOptions {
 pub struct FormatOptions {
     /// Whether each points field is written as a sum, and compared with none.
     pub points: bool,
+    /// Whether the players get the start ranks that rating and title give.
+    pub renumber: bool,
     /// The round before which the report is taken as it stood, where the words name one: at most `MOST_ROUNDS`.
     pub round: Option<u8>,
 }
@@ -180,6 +182,7 @@ pub fn format_options(matches: &ArgMatches<'_>) -> FormatOptions
 {
     FormatOptions {
         points: flag_in(matches, "points"),
+        renumber: flag_in(matches, "renumber"),
         round: round_in(matches),
     }
 }

@@ -336,7 +336,12 @@ fn with_settings<'a>(command: Command<'a>) -> Command<'a>
 const CHECK: [OptionName; 2] = [OptionName::Notes, OptionName::Bye];
 
 // The options of `format`.
-const FORMAT: [OptionName; 3] = [OptionName::Points, OptionName::Round, OptionName::Bye];
+const FORMAT: [OptionName; 4] = [
+    OptionName::Points,
+    OptionName::Renumber,
+    OptionName::Round,
+    OptionName::Bye,
+];
 
 // The command `check`.
 #[tactic(auto, unfolding(crate::specs::Words::check_app))]
