@@ -9,7 +9,7 @@ pub use Rattle.replies.specs.Replies.{answer_of, note_of, text_of}
 pub use Rattle.replies.specs.WrittenAnswers.{HasInTurn, HasTextOrPart, IsCut, IsNoteCut, IsNoted, IsOnStandardError, IsPrinted, IsToldWith, IsWritten, IsWrittenTo}
 pub use Rattle.replies.specs.Controls.{holds_control, is_control, is_long_control, shown_byte, without_controls}
 pub use Rattle.replies.specs.NoteTexts.{kind_named, kind_text, note_text, notes_text}
-unfoldable pub use Rattle.replies.specs.NoteTexts.{front_text}
+unfoldable pub use Rattle.replies.specs.NoteTexts.{front_text, round_note_text}
 pub use Rattle.replies.specs.RefusalNoteTexts.{held_text, line_in_bytes, line_note, points_note, refusal_note, with_note}
 unfoldable pub use Rattle.replies.specs.RefusalNoteTexts.{bytes_text, columns_text, sums_text}
 pub use Rattle.replies.specs.ReportAnswers.{check_answer, format_answer, format_verdict, formatted, size_text}

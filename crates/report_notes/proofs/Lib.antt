@@ -1,3 +1,2 @@
-pub mod GameLemmas
-pub mod NotedRounds
+pub mod RoundLemmas
 mod AloneLemmas

@@ -12,19 +12,24 @@
 //! says, by the players of this report.
 #![tactic(auto)]
 
+mod closing;
+mod fields;
 mod games;
 mod kinds;
-pub mod laws;
 mod line;
 mod names;
 mod note;
 mod place;
 mod player_line;
+mod player_round;
+mod player_rounds;
 mod points;
+mod ratings;
 mod refusal;
+mod rounds;
 mod walk;
 
-pub use note::Note;
+pub use note::{Note, RoundNote};
 pub use place::Place;
 pub use refusal::{
     Columns, Sums, are_lines_read, columns_of, has_characters, held, line_alone_has_bytes, line_in,
