@@ -27,8 +27,8 @@ pub fn put_notes(
     Ok(())
 }
 
-// Puts the line of a note.
-fn put_note(alloc: Global, text: &mut Vec<u8>, note: Note<'_>) -> Result<(), AllocError>
+/// Puts the line of a note.
+pub(crate) fn put_note(alloc: Global, text: &mut Vec<u8>, note: Note<'_>) -> Result<(), AllocError>
     ensures { OnOk result (text.new.items ≡ text.old.items ++ note_text (noted note.entry)) }
 {
     let front = front(alloc, note)?;
@@ -61,7 +61,9 @@ fn front(alloc: Global, note: Note<'_>) -> Result<String, AllocError>
             line,
             rating,
             player,
-        } => format!(in alloc; "note line {line}: rating {rating} is above that of player {player}"),
+        } => format!(in alloc;
+            "note line {line}: rating {rating} is above that of player {player}"
+        ),
         Note::EarlyPoints { line } => {
             format!(in alloc; "note line {line}: the points count a round to come")
         }
@@ -79,12 +81,7 @@ fn front(alloc: Global, note: Note<'_>) -> Result<String, AllocError>
 
 // What is told of a player's round.
 #[tactic(auto, unfolding(crate::specs::NoteTexts::front_text, crate::specs::NoteTexts::round_note_text))]
-fn in_round(
-    alloc: Global,
-    line: usize,
-    round: u8,
-    what: RoundNote,
-) -> Result<String, AllocError>
+fn in_round(alloc: Global, line: usize, round: u8, what: RoundNote) -> Result<String, AllocError>
     ensures { IfOk result (λ text. string_bytes text ≡ front_text (InRound line round what)) }
 {
     match what {

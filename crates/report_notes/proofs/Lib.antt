@@ -1,2 +1,4 @@
 pub mod RoundLemmas
 mod AloneLemmas
+mod PairedRounds
+mod NotedResults

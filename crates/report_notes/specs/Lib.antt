@@ -8,3 +8,4 @@ pub mod Notes
 pub mod NoteOf
 pub mod Places
 pub mod RefusalNotes
+pub mod Laws
