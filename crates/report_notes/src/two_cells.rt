@@ -2,6 +2,7 @@
 ghost use Rattle.std.specs.Prelude.{◌≡◌, ◌≤◌, ◌&&◌, ◌==◌};
 ghost use Rattle.trf16.specs.Prelude.{columns, is_player, lines, without_marks};
 ghost use Rattle.trf16.specs.declared.limits.TheConstants.{MOST_ROUNDS};
+ghost use Rattle.report_notes.specs.Games.{start_in};
 ghost use Rattle.report_notes.specs.RefusalNotes.{cell_held, line_with, opponent_held, player_columns};
 
 use crate::fields::{number_in, start_in};
