@@ -2,8 +2,20 @@
 use Rattle.std.specs.Prelude.{ℕ, List, [], ◌++◌, codes}
 use Rattle.std.specs.List.{flat_map}
 use Rattle.std.specs.Fmt.{decimal}
-use Rattle.report_notes.specs.Notes.{Noted, NoPlayer, PlayedLast, UnknownKind, BlankBefore, OnePlayer, LongName, EarlyPoints, NoResult, BehindColumn}
+use Rattle.report_notes.specs.Noted.{Noted, NoPlayer, PlayedLast, UnknownKind, BlankBefore, OnePlayer, ManyRounds, BeforeName}
+use Rattle.report_notes.specs.Noted.{LongName, RatingAbove, EarlyPoints, InRound, BehindColumn, NoGame, Byes, RoundsUnknown}
+use Rattle.report_notes.specs.declared.note.RoundNote.{RoundNote}
+use Rattle.report_notes.specs.declared.note.RoundNote.TheVariants.{NoResult, MeetsAgain, AnotherBye, HalfPoint, NoPoint, NoCell}
 use Rattle.replies.specs.Controls.{without_controls}
+
+-- what is told of a player's round
+unfoldable pub round_note_text : RoundNote → List ℕ
+round_note_text NoResult = codes " has no result"
+round_note_text (MeetsAgain player) = codes " meets player " ++ (decimal player ++ codes " again")
+round_note_text AnotherBye = codes " is another bye"
+round_note_text HalfPoint = codes " gives half a point in all"
+round_note_text NoPoint = codes " gives no point in all"
+round_note_text NoCell = codes " has no cell"
 
 -- what is told of a note before the kind that it names
 unfoldable pub front_text : Noted → List ℕ
@@ -12,22 +24,23 @@ front_text (PlayedLast line number) = codes "note line " ++ (decimal line ++ (co
 front_text (UnknownKind line kind) = codes "note line " ++ (decimal line ++ codes ": unknown kind ")
 front_text (BlankBefore line kind) = codes "note line " ++ (decimal line ++ codes ": blank before ")
 front_text (OnePlayer line) = codes "note line " ++ (decimal line ++ codes ": names one player")
+front_text (ManyRounds line) = codes "note line " ++ (decimal line ++ codes ": more rounds than opponents")
+front_text (BeforeName line) = codes "note line " ++ (decimal line ++ codes ": column 14 is not blank")
 front_text (LongName line) = codes "note line " ++ (decimal line ++ codes ": the name runs into column 48")
+front_text (RatingAbove line rating player) =
+    codes "note line " ++ (decimal line ++ (codes ": rating " ++ (decimal rating ++ (codes " is above that of player " ++ decimal player))))
 front_text (EarlyPoints line) = codes "note line " ++ (decimal line ++ codes ": the points count a round to come")
-front_text (NoResult line round) = codes "note line " ++ (decimal line ++ (codes ": round " ++ (decimal round ++ codes " has no result")))
+front_text (InRound line round what) = codes "note line " ++ (decimal line ++ (codes ": round " ++ (decimal round ++ round_note_text what)))
 front_text (BehindColumn line column) = codes "note line " ++ (decimal line ++ (codes ": behind column " ++ (decimal column ++ codes " nothing is read")))
+front_text (NoGame round) = codes "note round " ++ (decimal round ++ codes ": no game")
+front_text (Byes round players) = codes "note round " ++ (decimal round ++ (codes ": " ++ (decimal players ++ codes " players have the bye")))
+front_text RoundsUnknown = codes "note rounds unknown"
 
 -- the kind that a note names, or nothing
 abbrev pub kind_named : Noted → List ℕ
-kind_named (NoPlayer line number) = []
-kind_named (PlayedLast line number) = []
 kind_named (UnknownKind line kind) = kind
 kind_named (BlankBefore line kind) = kind
-kind_named (OnePlayer line) = []
-kind_named (LongName line) = []
-kind_named (EarlyPoints line) = []
-kind_named (NoResult line round) = []
-kind_named (BehindColumn line column) = []
+kind_named _ = []
 
 -- a line that ends with a kind, which is shown without its control characters
 abbrev pub kind_text : List ℕ → List ℕ → List ℕ

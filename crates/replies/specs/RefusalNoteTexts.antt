@@ -1,15 +1,23 @@
--- The line of `check --notes` beside a refusal: what was found.
-use Rattle.std.specs.Prelude.{ℕ, if◌then◌else◌, List, [], ◌++◌, codes, Option, Some, None, option_and_then, Result, Ok, Err}
+-- The lines of `check --notes` beside a refusal: what was found.
+use Rattle.std.specs.Prelude.{ℕ, nat_le, if◌then◌else◌, List, [], ◌++◌, codes, Option, Some, None, option_and_then, Result, Ok, Err}
 use Rattle.std.specs.Option.{option_map_or}
 use Rattle.std.specs.Fmt.{decimal}
-use Rattle.trf16.specs.Prelude.{Sheet, verdict_unsummed}
+use Rattle.trf16.specs.Prelude.{Sheet, unfinished, verdict_unsummed}
+use Rattle.trf16.specs.declared.fault.Excess.TheVariants.{Players, Rounds}
 use Rattle.trf16.specs.declared.fault.Fault.{Fault}
-use Rattle.trf16.specs.declared.fault.Fault.TheVariants.{Points}
-use Rattle.report_notes.specs.RefusalNotes.{columns_of, fits_in_bytes, held, line_of, sums_among}
+use Rattle.trf16.specs.declared.fault.Fault.TheVariants.{BadExtension, TooMany, NoPlayers, NoSuchOpponent, NotMutual, Points}
+use Rattle.trf16.specs.declared.limits.TheConstants.{MOST_ROUNDS}
+use Rattle.report_notes.specs.RefusalNotes.{byte_order, cell_held, columns_of, extension_at, first_kind_note, fits_in_bytes, held, line_of}
+use Rattle.report_notes.specs.RefusalNotes.{opponent_held, sums_among}
+use Rattle.report_notes.specs.declared.encoding.ByteOrder.{ByteOrder}
+use Rattle.report_notes.specs.declared.encoding.ByteOrder.TheVariants.{Little, Big}
+use Rattle.report_notes.specs.declared.extension.Extension.{Extension}
+use Rattle.report_notes.specs.declared.extension.Extension.TheVariants.{Xxr, Xxc, Xxz, Xxp}
 use Rattle.report_notes.specs.declared.refusal.Columns.{Columns}
 use Rattle.report_notes.specs.declared.refusal.Sums.{Sums}
 use Rattle.refusals.specs.Texts.{fault_text}
 use Rattle.replies.specs.Controls.{without_controls}
+use Rattle.replies.specs.NoteTexts.{note_text}
 use Rattle.replies.specs.Statuses.{Answer}
 use Rattle.replies.specs.Texts.{halves_text}
 
@@ -34,7 +42,7 @@ line_in_bytes fault input bye = option_and_then (λ line. if fits_in_bytes input
 
 -- a refusal of a line: that the line fits if columns are bytes, or else what the columns hold that the refusal is about
 abbrev pub line_note : Fault → List ℕ → ℕ → List ℕ
-line_note fault input bye = option_map_or bytes_text (line_in_bytes fault input bye) (held_text (columns_of fault) input)
+line_note fault input bye = option_map_or bytes_text (line_in_bytes fault input bye) (held_text (columns_of fault input) input)
 
 -- ---- points
 
@@ -44,18 +52,76 @@ sums_text sums =
     codes "note player " ++ (decimal sums.player ++ (codes ": points field " ++ (halves_text sums.field ++ (codes ", rounds paired "
     ++ (halves_text sums.paired ++ (codes ", all rounds " ++ (halves_text sums.all ++ codes "\n")))))))
 
--- a refusal of a player's points, by the verdict in which no points field is compared: their field and sums, or why the report would be
--- refused next
+-- the first game without a result, if there is one
+unfoldable pub unfinished_text : Option (ℕ × ℕ) → List ℕ
+unfinished_text None = []
+unfinished_text (Some game) = codes "note player " ++ (decimal game.0 ++ (codes " round " ++ (decimal game.1 ++ codes " has no result\n")))
+
+-- a refusal of a player's points, by the verdict in which no points field is compared: their field and sums, and then the first game without
+-- a result; or why the report would be refused next
 abbrev pub points_note : ℕ → Result Sheet Fault → List ℕ
-points_note player (Ok sheet) = option_map_or sums_text (sums_among sheet sheet.players player) []
+points_note player (Ok sheet) = option_map_or sums_text (sums_among sheet sheet.players player) [] ++ unfinished_text (unfinished sheet)
 points_note player (Err fault) = codes "note then " ++ fault_text fault
+
+-- ---- the text
+
+-- a text in UTF-16
+abbrev pub order_text : ByteOrder → List ℕ
+order_text Little = codes "note bytes 1 and 2 are FF FE: this is UTF-16, save it as UTF-8\n"
+order_text Big = codes "note bytes 1 and 2 are FE FF: this is UTF-16, save it as UTF-8\n"
+
+-- the first line of a text that is not read for its kind, or else something else
+abbrev pub kind_or : List ℕ → List ℕ → List ℕ
+kind_or input other = option_map_or note_text (first_kind_note input) other
+
+-- what the lines of two players hold of a round, of whom the second is named by the first
+unfoldable pub front_of_cell : ℕ → ℕ → List ℕ
+front_of_cell player round = codes "note player " ++ (decimal player ++ (codes " round " ++ (decimal round ++ codes ": \"")))
+
+unfoldable pub front_of_answer : ℕ → List ℕ
+front_of_answer opponent = codes "\", player " ++ (decimal opponent ++ codes ": \"")
+
+abbrev pub cells_text : List ℕ → ℕ → ℕ → List ℕ
+cells_text input player round =
+    let opponent = opponent_held input player round in
+    front_of_cell player round ++ (without_controls (cell_held input player round) ++ (front_of_answer opponent
+    ++ (without_controls (cell_held input opponent round) ++ codes "\"\n")))
+
+-- the same, where there can be such a round
+abbrev pub cells_note : List ℕ → ℕ → ℕ → List ℕ
+cells_note input player round = if nat_le round MOST_ROUNDS then cells_text input player round else []
+
+-- what an extension wants
+abbrev pub wanted_text : Extension → List ℕ
+wanted_text Xxr = codes "XXR wants one number of rounds\n"
+wanted_text Xxc = codes "XXC wants white1 or black1, and rank if you like\n"
+wanted_text Xxz = codes "XXZ wants numbers from 1 to 9999 with blanks between them\n"
+wanted_text Xxp = codes "XXP wants numbers from 1 to 9999 with blanks between them\n"
+
+-- what the extension of a line wants
+unfoldable pub extension_text : ℕ → Extension → List ℕ
+extension_text line extension = codes "note line " ++ (decimal line ++ (codes ": " ++ wanted_text extension))
+
+-- the same of a line of a text, if its kind is one of these
+abbrev pub extension_note : List ℕ → ℕ → List ℕ
+extension_note input line = option_map_or (extension_text line) (extension_at input line) []
 
 -- ---- a refusal
 
--- what was found behind a refusal of a report in which the pairing-allocated bye gives so many half points: a line, or nothing
+-- what was found behind a refusal of a report that is no UTF-16
+abbrev pub found : Fault → List ℕ → ℕ → List ℕ
+found (Points player) input bye = points_note player (verdict_unsummed input bye)
+found (BadExtension line) input bye = extension_note input line
+found (NotMutual player round) input bye = kind_or input (cells_note input player round)
+found (NoSuchOpponent player round) input bye = kind_or input []
+found (TooMany Players) input bye = kind_or input []
+found (TooMany Rounds) input bye = kind_or input []
+found NoPlayers input bye = kind_or input []
+found fault input bye = line_note fault input bye
+
+-- what was found behind a refusal of a report in which the pairing-allocated bye gives so many half points: its lines, or nothing
 abbrev pub refusal_note : Fault → List ℕ → ℕ → List ℕ
-refusal_note (Points player) input bye = points_note player (verdict_unsummed input bye)
-refusal_note fault input bye = line_note fault input bye
+refusal_note fault input bye = option_map_or order_text (byte_order input) (found fault input bye)
 
 -- an answer with a note
 abbrev pub with_note : Answer → List ℕ → Answer

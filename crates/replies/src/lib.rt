@@ -9,8 +9,10 @@
 //! To mind: a text is made whole in memory before a byte of it is written, and if memory is refused, a call says so.
 #![tactic(auto)]
 
+mod cells_note;
 pub mod check;
 mod controls;
+mod extension_note;
 pub mod format;
 mod games;
 mod input;

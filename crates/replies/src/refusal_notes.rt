@@ -1,21 +1,26 @@
-// The line of `check --notes` beside a refusal: what was found.
+// The lines of `check --notes` beside a refusal: what was found.
 ghost use Rattle.std.specs.Prelude.{◌≡◌, ◌≢◌, ◌≤◌, ◌++◌, IfOk, Err, Ok, codes, string_bytes};
 ghost use Rattle.trf16.specs.Prelude.{verdict_unsummed};
 ghost use Rattle.report_notes.specs.RefusalNotes.{alone_in_bytes, are_lines_read, fits_in_bytes};
 ghost use Rattle.replies.specs.RefusalNoteTexts.{bytes_text, columns_text, held_text, line_in_bytes, line_note};
-ghost use Rattle.replies.specs.RefusalNoteTexts.{points_note, refusal_note, sums_text, with_note};
+ghost use Rattle.replies.specs.RefusalNoteTexts.{found, kind_or, order_text, points_note, refusal_note, sums_text};
+ghost use Rattle.replies.specs.RefusalNoteTexts.{unfinished_text, with_note};
 ghost use Rattle.replies.specs.Replies.{answer_of};
 ghost use Rattle.replies.specs.Statuses.{refusal};
 ghost use Rattle.refusals.specs.Texts.{fault_text};
 
+use crate::cells_note::cells_note;
 use crate::controls::without_controls;
+use crate::extension_note::extension_note;
+use crate::notes::put_note;
 use crate::points::HalfPoints;
 use crate::reply::{Reply, Status, Text};
 use report_notes::{
-    Columns, Sums, are_lines_read, columns_of, has_characters, held, line_in, line_of, sums_of,
+    ByteOrder, Columns, Sums, are_lines_read, byte_order, columns_of, first_kind_note,
+    has_characters, held, line_in, line_of, sums_of,
 };
 use std::alloc::{AllocError, Global};
-use trf16::{Fault, Report};
+use trf16::{Excess, Fault, Report};
 
 /// Why a report that stands in some bytes is refused, and as a note what was found.
 pub fn refused_with_note(
@@ -36,15 +41,56 @@ pub fn refused_with_note(
     })
 }
 
-// What was found: a line, or nothing.
+// What was found: some lines, or nothing.
 fn refusal_note(alloc: Global, fault: Fault, bytes: &[u8], bye: u16) -> Result<Vec<u8>, AllocError>
     requires { bye ≤ 2 }
     ensures { IfOk result (λ note. note.items ≡ refusal_note fault bytes.now bye) }
 {
+    match byte_order(bytes) {
+        Some(order) => Vec::from_slice(alloc, order_text(order).as_bytes()),
+        None => found(alloc, fault, bytes, bye),
+    }
+}
+
+// The text is UTF-16.
+fn order_text(order: ByteOrder) -> &'static str
+    ensures { result.now ≡ order_text order }
+{
+    match order {
+        ByteOrder::Little => "note bytes 1 and 2 are FF FE: this is UTF-16, save it as UTF-8\n",
+        ByteOrder::Big => "note bytes 1 and 2 are FE FF: this is UTF-16, save it as UTF-8\n",
+    }
+}
+
+// The same of a text that is no UTF-16.
+fn found(alloc: Global, fault: Fault, bytes: &[u8], bye: u16) -> Result<Vec<u8>, AllocError>
+    requires { bye ≤ 2 }
+    ensures { IfOk result (λ note. note.items ≡ found fault bytes.now bye) }
+{
     match fault {
         Fault::Points { player } => points_note(alloc, player, bytes, bye),
+        Fault::BadExtension { line } => extension_note(alloc, bytes, line),
+        Fault::NotMutual { player, round } => {
+            let cells = cells_note(alloc, bytes, player, round)?;
+            kind_or(alloc, bytes, cells)
+        }
+        Fault::NoSuchOpponent { .. }
+        | Fault::TooMany(Excess::Players | Excess::Rounds)
+        | Fault::NoPlayers => kind_or(alloc, bytes, Vec::new(alloc)),
         _ => line_note(alloc, fault, bytes, bye),
     }
+}
+
+// The first line of a text that is not read for its kind, or else another note.
+fn kind_or(alloc: Global, bytes: &[u8], other: Vec<u8>) -> Result<Vec<u8>, AllocError>
+    ensures { IfOk result (λ note. note.items ≡ kind_or bytes.now other.items) }
+{
+    let Some(note) = first_kind_note(bytes) else {
+        return Ok(other);
+    };
+    let mut text = Vec::new(alloc);
+    put_note(alloc, &mut text, note)?;
+    Ok(text)
 }
 
 // What was found where a player's points are refused.
@@ -59,13 +105,29 @@ fn points_note(alloc: Global, player: u16, bytes: &[u8], bye: u16) -> Result<Vec
     }
 }
 
-// The points field of a player, and the sums that it was compared with.
+// The points field of a player, the sums that it was compared with, and the first game without a result.
 fn sums_note(alloc: Global, report: &Report<'_>, player: u16) -> Result<Vec<u8>, AllocError>
     ensures { IfOk result (λ note. note.items ≡ points_note player (Ok report.now)) }
 {
-    match sums_of(report, player) {
-        Some(sums) => Ok(sums_text(alloc, sums)?.into_bytes()),
-        None => Ok(Vec::new(alloc)),
+    let mut note = match sums_of(report, player) {
+        Some(sums) => sums_text(alloc, sums)?.into_bytes(),
+        None => Vec::new(alloc),
+    };
+    let unfinished = unfinished_text(alloc, report.unfinished())?;
+    note.extend_from_slice(unfinished.as_bytes())?;
+    Ok(note)
+}
+
+// The first game without a result, if there is one.
+#[tactic(auto, unfolding(crate::specs::RefusalNoteTexts::unfinished_text))]
+fn unfinished_text(alloc: Global, game: Option<(u16, usize)>) -> Result<String, AllocError>
+    ensures { IfOk result (λ text. string_bytes text ≡ unfinished_text game) }
+{
+    match game {
+        Some((player, round)) => {
+            format!(in alloc; "note player {player} round {round} has no result\n")
+        }
+        None => Ok(String::new(alloc)),
     }
 }
 
@@ -98,7 +160,7 @@ fn line_note(alloc: Global, fault: Fault, bytes: &[u8], bye: u16) -> Result<Vec<
 {
     match line_in_bytes(alloc, fault, bytes, bye)? {
         Some(line) => Ok(bytes_text(alloc, line)?.into_bytes()),
-        None => held_text(alloc, columns_of(fault), bytes),
+        None => held_text(alloc, columns_of(fault, bytes), bytes),
     }
 }
 

@@ -1,3 +1,4 @@
-pub mod GameLemmas
-pub mod NotedRounds
+pub mod RoundLemmas
 mod AloneLemmas
+mod PairedRounds
+mod NotedResults

@@ -1,24 +1,16 @@
--- What of an accepted report looks like a mistake, line by line.
-use Rattle.std.specs.Prelude.{ℕ, ◌+◌, ◌*◌, Bool, true, false, not, ◌==◌, if◌then◌else◌, List, [], ◌∷◌, ◌++◌, map, drop, codes, Option, Some, None}
+-- What of an accepted report looks like a mistake: line by line, and then round by round.
+use Rattle.std.specs.Prelude.{ℕ, ◌+◌, ◌*◌, Bool, true, false, not, ◌==◌, nat_le, if◌then◌else◌, List, [], ◌∷◌, ◌++◌, map, drop, length, codes, Option, Some, None, option_and_then}
 use Rattle.std.specs.List.{list_all, list_any}
 use Rattle.std.specs.Option.{option_map_or}
 use Rattle.std.specs.Str.{byte}
 use Rattle.trf16.specs.Prelude.{without_marks, lines, columns, joined, text, is_blank, words, number_of, without_blanks, is_kind, is_word, words_of, Sheet, known, rounds_played, is_player, player_of}
-use Rattle.report_notes.specs.Games.{start_in, unfinished_behind, played_last, counts_to_come}
-
--- one thing that looks like a mistake, and its line: a number that no player has; that of a player who is absent from now on and played the
--- last round; a kind that is not known; a blank before a kind; a line XXP that names one player; a name that runs into column 48; points
--- that count a round to come; a round of a player that has no result; something behind the columns of the next round, and the last of these
-pub data Noted : Type 0 where
-  NoPlayer : ℕ → ℕ → Noted
-  PlayedLast : ℕ → ℕ → Noted
-  UnknownKind : ℕ → List ℕ → Noted
-  BlankBefore : ℕ → List ℕ → Noted
-  OnePlayer : ℕ → Noted
-  LongName : ℕ → Noted
-  EarlyPoints : ℕ → Noted
-  NoResult : ℕ → ℕ → Noted
-  BehindColumn : ℕ → ℕ → Noted
+use Rattle.report_notes.specs.Games.{start_in, played_last, counts_to_come}
+use Rattle.report_notes.specs.Noted.{Noted, NoPlayer, PlayedLast, UnknownKind, BlankBefore, OnePlayer, ManyRounds, BeforeName, LongName, RatingAbove, EarlyPoints, InRound, BehindColumn}
+use Rattle.report_notes.specs.PlayerRounds.{of_rounds_behind, round_notes}
+use Rattle.report_notes.specs.Ratings.{rated_above}
+use Rattle.report_notes.specs.Rounds.{report_rounds_notes, total_notes}
+use Rattle.report_notes.specs.declared.note.RoundNote.{RoundNote}
+use Rattle.report_notes.specs.declared.ratings.RatedAbove.{RatedAbove}
 
 -- a kind is known: it is read, it refuses a command, or it is one of TRF16's that are carried
 unfoldable pub is_known : List ℕ → Bool
@@ -68,11 +60,21 @@ names_one (word ∷ rest) = option_map_or (λ number. are_all number rest) (numb
 abbrev pub name_notes : Sheet → ℕ → List (List ℕ) → Bool → List Noted
 name_notes sheet n names alone = map (NoPlayer n) (strangers sheet names) ++ (if alone then OnePlayer n ∷ [] else [])
 
+-- a note, where a test holds
+abbrev pub note_if : Bool → Noted → List Noted
+note_if false note = []
+note_if true note = note ∷ []
+
+-- a line XXR names at least as many rounds as there are players, though nobody has as many opponents
+abbrev pub has_many_rounds : Sheet → Bool
+has_many_rounds sheet = option_map_or (λ total. nat_le (length sheet.players) total) sheet.total false
+
 -- line n, of a kind that is known
 abbrev pub extension_notes : Sheet → ℕ → List (List ℕ) → List Noted
 extension_notes sheet n line =
     if is_kind (codes "XXZ") line then absent_notes sheet n (words_of line)
-    else (if is_kind (codes "XXP") line then name_notes sheet n (words_of line) (names_one (words_of line)) else [])
+    else (if is_kind (codes "XXP") line then name_notes sheet n (words_of line) (names_one (words_of line))
+    else (if is_kind (codes "XXR") line then note_if (has_many_rounds sheet) (ManyRounds n) else []))
 
 -- line n, which is carried: nothing where it is blank
 abbrev pub carried_notes : Sheet → ℕ → List ℕ → List Noted
@@ -82,10 +84,9 @@ carried_notes sheet n line =
     else (if begins_blank line then BlankBefore n (kind_in sheet.utf8 line) ∷ []
     else extension_notes sheet n (columns sheet.utf8 line)))
 
--- a note, where a test holds
-abbrev pub note_if : Bool → Noted → List Noted
-note_if false note = []
-note_if true note = note ∷ []
+-- column 14, between title and name, is not blank
+abbrev pub stands_before_name : List (List ℕ) → Bool
+stands_before_name line = not (is_blank (text line 14 14))
 
 -- column 48, between name and rating, is not blank
 abbrev pub name_runs_on : List (List ℕ) → Bool
@@ -99,21 +100,29 @@ last_column sheet = 101 + 10 * rounds_played sheet
 abbrev pub goes_on_behind : Sheet → List (List ℕ) → Bool
 goes_on_behind sheet line = not (is_blank (joined (drop (last_column sheet) line)))
 
--- the cells of a player's line, line n: each round in which the game has no result; that something stands behind the columns of the next
--- round
+-- the rounds of a player behind a given one, in line n
+abbrev pub rounds_notes : Sheet → ℕ → ℕ → ℕ → List Noted
+rounds_notes sheet n start before = of_rounds_behind (λ round. map (InRound n round) (round_notes sheet start round)) sheet before
+
+-- the cells of a player's line, line n: its rounds, and that something stands behind the columns of the next round
 abbrev pub cells_notes : Sheet → ℕ → List (List ℕ) → List Noted
-cells_notes sheet n line =
-    map (NoResult n) (unfinished_behind sheet (start_in line) 0)
-    ++ note_if (goes_on_behind sheet line) (BehindColumn n (last_column sheet))
+cells_notes sheet n line = rounds_notes sheet n (start_in line) 0 ++ note_if (goes_on_behind sheet line) (BehindColumn n (last_column sheet))
 
 -- the points field in a player's line counts a round to come
 abbrev pub points_come_early : Sheet → List (List ℕ) → Bool
 points_come_early sheet line = option_map_or (counts_to_come sheet) (player_of sheet.players (start_in line)) false
 
+-- that a late entry's rating is above that of another player, if it is
+abbrev pub rating_notes : ℕ → Option RatedAbove → List Noted
+rating_notes n None = []
+rating_notes n (Some above) = RatingAbove n above.rating above.player ∷ []
+
 -- line n, of the kind 001, in the order of its columns
 abbrev pub player_notes : Sheet → ℕ → List (List ℕ) → List Noted
 player_notes sheet n line =
-    note_if (name_runs_on line) (LongName n) ++ (note_if (points_come_early sheet line) (EarlyPoints n) ++ cells_notes sheet n line)
+    note_if (stands_before_name line) (BeforeName n) ++ (note_if (name_runs_on line) (LongName n)
+    ++ (rating_notes n (option_and_then (rated_above sheet) (player_of sheet.players (start_in line)))
+    ++ (note_if (points_come_early sheet line) (EarlyPoints n) ++ cells_notes sheet n line)))
 
 -- line n
 abbrev pub line_notes : Sheet → ℕ → List ℕ → List Noted
@@ -124,6 +133,6 @@ abbrev pub notes_from : Sheet → ℕ → List (List ℕ) → List Noted
 notes_from sheet n [] = []
 notes_from sheet n (line ∷ rest) = line_notes sheet n line ++ notes_from sheet (n + 1) rest
 
--- all that looks like a mistake in the bytes of a report
+-- all that looks like a mistake in the bytes of a report: line by line, then round by round, and then the number of rounds
 abbrev pub notes_of : Sheet → List ℕ → List Noted
-notes_of sheet bytes = notes_from sheet 1 (lines (without_marks bytes))
+notes_of sheet bytes = notes_from sheet 1 (lines (without_marks bytes)) ++ (report_rounds_notes sheet 0 ++ total_notes sheet)

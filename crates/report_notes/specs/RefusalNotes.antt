@@ -1,12 +1,20 @@
--- What stands where a report is refused: what the columns hold that a refusal is about, whether they were counted in bytes, and the sums
--- that a points field was compared with.
-use Rattle.std.specs.Prelude.{ℕ, ◌+◌, ◌-◌, ◌*◌, ◌/◌, Bool, true, false, ◌&&◌, nat_le, nat_lt, if◌then◌else◌, List, [], ◌∷◌, ◌++◌, sum_by, take, slice_index_or, Option, Some, None, option_map, option_and_then, Result, Err}
+-- What stands where a report is refused: what the columns hold that a refusal is about, whether they were counted in bytes, the sums that a
+-- points field was compared with, how the text is encoded, lines whose kinds are not read, and the cells of two who do not name each other.
+use Rattle.std.specs.Prelude.{ℕ, ◌+◌, ◌-◌, ◌*◌, ◌/◌, Bool, true, false, not, ◌&&◌, ◌||◌, ◌==◌, nat_le, nat_lt, if◌then◌else◌, List, [], ◌∷◌, ◌++◌, codes, sum_by, take, slice_index_or, Option, Some, None, option_map, option_and_then, Result, Err}
+use Rattle.std.specs.Option.{option_map_or}
 use Rattle.std.specs.Str.{byte, is_utf8}
-use Rattle.trf16.specs.Prelude.{without_marks, lines, columns, text, player_of, Entry, Sheet, half_points, rounds_played, verdict_unsummed}
+use Rattle.trf16.specs.Prelude.{without_marks, lines, columns, text, is_blank, is_kind, is_player, number_in, words, player_of, Entry, Sheet, half_points, rounds_played, verdict_unsummed}
 use Rattle.trf16.specs.declared.fault.Excess.TheVariants.{Bytes}
 use Rattle.trf16.specs.declared.fault.Fault.{Fault}
 use Rattle.trf16.specs.declared.fault.Fault.TheVariants.{BadNumber, Duplicate, Misaligned, BadCell, BadExtension, TooMany}
 use Rattle.trf16.specs.declared.limits.TheConstants.{MOST_ROUNDS, LAST_COLUMN}
+use Rattle.report_notes.specs.Games.{start_in}
+use Rattle.report_notes.specs.Noted.{Noted, UnknownKind, BlankBefore}
+use Rattle.report_notes.specs.Notes.{begins_blank, is_known, kind_in}
+use Rattle.report_notes.specs.declared.encoding.ByteOrder.{ByteOrder}
+use Rattle.report_notes.specs.declared.encoding.ByteOrder.TheVariants.{Little, Big}
+use Rattle.report_notes.specs.declared.extension.Extension.{Extension}
+use Rattle.report_notes.specs.declared.extension.Extension.TheVariants.{Xxr, Xxc, Xxz, Xxp}
 use Rattle.report_notes.specs.declared.refusal.Columns.{Columns}
 use Rattle.report_notes.specs.declared.refusal.Sums.{Sums}
 
@@ -27,15 +35,25 @@ columns_around line column =
     else (if nat_lt column 92 then record { line = line; first = 81; last = 91 }
     else record { line = line; first = 92 + 10 * ((column - 92) / 10); last = 101 + 10 * ((column - 92) / 10) })
 
--- the columns that a refusal is about, where it is about a cell or a column that must be blank
-abbrev pub columns_of : Fault → Option Columns
-columns_of (BadCell line round) = if nat_le round MOST_ROUNDS then Some (cell_columns line round) else None
-columns_of (Misaligned line column) = if nat_le column LAST_COLUMN then Some (columns_around line column) else None
-columns_of fault = None
+-- the columns of a line of a text
+abbrev pub columns_in : List ℕ → ℕ → List (List ℕ)
+columns_in bytes n = columns (is_utf8 (without_marks bytes)) (line_in bytes n)
+
+-- the number field that is at fault in a player's line: the start rank, or where one stands there the points
+abbrev pub number_columns : List ℕ → ℕ → Columns
+number_columns bytes line =
+    if start_in (columns_in bytes line) == 0 then record { line = line; first = 5; last = 8 } else record { line = line; first = 81; last = 84 }
+
+-- the columns that a refusal is about, where it is about a number, a cell or a column that must be blank
+abbrev pub columns_of : Fault → List ℕ → Option Columns
+columns_of (BadNumber line) bytes = Some (number_columns bytes line)
+columns_of (BadCell line round) bytes = if nat_le round MOST_ROUNDS then Some (cell_columns line round) else None
+columns_of (Misaligned line column) bytes = if nat_le column LAST_COLUMN then Some (columns_around line column) else None
+columns_of fault bytes = None
 
 -- what some columns of a text hold; columns past the line's end are missing
 abbrev pub held : List ℕ → Columns → List ℕ
-held bytes place = text (columns (is_utf8 (without_marks bytes)) (line_in bytes place.line)) place.first place.last
+held bytes place = text (columns_in bytes place.line) place.first place.last
 
 -- ---- columns that were counted in bytes
 
@@ -78,3 +96,61 @@ sums_of sheet entry = option_map (λ points. record {
 -- the same of the player with a start rank, of some
 abbrev pub sums_among : Sheet → List Entry → ℕ → Option Sums
 sums_among sheet entries start = option_and_then (sums_of sheet) (player_of entries start)
+
+-- ---- the encoding
+
+-- which byte order a text in UTF-16 has, by the two bytes at its front
+abbrev pub byte_order : List ℕ → Option ByteOrder
+byte_order (a ∷ b ∷ rest) =
+    if (a == 0xFF) && (b == 0xFE) then Some Little else (if (a == 0xFE) && (b == 0xFF) then Some Big else None)
+byte_order _ = None
+
+-- ---- kinds
+
+-- line n, if it is no player's and not blank: that its kind is not known, or else that blanks stand before it
+abbrev pub kind_note : Bool → ℕ → List ℕ → Option Noted
+kind_note utf8 n line =
+    if is_player (columns utf8 line) || is_blank line then None
+    else (if not (is_known (kind_in utf8 line)) then Some (UnknownKind n (kind_in utf8 line))
+    else (if begins_blank line then Some (BlankBefore n (kind_in utf8 line)) else None))
+
+-- the same of the first of some lines of which it is so, where the first line is line n
+abbrev pub kind_note_from : Bool → ℕ → List (List ℕ) → Option Noted
+kind_note_from utf8 n [] = None
+kind_note_from utf8 n (line ∷ rest) = option_map_or (λ note. Some note) (kind_note utf8 n line) (kind_note_from utf8 (n + 1) rest)
+
+-- the same of the lines of a text
+abbrev pub first_kind_note : List ℕ → Option Noted
+first_kind_note bytes = kind_note_from (is_utf8 (without_marks bytes)) 1 (lines (without_marks bytes))
+
+-- ---- two cells
+
+-- the first of some lines that is a player's with a start rank; nothing where none is
+abbrev pub line_with : Bool → ℕ → List (List ℕ) → List ℕ
+line_with utf8 start [] = []
+line_with utf8 start (line ∷ rest) =
+    if is_player (columns utf8 line) && (start_in (columns utf8 line) == start) then line else line_with utf8 start rest
+
+-- some columns of a player's line
+abbrev pub player_columns : List ℕ → ℕ → ℕ → ℕ → List ℕ
+player_columns bytes start first last =
+    let utf8 = is_utf8 (without_marks bytes) in
+    text (columns utf8 (line_with utf8 start (lines (without_marks bytes)))) first last
+
+-- what a player's line holds of a round: opponent, colour and result
+abbrev pub cell_held : List ℕ → ℕ → ℕ → List ℕ
+cell_held bytes start round = player_columns bytes start (82 + 10 * round) (89 + 10 * round)
+
+-- the opponent whom it names in a round; 0 where it names none
+abbrev pub opponent_held : List ℕ → ℕ → ℕ → ℕ
+opponent_held bytes start round = option_map_or (λ n. n) (number_in (words (player_columns bytes start (82 + 10 * round) (85 + 10 * round)))) 0
+
+-- ---- extensions
+
+-- the kind of line n, if it is one of an extension that is read
+abbrev pub extension_at : List ℕ → ℕ → Option Extension
+extension_at bytes n =
+    if is_kind (codes "XXR") (columns_in bytes n) then Some Xxr
+    else (if is_kind (codes "XXC") (columns_in bytes n) then Some Xxc
+    else (if is_kind (codes "XXZ") (columns_in bytes n) then Some Xxz
+    else (if is_kind (codes "XXP") (columns_in bytes n) then Some Xxp else None)))

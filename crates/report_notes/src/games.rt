@@ -1,24 +1,8 @@
-// The games of a player: those without a result, and that of the last round.
-ghost use Rattle.std.specs.Prelude.{◌≡◌, ◌∷◌, [], MatchOption};
-ghost use Rattle.report_notes.specs.Games.{is_played, played_last, unfinished_behind};
+// The games of a player: that of the last round.
+ghost use Rattle.std.specs.Prelude.{◌≡◌};
+ghost use Rattle.report_notes.specs.Games.{is_played, played_last};
 
-use trf16::{Cell, Report, is_unfinished};
-
-/// The first round behind a given one in which the game of a player has no result.
-pub(crate) fn next_unfinished(report: &Report<'_>, start: u16, before: u8) -> Option<u8>
-    ensures first { MatchOption result (unfinished_behind report.now start before ≡ [])
-        (λ round. unfinished_behind report.now start before ≡ round ∷ unfinished_behind report.now start round) }
-{
-    let rounds = report.rounds_played();
-    let mut round = before;
-    while round < rounds {
-        round += 1;
-        if is_unfinished(&report.cell(start, round)) {
-            return Some(round);
-        }
-    }
-    None
-}
+use trf16::{Cell, Report};
 
 // A game that was played, and no forfeit.
 fn is_played(cell: &Cell) -> bool

@@ -12,6 +12,11 @@
 //! says, by the players of this report.
 #![tactic(auto)]
 
+mod closing;
+mod encoding;
+mod extension;
+mod fields;
+mod first_kind;
 mod games;
 mod kinds;
 pub mod laws;
@@ -20,14 +25,23 @@ mod names;
 mod note;
 mod place;
 mod player_line;
+mod player_round;
+mod player_rounds;
 mod points;
+mod ratings;
 mod refusal;
+mod rounds;
+mod two_cells;
 mod walk;
 
-pub use note::Note;
+pub use encoding::{ByteOrder, byte_order};
+pub use extension::{Extension, extension_at};
+pub use first_kind::first_kind_note;
+pub use note::{Note, RoundNote};
 pub use place::Place;
 pub use refusal::{
     Columns, Sums, are_lines_read, columns_of, has_characters, held, line_alone_has_bytes, line_in,
     line_of, sums_of,
 };
+pub use two_cells::{cell_held, opponent_held};
 pub use walk::next_note;

@@ -1,7 +1,7 @@
 // What of one line looks like a mistake.
-ghost use Rattle.std.specs.Prelude.{◌≡◌, ℕ, ◌∷◌, [], MatchOption};
+ghost use Rattle.std.specs.Prelude.{◌≡◌, ◌∷◌, [], MatchOption};
 ghost use Rattle.trf16.specs.Prelude.{columns};
-ghost use Rattle.report_notes.specs.Notes.{carried_notes, extension_notes, line_notes};
+ghost use Rattle.report_notes.specs.Notes.{carried_notes, extension_notes, has_many_rounds, line_notes};
 ghost use Rattle.report_notes.specs.NoteOf.{left_notes, noted};
 
 use crate::kinds::{begins_blank, is_known, kind_in};
@@ -98,14 +98,13 @@ fn carried_left<'a>(report: &Report<'_>, n: usize, line: &'a [u8]) -> Left<'a>
     } else if begins_blank(line) {
         Left::One(Note::BlankBefore { line: n, kind })
     } else {
-        extension_left(report, line)
+        extension_left(report, n, line)
     }
 }
 
-// The same of a line of a known kind: what `XXZ` and `XXP` name.
-fn extension_left<'a>(report: &Report<'_>, line: &'a [u8]) -> Left<'a>
-    ensures { (n : ℕ) → left_notes report.now n result
-        ≡ extension_notes report.now n (columns report.now.utf8 line.now) }
+// The same of a line of a known kind: what `XXZ` and `XXP` name, and how many rounds `XXR`.
+fn extension_left<'a>(report: &Report<'_>, n: usize, line: &'a [u8]) -> Left<'a>
+    ensures { left_notes report.now n result ≡ extension_notes report.now n (columns report.now.utf8 line.now) }
 {
     let (kind, names) = split_kind(line, report.is_utf8());
     if is_word(kind, b"XXZ") {
@@ -113,7 +112,19 @@ fn extension_left<'a>(report: &Report<'_>, line: &'a [u8]) -> Left<'a>
     } else if is_word(kind, b"XXP") {
         let alone = names_one(names);
         Left::Names { names, alone }
+    } else if is_word(kind, b"XXR") && has_many_rounds(report) {
+        Left::One(Note::ManyRounds { line: n })
     } else {
         Left::Nothing
+    }
+}
+
+// Whether a line `XXR` names at least as many rounds as there are players.
+fn has_many_rounds(report: &Report<'_>) -> bool
+    ensures { result ≡ has_many_rounds report.now }
+{
+    match report.total_rounds() {
+        Some(total) => report.players().len() <= usize::from(total),
+        None => false,
     }
 }

@@ -1,6 +1,7 @@
 // A place in the text of a report, in front of some of its notes.
 ghost use Rattle.std.specs.Prelude.{◌+◌, ◌<◌, ◌^◌, length};
 
+use crate::closing::ClosingLeft;
 use crate::line::Left;
 
 /// A place in front of some notes of a report.
@@ -12,5 +13,7 @@ pub struct Place<'a> {
     pub(crate) line: usize,
     // what is still to be told of it
     pub(crate) left: Left<'a>,
+    // what is still to be told behind all lines
+    pub(crate) closing: ClosingLeft,
     ghost few: { line + length text.now < 2 ^ 64 },
 }

@@ -1,20 +1,27 @@
 // What of a player's line looks like a mistake.
-ghost use Rattle.std.specs.Prelude.{◌≡◌, ℕ, ◌∷◌, [], MatchOption};
-ghost use Rattle.trf16.specs.Prelude.{columns, number_in, words};
-ghost use Rattle.report_notes.specs.Games.{start_in};
+ghost use Rattle.std.specs.Prelude.{◌≡◌, ℕ, ◌∷◌, [], MatchOption, option_and_then};
+ghost use Rattle.trf16.specs.Prelude.{columns, player_of};
 ghost use Rattle.report_notes.specs.Notes.{goes_on_behind, last_column, name_runs_on, player_notes};
+ghost use Rattle.report_notes.specs.Ratings.{rated_above};
+ghost use Rattle.report_notes.specs.Notes.{stands_before_name};
 ghost use Rattle.report_notes.specs.NoteOf.{cells_left_notes, noted, player_left_notes};
 
-use crate::games::next_unfinished;
+use crate::fields::start_in;
 use crate::note::Note;
+use crate::player_rounds::{PlayerRoundsLeft, next_of_player_rounds};
 use crate::points::counts_to_come;
-use trf16::{Report, is_blank, next_word, number_of, split_columns};
+use crate::ratings::{RatedAbove, rated_above};
+use trf16::{Report, is_blank, split_columns};
 
 /// What is left to tell of a player's line, in the order of its columns.
 #[derive(Debug, Clone, Copy)]
 pub(crate) struct PlayerLeft {
+    // whether it is that something stands in front of the name, in column 14
+    pub(crate) before_name: bool,
     // whether it is that the name runs into column 48
-    pub(crate) long: bool,
+    pub(crate) long_name: bool,
+    // a late entry's rating above that of another player
+    pub(crate) rating: Option<RatedAbove>,
     // whether it is that the points count a round to come
     pub(crate) early: bool,
     pub(crate) cells: CellsLeft,
@@ -23,10 +30,7 @@ pub(crate) struct PlayerLeft {
 /// What is left to tell of the cells of a player's line.
 #[derive(Debug, Clone, Copy)]
 pub(crate) struct CellsLeft {
-    // the player
-    pub(crate) start: u16,
-    // the round behind which it is each that has no result
-    pub(crate) before: u8,
+    pub(crate) rounds: PlayerRoundsLeft,
     // whether it is that something stands behind the columns of the next round
     pub(crate) behind: bool,
 }
@@ -40,12 +44,33 @@ pub(crate) fn next_of_player<'a>(
     ensures { MatchOption result (player_left_notes report.now n left ≡ [])
         (λ x. player_left_notes report.now n left ≡ noted x.0 ∷ player_left_notes report.now n x.1) }
 {
-    if left.long {
+    if left.before_name {
         let after = PlayerLeft {
-            long: false,
+            before_name: false,
+            ..left
+        };
+        return Some((Note::BeforeName { line: n }, after));
+    }
+    if left.long_name {
+        let after = PlayerLeft {
+            long_name: false,
             ..left
         };
         return Some((Note::LongName { line: n }, after));
+    }
+    if let Some(RatedAbove { rating, player }) = left.rating {
+        let after = PlayerLeft {
+            rating: None,
+            ..left
+        };
+        return Some((
+            Note::RatingAbove {
+                line: n,
+                rating,
+                player,
+            },
+            after,
+        ));
     }
     if left.early {
         let after = PlayerLeft {
@@ -67,12 +92,8 @@ fn next_of_cells<'a>(
     ensures { MatchOption result (cells_left_notes report.now n left ≡ [])
         (λ x. cells_left_notes report.now n left ≡ noted x.0 ∷ cells_left_notes report.now n x.1) }
 {
-    if let Some(round) = next_unfinished(report, left.start, left.before) {
-        let after = CellsLeft {
-            before: round,
-            ..left
-        };
-        return Some((Note::NoResult { line: n, round }, after));
+    if let Some((note, rounds)) = next_of_player_rounds(report, n, left.rounds) {
+        return Some((note, CellsLeft { rounds, ..left }));
     }
     if !left.behind {
         return None;
@@ -93,14 +114,23 @@ pub(crate) fn player_left(report: &Report<'_>, line: &[u8]) -> PlayerLeft
     let utf8 = report.is_utf8();
     let start = start_in(line, utf8);
     PlayerLeft {
-        long: name_runs_on(line, utf8),
+        before_name: stands_before_name(line, utf8),
+        long_name: name_runs_on(line, utf8),
+        rating: line_rated_above(report, start),
         early: counts_to_come(report, start),
         cells: CellsLeft {
-            start,
-            before: 0,
+            rounds: PlayerRoundsLeft::all(start),
             behind: goes_on_behind(report, line),
         },
     }
+}
+
+// Whether column 14 is not blank.
+fn stands_before_name(line: &[u8], utf8: bool) -> bool
+    ensures { result ≡ stands_before_name (columns utf8 line.now) }
+{
+    let (_, behind) = split_columns(line, utf8, 13);
+    !is_blank(split_columns(behind, utf8, 1).0)
 }
 
 // Whether column 48 is not blank.
@@ -111,23 +141,11 @@ fn name_runs_on(line: &[u8], utf8: bool) -> bool
     !is_blank(split_columns(behind, utf8, 1).0)
 }
 
-// The start rank in columns 5 to 8, or 0.
-fn start_in(line: &[u8], utf8: bool) -> u16
-    ensures { result ≡ start_in (columns utf8 line.now) }
+// The rating of the player with a start rank, if they come late and are rated above a player in front.
+fn line_rated_above(report: &Report<'_>, start: u16) -> Option<RatedAbove>
+    ensures { result ≡ option_and_then (rated_above report.now) (player_of report.now.players start) }
 {
-    let (_, behind) = split_columns(line, utf8, 4);
-    number_in(split_columns(behind, utf8, 4).0).unwrap_or(0)
-}
-
-// The one number of a field.
-fn number_in(field: &[u8]) -> Option<u16>
-    ensures { result ≡ number_in (words field.now) }
-{
-    let (word, rest) = next_word(field)?;
-    match next_word(rest) {
-        Some(_) => None,
-        None => number_of(word),
-    }
+    rated_above(report, report.player(start)?)
 }
 
 // The last column of the round that comes next.

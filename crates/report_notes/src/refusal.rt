@@ -6,8 +6,10 @@ ghost use Rattle.std.specs.Str.{is_utf8};
 ghost use Rattle.trf16.specs.Prelude.{columns, ends_line, lines, text, without_marks, entry_of};
 ghost use Rattle.trf16.specs.declared.limits.TheConstants.{LAST_COLUMN};
 ghost use Rattle.report_notes.specs.RefusalNotes.{alone_in_bytes, are_lines_read, columns_around, columns_of, held};
+ghost use Rattle.report_notes.specs.RefusalNotes.{number_columns};
 ghost use Rattle.report_notes.specs.RefusalNotes.{line_in, line_of, sums_among, sums_of};
 
+use crate::fields::start_in;
 use std::str;
 use trf16::{
     Excess, Fault, LAST_COLUMN, MOST_ROUNDS, Player, Report, front, next_line, skip_marks,
@@ -59,12 +61,32 @@ fn columns_around(line: usize, column: usize) -> Columns
     }
 }
 
-/// The columns that a refusal is about: opponent, colour and result of a bad cell, or a column that must be blank with
-/// what it stands between.
-pub fn columns_of(fault: Fault) -> Option<Columns>
-    ensures { result ≡ columns_of fault }
+// The number field that is at fault in a player's line: the start rank, or the points if one stands there.
+fn number_columns(bytes: &[u8], line: usize) -> Columns
+    ensures { result ≡ number_columns bytes.now line }
+{
+    if start_in(line_in(bytes, line), has_characters(bytes)) == 0 {
+        Columns {
+            line,
+            first: 5,
+            last: 8,
+        }
+    } else {
+        Columns {
+            line,
+            first: 81,
+            last: 84,
+        }
+    }
+}
+
+/// The columns that a refusal is about: a bad number; opponent, colour and result of a bad cell; or a column that must
+/// be blank with what it stands between.
+pub fn columns_of(fault: Fault, bytes: &[u8]) -> Option<Columns>
+    ensures { result ≡ columns_of fault bytes.now }
 {
     match fault {
+        Fault::BadNumber { line } => Some(number_columns(bytes, line)),
         Fault::BadCell { line, round } if round <= MOST_ROUNDS => Some(Columns {
             line,
             first: 82 + 10 * round,
@@ -101,8 +123,8 @@ pub fn line_in(bytes: &[u8], n: usize) -> &[u8]
     &[]
 }
 
-// The columns `first` to `last` of a line.
-fn columns_in(line: &[u8], utf8: bool, first: usize, last: usize) -> &[u8]
+/// The columns `first` to `last` of a line.
+pub(crate) fn columns_in(line: &[u8], utf8: bool, first: usize, last: usize) -> &[u8]
     ensures { result.now ≡ text (columns utf8 line.now) first last }
 {
     let before = first.saturating_sub(1);

@@ -5,6 +5,7 @@ ghost use Rattle.report_notes.specs.Notes.{notes_of};
 ghost use Rattle.report_notes.specs.NoteOf.{left_notes, noted};
 ghost use Rattle.report_notes.specs.Places.{coming};
 
+use crate::closing::{ClosingLeft, next_of_closing};
 use crate::line::{Left, line_left, next_left};
 use crate::note::Note;
 use crate::place::Place;
@@ -19,6 +20,7 @@ impl<'a> Place<'a> {
             text: skip_marks(bytes),
             line: 0,
             left: Left::Nothing,
+            closing: ClosingLeft::all(),
         }
     }
 
@@ -35,6 +37,7 @@ impl<'a> Place<'a> {
             text,
             line: n,
             left: line_left(report, n, line),
+            closing: self.closing,
         }
     }
 }
@@ -51,11 +54,19 @@ pub fn next_note<'a>(report: &Report<'_>, place: Place<'a>) -> Option<(Note<'a>,
                 text: at.text,
                 line: at.line,
                 left,
+                closing: at.closing,
             };
             return Some((note, after));
         }
         if at.text.is_empty() {
-            return None;
+            let (note, closing) = next_of_closing(report, at.closing)?;
+            let after = Place {
+                text: at.text,
+                line: at.line,
+                left: at.left,
+                closing,
+            };
+            return Some((note, after));
         }
         at = at.behind_line(report);
     }

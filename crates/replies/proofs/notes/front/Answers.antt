@@ -17,9 +17,17 @@ pub returns-in-PlayedLast : goal.returns-in-PlayedLast
 unfolding front_text
 returns-in-PlayedLast c = rw c.in-PlayedLast.is c.format-in-PlayedLast.ensures.ok
 
-pub returns-in-NoResult : goal.returns-in-NoResult
+pub returns-in-RatingAbove : goal.returns-in-RatingAbove
 unfolding front_text
-returns-in-NoResult c = rw c.in-NoResult.is c.format-in-NoResult.ensures.ok
+returns-in-RatingAbove c = rw c.in-RatingAbove.is c.format-in-RatingAbove.ensures.ok
+
+pub returns-in-EarlyPoints : goal.returns-in-EarlyPoints
+unfolding front_text
+returns-in-EarlyPoints c = rw c.in-EarlyPoints.is c.format-in-EarlyPoints.ensures.ok
+
+pub returns-in-InRound : goal.returns-in-InRound
+unfolding front_text
+returns-in-InRound c = rw c.in-InRound.is c.in_round.ensures
 
 pub returns-in-BehindColumn : goal.returns-in-BehindColumn
 unfolding front_text

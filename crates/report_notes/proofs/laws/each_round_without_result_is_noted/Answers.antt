@@ -1,4 +1,4 @@
-use Rattle.report_notes.proofs.NotedRounds.{each_is_noted}
+use Rattle.report_notes.proofs.NotedResults.{each_is_noted}
 use Rattle.report_notes.proofs.laws.each_round_without_result_is_noted.Goals as goal
 
 pub returns : goal.returns

@@ -1,0 +1,62 @@
+// The cells of two players of whom only the first names the other.
+ghost use Rattle.std.specs.Prelude.{◌≡◌, ◌≤◌, ◌++◌, IfOk, OnOk, string_bytes};
+ghost use Rattle.trf16.specs.declared.limits.TheConstants.{MOST_ROUNDS};
+ghost use Rattle.replies.specs.Controls.{without_controls};
+ghost use Rattle.replies.specs.RefusalNoteTexts.{cells_note, cells_text, front_of_answer, front_of_cell};
+
+use crate::controls::without_controls;
+use report_notes::{cell_held, opponent_held};
+use std::alloc::{AllocError, Global};
+use trf16::MOST_ROUNDS;
+
+/// What a player's line holds of a round, and that of the opponent whom it names; nothing if there can be no such
+/// round.
+pub(crate) fn cells_note(
+    alloc: Global,
+    bytes: &[u8],
+    player: u16,
+    round: usize,
+) -> Result<Vec<u8>, AllocError>
+    ensures { IfOk result (λ note. note.items ≡ cells_note bytes.now player round) }
+{
+    if MOST_ROUNDS < round {
+        return Ok(Vec::new(alloc));
+    }
+    cells_text(alloc, bytes, player, round)
+}
+
+// The same of a round that there can be.
+fn cells_text(alloc: Global, bytes: &[u8], player: u16, round: usize) -> Result<Vec<u8>, AllocError>
+    requires { round ≤ MOST_ROUNDS }
+    ensures { IfOk result (λ note. note.items ≡ cells_text bytes.now player round) }
+{
+    let opponent = opponent_held(bytes, player, round);
+    let mut text = front_of_cell(alloc, player, round)?.into_bytes();
+    put_shown(alloc, &mut text, cell_held(bytes, player, round))?;
+    text.extend_from_slice(front_of_answer(alloc, opponent)?.as_bytes())?;
+    put_shown(alloc, &mut text, cell_held(bytes, opponent, round))?;
+    text.extend_from_slice(b"\"\n")?;
+    Ok(text)
+}
+
+// Puts some bytes without control characters.
+fn put_shown(alloc: Global, text: &mut Vec<u8>, bytes: &[u8]) -> Result<(), AllocError>
+    ensures { OnOk result (text.new.items ≡ text.old.items ++ without_controls bytes.now) }
+{
+    let shown = without_controls(alloc, bytes)?;
+    text.extend_from_slice(shown.as_slice())
+}
+
+#[tactic(auto, unfolding(crate::specs::RefusalNoteTexts::front_of_cell))]
+fn front_of_cell(alloc: Global, player: u16, round: usize) -> Result<String, AllocError>
+    ensures { IfOk result (λ text. string_bytes text ≡ front_of_cell player round) }
+{
+    format!(in alloc; "note player {player} round {round}: \"")
+}
+
+#[tactic(auto, unfolding(crate::specs::RefusalNoteTexts::front_of_answer))]
+fn front_of_answer(alloc: Global, opponent: u16) -> Result<String, AllocError>
+    ensures { IfOk result (λ text. string_bytes text ≡ front_of_answer opponent) }
+{
+    format!(in alloc; "\", player {opponent}: \"")
+}

@@ -1,0 +1,40 @@
+// What a refused extension line wants.
+ghost use Rattle.std.specs.Prelude.{◌≡◌, IfOk, string_bytes};
+ghost use Rattle.replies.specs.RefusalNoteTexts.{extension_note, extension_text, wanted_text};
+
+use report_notes::{Extension, extension_at};
+use std::alloc::{AllocError, Global};
+
+/// What a line of a text wants, if it is of the kind of an extension that is read.
+pub(crate) fn extension_note(
+    alloc: Global,
+    bytes: &[u8],
+    line: usize,
+) -> Result<Vec<u8>, AllocError>
+    ensures { IfOk result (λ note. note.items ≡ extension_note bytes.now line) }
+{
+    match extension_at(bytes, line) {
+        Some(extension) => Ok(extension_text(alloc, line, extension)?.into_bytes()),
+        None => Ok(Vec::new(alloc)),
+    }
+}
+
+#[tactic(auto, unfolding(crate::specs::RefusalNoteTexts::extension_text))]
+fn extension_text(alloc: Global, line: usize, extension: Extension) -> Result<String, AllocError>
+    ensures { IfOk result (λ text. string_bytes text ≡ extension_text line extension) }
+{
+    let wanted = wanted_text(extension);
+    format!(in alloc; "note line {line}: {wanted}")
+}
+
+// What an extension wants.
+fn wanted_text(extension: Extension) -> &'static str
+    ensures { result.now ≡ wanted_text extension }
+{
+    match extension {
+        Extension::Xxr => "XXR wants one number of rounds\n",
+        Extension::Xxc => "XXC wants white1 or black1, and rank if you like\n",
+        Extension::Xxz => "XXZ wants numbers from 1 to 9999 with blanks between them\n",
+        Extension::Xxp => "XXP wants numbers from 1 to 9999 with blanks between them\n",
+    }
+}

@@ -1,0 +1,10 @@
+use Rattle.std.proofs.Common.{◌≡◌, ◌+◌, ◌≤◌, length}
+use Rattle.trf16.specs.Prelude.{lines}
+use Rattle.report_notes.specs.RefusalNotes.{kind_note_from}
+use Rattle.report_notes.proofs.first_kind.kind_note_in.Given as goal
+
+abbrev pub invariant-loop-rest : goal.invariant-loop-rest
+invariant-loop-rest l = (kind_note_from l.utf8 (l.n + 1) (lines l.rest) ≡ kind_note_from l.utf8 1 (lines l.text)) × (l.n + length l.rest ≤ length l.text)
+
+abbrev pub decreases-loop-rest : goal.decreases-loop-rest
+decreases-loop-rest l = length l.rest

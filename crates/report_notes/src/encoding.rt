@@ -1,0 +1,23 @@
+// Texts in UTF-16, which no report is.
+ghost use Rattle.std.specs.Prelude.{◌≡◌};
+ghost use Rattle.report_notes.specs.RefusalNotes.{byte_order};
+
+/// Which byte of two comes first in a text in UTF-16.
+#[derive(Debug, Clone, Copy, PartialEq, Eq)]
+pub enum ByteOrder {
+    /// The text begins with the bytes FF FE.
+    Little,
+    /// The text begins with the bytes FE FF.
+    Big,
+}
+
+/// The byte order of a text in UTF-16, by the mark at its front.
+pub fn byte_order(bytes: &[u8]) -> Option<ByteOrder>
+    ensures { result ≡ byte_order bytes.now }
+{
+    match bytes {
+        [0xFF, 0xFE, ..] => Some(ByteOrder::Little),
+        [0xFE, 0xFF, ..] => Some(ByteOrder::Big),
+        _ => None,
+    }
+}

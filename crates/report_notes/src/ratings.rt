@@ -1,0 +1,82 @@
+// Ratings, and a late entry's that is above that of a player with a smaller start rank.
+ghost use Rattle.std.specs.Prelude.{◌≡◌, ◌∷◌, [], min, Some};
+ghost use Rattle.std.specs.List.{cons_option, reduce};
+ghost use Rattle.trf16.specs.Prelude.{entry_of};
+ghost use Rattle.report_notes.specs.Ratings.{first_rated_below, is_late, is_rated_below, rated_above, rating_of};
+
+use crate::fields::number_in;
+use trf16::{Player, Report, split_columns};
+
+/// A late entry's rating, and the player with the smallest start rank who has a smaller one in front.
+#[derive(Debug, Clone, Copy, PartialEq, Eq)]
+pub(crate) struct RatedAbove {
+    pub(crate) rating: u16,
+    pub(crate) player: u16,
+}
+
+// The rating in columns 49 to 52, if it is over 0.
+fn rating_of(player: &Player<'_>, utf8: bool) -> Option<u16>
+    ensures { result ≡ rating_of utf8 (entry_of player.now) }
+{
+    let (_, behind) = split_columns(player.left, utf8, 40);
+    match number_in(split_columns(behind, utf8, 4).0)? {
+        0 => None,
+        rating => Some(rating),
+    }
+}
+
+// Whether a player has a start rank and a rating below given ones.
+fn is_rated_below(player: &Player<'_>, utf8: bool, start: u16, rating: u16) -> bool
+    ensures { result ≡ is_rated_below utf8 start rating (entry_of player.now) }
+{
+    if start <= player.start {
+        return false;
+    }
+    match rating_of(player, utf8) {
+        Some(own) => own < rating,
+        None => false,
+    }
+}
+
+// The smaller of a start rank and of one that may be there.
+fn smaller(first: Option<u16>, start: u16) -> u16
+    ensures { Some result ≡ reduce min (cons_option first (start ∷ [])) }
+{
+    match first {
+        Some(first) => first.min(start),
+        None => start,
+    }
+}
+
+// The smallest start rank among those of the players who are rated so.
+fn first_rated_below(report: &Report<'_>, start: u16, rating: u16) -> Option<u16>
+    ensures { result ≡ first_rated_below report.now start rating }
+{
+    let mut first = None;
+    for player in report.players() {
+        if is_rated_below(player, report.is_utf8(), start, rating) {
+            first = Some(smaller(first, player.start));
+        }
+    }
+    first
+}
+
+// Whether a player has no cell, while some round was paired.
+fn is_late(report: &Report<'_>, player: &Player<'_>) -> bool
+    ensures { result ≡ is_late report.now (entry_of player.now) }
+{
+    0 < report.rounds_played() && player.cells.is_empty()
+}
+
+/// The rating of a player who comes late, and of the players who are rated below, though with a smaller start rank, the
+/// first by start rank.
+pub(crate) fn rated_above(report: &Report<'_>, player: &Player<'_>) -> Option<RatedAbove>
+    ensures { result ≡ rated_above report.now (entry_of player.now) }
+{
+    if !is_late(report, player) {
+        return None;
+    }
+    let rating = rating_of(player, report.is_utf8())?;
+    let player = first_rated_below(report, player.start, rating)?;
+    Some(RatedAbove { rating, player })
+}
