@@ -72,8 +72,11 @@ pub fn pair_command<'a>(alloc: Global) -> Made<'a>
     let command = described(
         alloc,
         "pair",
-        "Pairs the next round, or tells that there is no pairing",
-        "The report is read from standard input. Printed are the number of lines that follow, and then a line 'white black' for each board, in start ranks; 'player 0' is the bye.\n\nExample: arbiter pair --rounds 7 --initial white < report.trf",
+        HelpTexts {
+            about: "Pairs the next round, or tells that there is no pairing",
+            usage: "arbiter pair [OPTIONS] < REPORT",
+            after_help: "The report is read from standard input. Printed are the number of lines that follow, and then a line 'white black' for each board, in start ranks; 'player 0' is the bye.\n\nExample: arbiter pair --rounds 7 --initial white < report.trf",
+        },
     );
     with_options(alloc, command, &PAIR)
 }
@@ -87,8 +90,11 @@ pub fn boards_command<'a>(alloc: Global) -> Made<'a>
     let command = described(
         alloc,
         "boards",
-        "Lists the boards of a round as they stand in the report",
-        "The report is read from standard input. Printed are the boards of the round in the form and order of pair, whoever has paired it.\n\nExamples:\n  arbiter boards < report.trf\n  arbiter boards --round 3 --names < report.trf",
+        HelpTexts {
+            about: "Lists the boards of a round as they stand in the report",
+            usage: "arbiter boards [OPTIONS] < REPORT",
+            after_help: "The report is read from standard input. Printed are the boards of the round in the form and order of pair, whoever has paired it.\n\nExamples:\n  arbiter boards < report.trf\n  arbiter boards --round 3 --names < report.trf",
+        },
     );
     with_options(alloc, command, &BOARDS)
 }
@@ -101,8 +107,11 @@ pub fn candidates_command<'a>(alloc: Global) -> Made<'a>
     let command = described(
         alloc,
         "candidates",
-        "Lists the legal candidates of a bracket in the order of article D",
-        "The report is read from standard input. Printed are the bracket's kind and shape, and then a line for each candidate: its cursor, its pairs in start ranks, and who moves down; the last line says 'end', or 'more' where the count was reached first.\n\nExample: arbiter candidates --bracket 1 --count 20 < report.trf",
+        HelpTexts {
+            about: "Lists the legal candidates of a bracket in the order of article D",
+            usage: "arbiter candidates [OPTIONS] --bracket <K> < REPORT",
+            after_help: "The report is read from standard input. Printed are the bracket's kind and shape, and then a line for each candidate: its cursor, its pairs in start ranks, and who moves down; the last line says 'end', or 'more' where the count was reached first.\n\nExample: arbiter candidates --bracket 1 --count 20 < report.trf",
+        },
     );
     with_options(alloc, command, &CANDIDATES)
 }
@@ -116,8 +125,11 @@ pub fn explain_command<'a>(alloc: Global) -> Made<'a>
     let command = described(
         alloc,
         "explain",
-        "Tells why the next round is paired as it is, bracket by bracket, or for one player",
-        "The report is read from standard input. Printed are the round, and for each bracket its players with their scores, what is chosen in it, the criteria that count against that (C.6 to C.19; lists of score differences, the highest first), and each board with the rule of article E that decided its colours. With --player it is told of him and of his brackets, and with --instead the first rule that keeps him from this one.\n\nExamples:\n  arbiter explain < report.trf\n  arbiter explain --player 5 --instead 4 < report.trf\n  arbiter explain --player 5 --instead 0 < report.trf",
+        HelpTexts {
+            about: "Tells why the next round is paired as it is, bracket by bracket, or for one player",
+            usage: "arbiter explain [OPTIONS] < REPORT",
+            after_help: "The report is read from standard input. Printed are the round, and for each bracket its players with their scores, what is chosen in it, the criteria that count against that (C.6 to C.19; lists of score differences, the highest first), and each board with the rule of article E that decided its colours. With --player it is told of him and of his brackets, and with --instead the first rule that keeps him from this one.\n\nExamples:\n  arbiter explain < report.trf\n  arbiter explain --player 5 --instead 4 < report.trf\n  arbiter explain --player 5 --instead 0 < report.trf",
+        },
     );
     with_options(alloc, command, &EXPLAIN)
 }
@@ -130,8 +142,11 @@ pub fn standings_command<'a>(alloc: Global) -> Made<'a>
     let command = described(
         alloc,
         "standings",
-        "Ranks the players by score and by the keys that break ties",
-        "The report is read from standard input. Printed is a line for each player: place, start rank, score, and the keys.\n\nExample: arbiter standings --by buchholz,sb < report.trf",
+        HelpTexts {
+            about: "Ranks the players by score and by the keys that break ties",
+            usage: "arbiter standings [OPTIONS] < REPORT",
+            after_help: "The report is read from standard input. Printed is a line for each player: place, start rank, score, and the keys.\n\nExample: arbiter standings --by buchholz,sb < report.trf",
+        },
     );
     with_options(alloc, command, &STANDINGS)
 }
@@ -148,19 +163,26 @@ pub fn with_options<'a>(alloc: Global, command: Command<'a>, options: &[OptionNa
     Ok(made)
 }
 
+/// The texts of a command's help.
+#[derive(Clone, Copy)]
+pub struct HelpTexts<'a> {
+    /// What the command does, in a line.
+    pub about: &'a str,
+    /// How it is called: a report is read from standard input, and no file is named.
+    pub usage: &'a str,
+    /// What is read and printed, with examples.
+    pub after_help: &'a str,
+}
+
 /// A command with the texts of its help, and with no options yet.
-pub fn described<'a>(
-    alloc: Global,
-    name: &'a str,
-    about: &'a str,
-    after_help: &'a str,
-) -> Command<'a>
+pub fn described<'a>(alloc: Global, name: &'a str, texts: HelpTexts<'a>) -> Command<'a>
     ensures app { app_of result ≡ new_app name.entry.now }
     ensures local { (fields_of result).has_globals ≡ false }
 {
     Command::new(alloc, name)
-        .about(about)
-        .after_help(after_help)
+        .about(texts.about)
+        .override_usage(texts.usage)
+        .after_help(texts.after_help)
 }
 
 // A command with one more option.

@@ -12,7 +12,7 @@ ghost use Rattle.requests.specs.Words.{with_commands};
 
 use crate::arguments::OptionName;
 use crate::commands::{
-    Made, boards_command, candidates_command, described, explain_command, pair_command,
+    HelpTexts, Made, boards_command, candidates_command, described, explain_command, pair_command,
     standings_command, with_options,
 };
 use crate::options::{
@@ -312,8 +312,11 @@ fn named<'a>(alloc: Global) -> Made<'a>
     described(
         alloc,
         "arbiter",
-        "Pairs, explains, checks, rewrites and ranks a chess tournament whose report, in TRF16 columns, is read from standard input",
-        "The exit status is 0 where all is done, 1 where the report is refused, 2 where the words are, 3 where there is no pairing, 4 where the steps ended first, and 5 where a device failed or memory was refused.\n\nExample: arbiter pair < report.trf",
+        HelpTexts {
+            about: "Pairs, explains, checks, rewrites and ranks a chess tournament whose report, in TRF16 columns, is read from standard input",
+            usage: "arbiter <COMMAND> [OPTIONS] < REPORT",
+            after_help: "The exit status is 0 where all is done, 1 where the report is refused, 2 where the words are, 3 where there is no pairing, 4 where the steps ended first, and 5 where a device failed or memory was refused.\n\nExample: arbiter pair < report.trf",
+        },
     )
     .version("1.2 (FIDE C.04.3, 2017; TRF16)")
     .bin_name("arbiter")
@@ -352,8 +355,11 @@ fn check_command<'a>(alloc: Global) -> Made<'a>
     let command = described(
         alloc,
         "check",
-        "Tells how many players and rounds the report has, or why it is refused",
-        "The report is read from standard input. Printed are the numbers of its players and of the rounds that were paired; why it is refused goes to standard error.\n\nExample: arbiter check < report.trf",
+        HelpTexts {
+            about: "Tells how many players and rounds the report has, or why it is refused",
+            usage: "arbiter check [OPTIONS] < REPORT",
+            after_help: "The report is read from standard input. Printed are the numbers of its players and of the rounds that were paired; why it is refused goes to standard error.\n\nExample: arbiter check < report.trf",
+        },
     );
     with_options(alloc, command, &CHECK)
 }
@@ -367,8 +373,11 @@ fn format_command<'a>(alloc: Global) -> Made<'a>
     let command = described(
         alloc,
         "format",
-        "Writes the report in canonical columns, or tells why it is refused",
-        "The report is read from standard input. Printed is each player's line in TRF16's columns, and each other line as it stands.\n\nExample: arbiter format < report.trf > canonical.trf",
+        HelpTexts {
+            about: "Writes the report in canonical columns, or tells why it is refused",
+            usage: "arbiter format [OPTIONS] < REPORT",
+            after_help: "The report is read from standard input. Printed is each player's line in TRF16's columns, and each other line as it stands.\n\nExample: arbiter format < report.trf > canonical.trf",
+        },
     );
     with_options(alloc, command, &FORMAT)
 }
