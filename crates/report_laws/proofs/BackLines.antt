@@ -34,7 +34,7 @@ abbrev pub carrying : List (Option (List ℕ)) → Sheet → Sheet
 carrying carried sheet = record sheet { carried = carried }
 
 -- what a step gives, with these lines carried
-abbrev all_carrying : List (Option (List ℕ)) → Result Sheet Fault → Result Sheet Fault
+abbrev pub all_carrying : List (Option (List ℕ)) → Result Sheet Fault → Result Sheet Fault
 all_carrying carried given = given >>= λ next. Ok (carrying carried next)
 
 module _ (carried : List (Option (List ℕ))) (sheet : Sheet) (n : ℕ) (line : List (List ℕ)) where
@@ -79,7 +79,7 @@ module _ (carried : List (Option (List ℕ))) (sheet : Sheet) (n : ℕ) (line : 
       by true = refl
       by false = refl
 
-  line-carrying : line_onto (carrying carried sheet) n line ≡ all_carrying carried (line_onto sheet n line)
+  pub line-carrying : line_onto (carrying carried sheet) n line ≡ all_carrying carried (line_onto sheet n line)
   unfolding line_onto
   line-carrying = by (is_player line) (is_kind (codes "XXR") line) (is_kind (codes "XXC") line) (is_kind (codes "XXZ") line || is_kind (codes "XXP") line)
     where
@@ -159,11 +159,10 @@ ascii_ranks (word ∷ rest) are =
     by None e is = absurd (cc)
     by (Some n) e is = ascii-digits word (number_is word n e).digits
 
--- a line XXZ that names start ranks is ASCII
-ascii_line : (utf8 : Bool) (line : List ℕ) → is_kind (codes "XXZ") (columns utf8 line) ≡ true → are_start_ranks (words_of (columns utf8 line)) ≡ true → list_all is_ascii line ≡ true
-ascii_line utf8 line kind named =
+-- a line of ASCII letters that names start ranks is ASCII
+pub ascii_line : (utf8 : Bool) (line : List ℕ) → list_all is_ascii (text (columns utf8 line) 1 3) ≡ true → are_start_ranks (words_of (columns utf8 line)) ≡ true → list_all is_ascii line ≡ true
+ascii_line utf8 line front named =
     let cols = columns utf8 line in
-    let front : list_all is_ascii (joined (take 3 cols)) ≡ true = (letters_of cols kind).ascii in
     let back : list_all is_ascii (joined (drop 3 cols)) ≡ true = ascii-words (joined (drop 3 cols)) (ascii_ranks (words_of cols) named) in
     let parts : joined (take 3 cols) ++ joined (drop 3 cols) ≡ line =
     sym (joined-append (take 3 cols) (drop 3 cols)) ∙ ap joined (take-append-drop 3 cols) ∙ joined-columns utf8 line in
@@ -188,7 +187,7 @@ cut_line utf8 sheet next n line e = by (is_kind (codes "XXZ") (columns utf8 line
         let passed = absent_read sheet next n cols is e in
         record {
           read = rw is (bare_read sheet n (columns utf8 (text cols 1 3)) b.kind b.words ∙ ap (λ (s : Sheet). Ok s) passed.same);
-          same = rw is (utf8_ascii (text cols 1 3) (letters_of cols is).ascii ∙ sym (utf8_ascii line (ascii_line utf8 line is passed.named)));
+          same = rw is (utf8_ascii (text cols 1 3) (letters_of cols is).ascii ∙ sym (utf8_ascii line (ascii_line utf8 line (letters_of cols is).ascii passed.named)));
         }
 
 -- what a line leaves as it is

@@ -8,3 +8,6 @@ pub mod WrittenView
 pub mod BackTwice
 pub mod AskedBack
 pub mod PairedBoards
+pub mod NumberedLine
+pub mod NumberedPlayers
+pub mod NumberedReport
