@@ -1,5 +1,5 @@
 -- What is read of the source is enough to answer over all its bytes.
-use Rattle.std.proofs.Common.{Bool, true, false, nat_lt, ◌≡◌, ◌≤◌, ◌<◌, ◌++◌, ℕ, List, [], Option, None, Some, Err, length, refl, subst, sym, ◌∙◌, ap, arith, append-nil, inl, inr, length-append}
+use Rattle.std.proofs.Common.{Bool, true, false, nat_lt, ◌≡◌, ◌≤◌, ◌<◌, ◌++◌, ℕ, List, [], ◌∷◌, Option, None, Some, Err, length, refl, subst, sym, ◌∙◌, ap, arith, append-nil, inl, inr, length-append}
 use Rattle.std.specs.Io.KnownBytes.{Consumes, IsAtEnd}
 use Rattle.std.proofs.lemmas.Bool.{cases_lt}
 use Rattle.std.proofs.lemmas.Bool.Decides.{nat_tests}
@@ -7,7 +7,10 @@ use Rattle.trf16.specs.Prelude.{laid_out, verdict, verdict_unsummed}
 use Rattle.trf16.specs.declared.fault.Excess.TheVariants.{Bytes}
 use Rattle.trf16.specs.declared.fault.Fault.TheVariants.{TooMany}
 use Rattle.command_line.specs.Commands.{Answers, AnswersReport, verdict_for}
-use Rattle.replies.specs.Prelude.{check_answer, format_verdict, Answer, Reading, IsRead, most_read}
+use Rattle.replies.specs.Prelude.{check_answer, format_verdict, order_text, refusal, with_note, Answer, Reading, IsRead, most_read}
+use Rattle.report_notes.specs.RefusalNotes.{byte_order}
+use Rattle.report_notes.specs.declared.encoding.ByteOrder.{ByteOrder}
+use Rattle.std.specs.Option.{option_map_or}
 use Rattle.command_line.specs.Run.{IsAnswered, IsInput}
 use Rattle.requests.specs.declared.words.Request.{Request}
 use Rattle.requests.specs.declared.words.Request.TheVariants.{Check, Format, Pair, Boards, Candidates, Explain, Standings}
@@ -40,21 +43,29 @@ verdict_for-long (Candidates options) bytes bye h = verdict-long bytes bye h
 verdict_for-long (Explain options) bytes bye h = verdict-long bytes bye h
 verdict_for-long (Standings options) bytes bye h = verdict-long bytes bye h
 
--- where a report has too many bytes, nothing is found behind it
-check_alike : (noting : Bool) (a b : List ℕ) (bye : ℕ) → check_answer (Err (TooMany Bytes)) noting a bye ≡ check_answer (Err (TooMany Bytes)) noting b bye
-check_alike false a b bye = refl
-check_alike true a b bye = refl
+-- the bytes at the front of a text are those at the front of a longer one
+order_kept : (input rest : List ℕ) → 2 ≤ length input → byte_order (input ++ rest) ≡ byte_order input
+order_kept [] rest two = absurd (omega (arith, two))
+order_kept (a ∷ []) rest two = absurd (omega (arith, two))
+order_kept (a ∷ b ∷ more) rest two = refl
 
--- where a report has too many bytes, an answer is one over any other input
-refused_alike : (request : Request) (a b : List ℕ) (bye : ℕ) (answer : Answer) → AnswersReport request a bye (Err (TooMany Bytes)) answer
-    → AnswersReport request b bye (Err (TooMany Bytes)) answer
-refused_alike (Check options) a b bye answer h = h ∙ check_alike options.notes a b bye
-refused_alike (Format options) a b bye answer h = h
-refused_alike (Pair options) a b bye answer h = h
-refused_alike (Boards options) a b bye answer h = h
-refused_alike (Candidates options) a b bye answer h = h
-refused_alike (Explain options) a b bye answer h = h
-refused_alike (Standings options) a b bye answer h = h
+-- where a report has too many bytes, nothing is found behind it but what its first bytes say
+check_alike : (noting : Bool) (input rest : List ℕ) (bye : ℕ) → most_read ≤ length input
+    → check_answer (Err (TooMany Bytes)) noting input bye ≡ check_answer (Err (TooMany Bytes)) noting (input ++ rest) bye
+check_alike false input rest bye long = refl
+check_alike true input rest bye long =
+    ap (λ (order : Option ByteOrder). with_note (refusal (TooMany Bytes)) (option_map_or order_text order [])) (sym (order_kept input rest (omega (arith, long))))
+
+-- where a report has too many bytes, an answer is one over any longer input
+refused_alike : (request : Request) (input rest : List ℕ) (bye : ℕ) (answer : Answer) → most_read ≤ length input
+    → AnswersReport request input bye (Err (TooMany Bytes)) answer → AnswersReport request (input ++ rest) bye (Err (TooMany Bytes)) answer
+refused_alike (Check options) input rest bye answer long h = h ∙ check_alike options.notes input rest bye long
+refused_alike (Format options) input rest bye answer long h = h
+refused_alike (Pair options) input rest bye answer long h = h
+refused_alike (Boards options) input rest bye answer long h = h
+refused_alike (Candidates options) input rest bye answer long h = h
+refused_alike (Explain options) input rest bye answer long h = h
+refused_alike (Standings options) input rest bye answer long h = h
 
 -- an answer over an input, by its verdict
 abbrev AnswersOver : Request → ℕ → Answer → List ℕ → Type 0
@@ -69,7 +80,7 @@ answers_whole request input rest bye answer whole h = elim (cases_lt (length inp
       let here = verdict_for-long request input bye long in
       let there = verdict_for-long request (input ++ rest) bye (omega (arith, length-append input rest)) in
       subst (λ report. AnswersReport request (input ++ rest) bye report answer) (sym there)
-      (refused_alike request input (input ++ rest) bye answer (subst (λ report. AnswersReport request input bye report answer) here h))
+      (refused_alike request input rest bye answer long (subst (λ report. AnswersReport request input bye report answer) here h))
 ]
 
 -- the bytes that a source had
