@@ -15,7 +15,7 @@ _arbiter() {
                 *,format) words="--points --bye --help" ;;
                 *,pair) words="--rounds --initial --steps --report --names --bye --help" ;;
                 *,candidates) words="--bracket --from --count --rounds --initial --steps --bye --help" ;;
-                *,explain) words="--player --instead --rounds --initial --steps --bye --help" ;;
+                *,explain) words="--player --instead --rounds --initial --steps --words --bye --help" ;;
                 *,standings) words="--by --names --bye --help" ;;
             esac
             ;;

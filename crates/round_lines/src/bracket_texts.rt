@@ -1,8 +1,8 @@
-// The first line of a bracket, and the last line of a listing of its candidates.
+// The first line of a bracket, as codes and as a sentence, and the last line of a listing of its candidates.
 ghost use Rattle.std.specs.Prelude.{◌≡◌, ◌++◌, IfOk, codes, string_bytes};
 ghost use Rattle.std.specs.Fmt.{decimal};
 ghost use Rattle.round_lines.specs.Listings.{ending_text};
-ghost use Rattle.round_lines.specs.CandidateTexts.{bracket_text, kind_text};
+ghost use Rattle.round_lines.specs.CandidateTexts.{bracket_text, bracket_words, kind_text, kind_words};
 
 use crate::listing::Ending;
 use dutch_bracket::BracketKind;
@@ -34,6 +34,34 @@ pub fn bracket(
 {
     let (word, pairs, mdps) = (kind(of_kind), shape.pairs, shape.mdps);
     format!(in alloc; "bracket {number} {word} pairs {pairs} mdps {mdps}\n")
+}
+
+// The same in a sentence, behind the bracket's number.
+fn kind_words(kind: BracketKind) -> &'static str
+    ensures { result.now ≡ kind_words kind }
+{
+    match kind {
+        BracketKind::Ordinary => ".",
+        BracketKind::Last => ", the last one.",
+        BracketKind::Penultimate => ", the penultimate one.",
+        BracketKind::Collapsed => ", the collapsed one.",
+    }
+}
+
+/// The same as a sentence.
+#[tactic(auto, unfolding(crate::specs::CandidateTexts::bracket_words))]
+pub fn bracket_words(
+    alloc: Global,
+    number: u16,
+    of_kind: BracketKind,
+    shape: Shape,
+) -> Result<String, AllocError>
+    ensures { IfOk result (λ text. string_bytes text ≡ bracket_words number of_kind shape) }
+{
+    let (words, pairs, mdps) = (kind_words(of_kind), shape.pairs, shape.mdps);
+    format!(in alloc;
+        "Bracket {number}{words} Pairs: {pairs}. Moved-down players in them: {mdps}.\n"
+    )
 }
 
 /// The last line of a listing.
