@@ -152,9 +152,10 @@ fn put_about(text: &mut Page, round: &Paired<'_>, player: u16) -> Result<(), All
     ensures { OnOk result (text.new
         ≡ text.old ++ about_text round.now player (seat_with round.now.telling.facts player)) }
 {
-    match round.telling.field.seat_with(player) {
+    let telling = round.telling;
+    match telling.field.seat_with(player) {
         Some(seat) => put_present(text, round, seat),
-        None => put_absent(text, round.telling, player),
+        None => put_absent(text, telling, player),
     }
 }
 

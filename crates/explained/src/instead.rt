@@ -111,10 +111,12 @@ fn obstacle_of(round: &Paired<'_>, meeting: Meeting) -> Option<Obstacle>
     requires rival { IsRival round.now.telling.facts meeting.rival }
     ensures { result ≡ obstacle_of round.now meeting.player meeting.rival }
 {
-    let (report, field) = (round.telling.report, round.telling.field);
+    let telling = round.telling;
     match meeting.rival {
-        Rival::Bye => against_bye(field, round.bye, meeting.player),
-        Rival::Seat(other) => against_meeting(report, field, meeting.player, other),
+        Rival::Bye => against_bye(telling.field, round.bye, meeting.player),
+        Rival::Seat(other) => {
+            against_meeting(telling.report, telling.field, meeting.player, other)
+        }
     }
 }
 

@@ -58,10 +58,14 @@ pub fn bracket_words(
 ) -> Result<String, AllocError>
     ensures { IfOk result (λ text. string_bytes text ≡ bracket_words number of_kind shape) }
 {
-    let (words, pairs, mdps) = (kind_words(of_kind), shape.pairs, shape.mdps);
-    format!(in alloc;
-        "Bracket {number}{words} Pairs: {pairs}. Moved-down players in them: {mdps}.\n"
-    )
+    let (pairs, mdps) = (shape.pairs, shape.mdps);
+    let mut text = format!(in alloc; "Bracket {number}")?;
+    text.push_str(kind_words(of_kind))?;
+    write!(
+        text,
+        " Pairs: {pairs}. Moved-down players in them: {mdps}.\n"
+    )?;
+    Ok(text)
 }
 
 /// The last line of a listing.

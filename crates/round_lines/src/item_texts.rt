@@ -125,11 +125,7 @@ pub fn put_list(
 }
 
 /// Puts differences as points, with commas between them.
-pub fn put_listed(
-    text: &mut Page,
-    wording: Wording,
-    differences: &[u16],
-) -> Result<(), AllocError>
+pub fn put_listed(text: &mut Page, wording: Wording, differences: &[u16]) -> Result<(), AllocError>
     ensures { OnOk result (text.new ≡ text.old ++ points_text wording differences.now) }
 {
     let [first, others @ ..] = differences else {

@@ -108,12 +108,7 @@ fn game(colour: Option<Colour>) -> &'static str
 }
 
 // Puts the colours of a player's games, round by round.
-fn put_games(
-    text: &mut Page,
-    report: &Report<'_>,
-    start: u16,
-    rounds: u8,
-) -> Result<(), AllocError>
+fn put_games(text: &mut Page, report: &Report<'_>, start: u16, rounds: u8) -> Result<(), AllocError>
     ensures { OnOk result (text.new ≡ text.old ++ games_text report.now start rounds) }
 {
     for round in 0..rounds {

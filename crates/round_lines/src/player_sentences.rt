@@ -16,7 +16,11 @@ use trf16::{Colour, Report};
 
 /// Puts the sentences of a player.
 #[tactic(auto, unfolding(crate::specs::PlayerTexts::player_sentences))]
-pub(crate) fn put_player_sentences(text: &mut Page, telling: &Telling<'_>, seat: u16) -> Result<(), AllocError>
+pub(crate) fn put_player_sentences(
+    text: &mut Page,
+    telling: &Telling<'_>,
+    seat: u16,
+) -> Result<(), AllocError>
     requires { seat < length telling.now.facts.seats }
     ensures { OnOk result (text.new ≡ text.old
         ++ player_sentences telling.now.sheet telling.now.facts (seat_at telling.now.facts seat)) }
@@ -57,6 +61,14 @@ fn comma_behind(rounds: u8) -> &'static str
     if rounds == 0 { "" } else { ", " }
 }
 
+// Puts the colour of a round's game, behind those of the rounds before it, so many.
+fn put_game_word(text: &mut Page, before: u8, played: Option<Colour>) -> Result<(), AllocError>
+    ensures { OnOk result (text.new ≡ text.old ++ (comma_behind before ++ game_words played)) }
+{
+    text.push_str(comma_behind(before))?;
+    text.push_str(game_word(played))
+}
+
 // Puts the colours of a player's games, round by round, in words.
 fn put_games_words(
     text: &mut Page,
@@ -68,8 +80,7 @@ fn put_games_words(
 {
     for round in 0..rounds {
         let cell = report.cell(start, round + 1);
-        text.push_str(comma_behind(round))?;
-        text.push_str(game_word(colour_played(&cell)))?;
+        put_game_word(text, round, colour_played(&cell))?;
     }
     Ok(())
 }
@@ -122,7 +133,10 @@ fn put_floats_words(text: &mut Page, field: &Field, seat: u16) -> Result<(), All
     ensures { OnOk result (text.new ≡ text.old ++ floats_words (seat_at field.now seat)) }
 {
     let (latest, earlier) = (float(field.float(seat, 1)), float(field.float(seat, 2)));
-    write!(text, "Floats: {latest} in the last round, {earlier} in the round before.\n")
+    write!(
+        text,
+        "Floats: {latest} in the last round, {earlier} in the round before.\n"
+    )
 }
 
 // Puts the sentence on those whom a player has met.

@@ -64,11 +64,7 @@ pub fn put_one(text: &mut Page, report: &Report<'_>, start: u16) -> Result<(), A
 ///
 /// # Errors
 /// Memory was refused.
-pub fn put_players(
-    text: &mut Page,
-    report: &Report<'_>,
-    starts: &[u16],
-) -> Result<(), AllocError>
+pub fn put_players(text: &mut Page, report: &Report<'_>, starts: &[u16]) -> Result<(), AllocError>
     ensures { OnOk result (text.new ≡ text.old ++ players_words report.now starts.now) }
 {
     let [first, others @ ..] = starts else {

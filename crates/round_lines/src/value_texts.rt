@@ -84,10 +84,8 @@ fn meaning(item: Item, mine: &Quality, theirs: &Quality) -> &'static str
         Item::MissedStrong => "colours strongly preferred and not given",
         Item::DownAgain | Item::DownAgainBefore => "players who go down again",
         Item::UpAgain | Item::UpAgainBefore => "players who go up again",
-        Item::DownAgainBy
-        | Item::UpAgainBy
-        | Item::DownAgainBeforeBy
-        | Item::UpAgainBeforeBy => "score differences of those players",
+        Item::DownAgainBy | Item::UpAgainBy | Item::DownAgainBeforeBy | Item::UpAgainBeforeBy =>
+            "score differences of those players",
     }
 }
 
@@ -113,7 +111,9 @@ fn put_against_words(text: &mut Page, of: Beside<'_>, item: Option<Item>) -> Res
         ≡ text.old ++ against_words (quality_in of.entry.0.now) (quality_in of.entry.1.now) item) }
 {
     let Some(item) = item else {
-        return text.push_str("is as good, and stands behind the chosen one in the order of article D.");
+        return text.push_str(
+            "is as good, and stands behind the chosen one in the order of article D.",
+        );
     };
     let (article, meaning) = (article(item), meaning(item, of.0, of.1));
     write!(text, "is worse at {article} ({meaning}): ")?;
