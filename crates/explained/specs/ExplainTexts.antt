@@ -78,7 +78,7 @@ module _ (telling : TellingFacts) where
   unfoldable pub counts_words : List ℕ → List ℕ
   counts_words bye =
       codes "Round " ++ (decimal telling.facts.round ++ (codes " of " ++ (decimal telling.facts.total ++ (codes ". Present: "
-      ++ (decimal (length telling.facts.seats) ++ (codes ". Absent: " ++ (decimal absent ++ (codes ". Boards: " ++ (decimal (boards bye) ++ codes "."))))))))))
+      ++ (decimal (length telling.facts.seats) ++ (codes ". Absent: " ++ (decimal absent ++ (codes ". Boards: " ++ (decimal (boards bye) ++ codes ".")))))))))
 
   -- who has the bye
   abbrev pub bye_text : ℕ → List ℕ
