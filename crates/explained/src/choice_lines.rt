@@ -1,5 +1,6 @@
 // The line of what is chosen in a bracket.
-ghost use Rattle.std.specs.Prelude.{◌≡◌, ◌++◌, OnOk};
+ghost use Rattle.std.specs.Prelude.{◌≡◌, ◌++◌, OnOk, codes};
+ghost use Rattle.std.specs.List.{flat_map};
 ghost use Rattle.dutch_pair.specs.Prelude.{IsStage};
 ghost use Rattle.explained.specs.ExplainTexts.{all_pairs_words, candidate_line, candidate_words, choice_of_text};
 ghost use Rattle.explained.specs.ExplainTexts.{down_words, pair_words};
@@ -66,11 +67,26 @@ fn put_all_pairs(text: &mut Page, telling: &Telling<'_>, pairs: &[Pair]) -> Resu
         return text.push_str("none");
     };
     put_pair(text, telling, *first)?;
-    for other in others {
-        text.push_str("; ")?;
-        put_pair(text, telling, *other)?;
+    put_other_pairs(text, telling, others)
+}
+
+// Puts pairs behind another one.
+fn put_other_pairs(text: &mut Page, telling: &Telling<'_>, pairs: &[Pair]) -> Result<(), AllocError>
+    ensures { OnOk result (text.new
+        ≡ text.old ++ flat_map (λ pair. codes "; " ++ pair_words telling.now pair) pairs.now) }
+{
+    for pair in pairs {
+        put_pair_behind(text, telling, *pair)?;
     }
     Ok(())
+}
+
+// Puts two who are paired behind another pair.
+fn put_pair_behind(text: &mut Page, telling: &Telling<'_>, pair: Pair) -> Result<(), AllocError>
+    ensures { OnOk result (text.new ≡ text.old ++ (codes "; " ++ pair_words telling.now pair)) }
+{
+    text.push_str("; ")?;
+    put_pair(text, telling, pair)
 }
 
 // Puts two who are paired.

@@ -1,5 +1,5 @@
 // The line of the players of a bracket, with their scores.
-ghost use Rattle.std.specs.Prelude.{◌≡◌, ◌++◌, OnOk};
+ghost use Rattle.std.specs.Prelude.{◌≡◌, ◌++◌, OnOk, codes};
 ghost use Rattle.std.specs.List.{flat_map};
 ghost use Rattle.dutch_bracket.specs.Prelude.{AreSeats, IsOf, score_at};
 ghost use Rattle.explained.specs.ExplainTexts.{all_scored_words, bar_text, members_line, members_text, members_words};
@@ -104,11 +104,26 @@ fn put_scored_words(text: &mut Page, telling: &Telling<'_>, seats: &[u16]) -> Re
         return text.push_str("none");
     };
     put_one_scored(text, telling, *first)?;
-    for other in others {
-        text.push_str("; ")?;
-        put_one_scored(text, telling, *other)?;
+    put_other_scored(text, telling, others)
+}
+
+// Puts players with their scores behind another one.
+fn put_other_scored(text: &mut Page, telling: &Telling<'_>, seats: &[u16]) -> Result<(), AllocError>
+    ensures { OnOk result (text.new
+        ≡ text.old ++ flat_map (λ seat. codes "; " ++ scored_words telling.now seat) seats.now) }
+{
+    for seat in seats {
+        put_scored_behind(text, telling, *seat)?;
     }
     Ok(())
+}
+
+// Puts a player with their score behind another one.
+fn put_scored_behind(text: &mut Page, telling: &Telling<'_>, seat: u16) -> Result<(), AllocError>
+    ensures { OnOk result (text.new ≡ text.old ++ (codes "; " ++ scored_words telling.now seat)) }
+{
+    text.push_str("; ")?;
+    put_one_scored(text, telling, seat)
 }
 
 // Puts a player with their score.
@@ -116,8 +131,8 @@ fn put_scored_words(text: &mut Page, telling: &Telling<'_>, seats: &[u16]) -> Re
 fn put_one_scored(text: &mut Page, telling: &Telling<'_>, seat: u16) -> Result<(), AllocError>
     ensures { OnOk result (text.new ≡ text.old ++ scored_words telling.now seat) }
 {
-    put_seat(text, telling, seat)?;
     let score = HalfPoints(u32::from(score_at(telling.field, seat)));
+    put_seat(text, telling, seat)?;
     write!(text, " ({score})")
 }
 

@@ -63,10 +63,13 @@ against_line mine chosen (Some item) =
     codes " " ++ (article_text item ++ (codes " " ++ (value_text Plain item mine chosen ++ (codes " " ++ value_text Plain item chosen mine))))
 against_line mine chosen None = codes " behind"
 
+-- the item in which a quality is worse, and what it compares
+abbrev pub worse_words : Item → Quality → Quality → List ℕ
+worse_words item mine chosen = codes "is worse at " ++ (article_text item ++ (codes " (" ++ (meaning_words item mine chosen ++ codes "): ")))
+
 abbrev pub against_words : Quality → Quality → Option Item → List ℕ
 against_words mine chosen (Some item) =
-    codes "is worse at " ++ (article_text item ++ (codes " (" ++ (meaning_words item mine chosen ++ (codes "): " ++ (value_text Words item mine chosen
-    ++ (codes ", where the chosen one has " ++ (value_text Words item chosen mine ++ codes ".")))))))
+    worse_words item mine chosen ++ (value_text Words item mine chosen ++ (codes ", where the chosen one has " ++ (value_text Words item chosen mine ++ codes ".")))
 against_words mine chosen None = codes "is as good, and stands behind the chosen one in the order of article D."
 
 -- a candidate, and how its quality stands to the chosen one's; in words without its cursor

@@ -61,10 +61,9 @@ pub fn bracket_words(
     let (pairs, mdps) = (shape.pairs, shape.mdps);
     let mut text = format!(in alloc; "Bracket {number}")?;
     text.push_str(kind_words(of_kind))?;
-    write!(
-        text,
-        " Pairs: {pairs}. Moved-down players in them: {mdps}.\n"
-    )?;
+    write!(text, " Pairs: {pairs}")?;
+    text.push_str(". Moved-down players in them: ")?;
+    write!(text, "{mdps}.\n")?;
     Ok(text)
 }
 

@@ -191,7 +191,8 @@ fn put_next_words(text: &mut Page, quality: &Quality) -> Result<(), AllocError>
 {
     let pairs = quality.next_pairs();
     put_said(text, Item::NextBracket)?;
-    write!(text, "{pairs}. Score differences there: ")?;
+    write!(text, "{pairs}")?;
+    text.push_str(". Score differences there: ")?;
     put_listed(text, Wording::Words, quality.next_psd())?;
     put_closing(text, Item::NextBracket)
 }

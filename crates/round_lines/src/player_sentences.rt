@@ -158,6 +158,9 @@ fn put_rights_words(text: &mut Page, field: &Field, seat: u16) -> Result<(), All
     requires { seat < length field.now.seats }
     ensures { OnOk result (text.new ≡ text.old ++ rights_words field.now (seat_at field.now seat)) }
 {
-    let (topscorer, bye) = (yes(field.topscorer(seat)), yes(field.may_bye(seat)));
-    write!(text, "Topscorer: {topscorer}. May have the bye: {bye}.\n")
+    text.push_str("Topscorer: ")?;
+    text.push_str(yes(field.topscorer(seat)))?;
+    text.push_str(". May have the bye: ")?;
+    text.push_str(yes(field.may_bye(seat)))?;
+    text.push_str(".\n")
 }

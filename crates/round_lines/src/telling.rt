@@ -1,5 +1,6 @@
 // How a round is told, and how players stand in a sentence: with their names.
-ghost use Rattle.std.specs.Prelude.{◌≡◌, ◌++◌, IfOk, OnOk, map};
+ghost use Rattle.std.specs.Prelude.{◌≡◌, ◌++◌, IfOk, OnOk, codes, map};
+ghost use Rattle.std.specs.List.{flat_map};
 ghost use Rattle.dutch_player.specs.Prelude.{seat_at};
 ghost use Rattle.round_lines.specs.Tellings.{in_wording, named, player_words, players_words, seat_words, seats_words};
 
@@ -60,6 +61,25 @@ pub fn put_one(text: &mut Page, report: &Report<'_>, start: u16) -> Result<(), A
     put_named(text, start, name.as_slice())
 }
 
+// Puts a player behind another one.
+fn put_other(text: &mut Page, report: &Report<'_>, start: u16) -> Result<(), AllocError>
+    ensures { OnOk result (text.new ≡ text.old ++ (codes "; " ++ player_words report.now start)) }
+{
+    text.push_str("; ")?;
+    put_one(text, report, start)
+}
+
+// Puts players behind another one.
+fn put_others(text: &mut Page, report: &Report<'_>, starts: &[u16]) -> Result<(), AllocError>
+    ensures { OnOk result (text.new
+        ≡ text.old ++ flat_map (λ start. codes "; " ++ player_words report.now start) starts.now) }
+{
+    for start in starts {
+        put_other(text, report, *start)?;
+    }
+    Ok(())
+}
+
 /// Puts players, by start ranks, with a semicolon between two of them, or that there are none.
 ///
 /// # Errors
@@ -71,11 +91,7 @@ pub fn put_players(text: &mut Page, report: &Report<'_>, starts: &[u16]) -> Resu
         return text.push_str("none");
     };
     put_one(text, report, *first)?;
-    for other in others {
-        text.push_str("; ")?;
-        put_one(text, report, *other)?;
-    }
-    Ok(())
+    put_others(text, report, others)
 }
 
 /// The start rank of a seat; 0 behind the last one.

@@ -2,7 +2,7 @@
 ghost use Rattle.std.specs.Prelude.{◌≡◌, ◌++◌, OnOk};
 ghost use Rattle.dutch_bracket.specs.Prelude.{first_difference, quality_in};
 ghost use Rattle.round_lines.specs.ValueTexts.{against_line, against_words, candidate_text, meaning_words, next_meaning};
-ghost use Rattle.round_lines.specs.ValueTexts.{next_value, value_text};
+ghost use Rattle.round_lines.specs.ValueTexts.{next_value, value_text, worse_words};
 
 use crate::item_texts::{article, players_counted, put_listed};
 use crate::page::Page;
@@ -105,18 +105,27 @@ fn put_against_line(text: &mut Page, of: Beside<'_>, item: Option<Item>) -> Resu
     put_value(text, Wording::Plain, item, (of.1, of.0))
 }
 
-// Puts the same in words.
+// Puts the item in which a quality is worse, and what it compares, in words.
+fn put_worse(text: &mut Page, of: Beside<'_>, item: Item) -> Result<(), AllocError>
+    ensures { OnOk result (text.new
+        ≡ text.old ++ worse_words item (quality_in of.entry.0.now) (quality_in of.entry.1.now)) }
+{
+    text.push_str("is worse at ")?;
+    text.push_str(article(item))?;
+    text.push_str(" (")?;
+    text.push_str(meaning(item, of.0, of.1))?;
+    text.push_str("): ")
+}
+
+// Puts the same as `put_against_line`, in words.
 fn put_against_words(text: &mut Page, of: Beside<'_>, item: Option<Item>) -> Result<(), AllocError>
     ensures { OnOk result (text.new
         ≡ text.old ++ against_words (quality_in of.entry.0.now) (quality_in of.entry.1.now) item) }
 {
     let Some(item) = item else {
-        return text.push_str(
-            "is as good, and stands behind the chosen one in the order of article D.",
-        );
+        return text.push_str("is as good, and stands behind the chosen one in the order of article D.");
     };
-    let (article, meaning) = (article(item), meaning(item, of.0, of.1));
-    write!(text, "is worse at {article} ({meaning}): ")?;
+    put_worse(text, of, item)?;
     put_value(text, Wording::Words, item, of)?;
     text.push_str(", where the chosen one has ")?;
     put_value(text, Wording::Words, item, (of.1, of.0))?;
