@@ -1,5 +1,5 @@
 -- What `explain` answers: the round, bracket by bracket, or what of it one player is told.
-use Rattle.std.specs.Prelude.{◌≡◌, ℕ, IfSome, List, ◌++◌, Option, Some, None, Result, Ok, Err}
+use Rattle.std.specs.Prelude.{◌≡◌, ℕ, IfSome, List, [], ◌++◌, Option, Some, None, Result, Ok, Err}
 use Rattle.dutch_pair.specs.Prelude.{Barrier, Blocks, AreStages}
 use Rattle.dutch_pair.specs.declared.round.AllStages.{AllStages}
 use Rattle.dutch_pair.specs.declared.round.AllStages.TheVariants.{Paired, NoPairing, Undecided}

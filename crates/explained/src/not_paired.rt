@@ -1,5 +1,5 @@
 // What is answered where no round is paired: that there is no pairing, and why; or that the steps ended first.
-ghost use Rattle.std.specs.Prelude.{◌≡◌, ◌++◌, IfOk, OnOk, string_bytes};
+ghost use Rattle.std.specs.Prelude.{◌≡◌, ◌++◌, [], IfOk, OnOk, string_bytes};
 ghost use Rattle.dutch_player.specs.Prelude.{seat_with};
 ghost use Rattle.explained.specs.BarrierTexts.{barrier_text, no_pairing_text};
 ghost use Rattle.explained.specs.ExplainAnswers.{TellsWhy, asked_text, line_text, no_pairing_with};

@@ -115,11 +115,14 @@ abbrev pub comma_behind : ℕ → List ℕ
 comma_behind zero = []
 comma_behind (suc rounds) = codes ", "
 
+-- the colour of a round's game behind those of the rounds before it, so many
+unfoldable pub game_behind : ℕ → Option Colour → List ℕ
+game_behind before played = comma_behind before ++ game_words played
+
 -- A.6: the colours of a player's games in so many rounds from the first on
 abbrev pub games_words : Sheet → ℕ → ℕ → List ℕ
 games_words sheet start zero = []
-games_words sheet start (suc rounds) =
-    games_words sheet start rounds ++ (comma_behind rounds ++ game_words (colour_played (cell_in sheet start (rounds + 1))))
+games_words sheet start (suc rounds) = games_words sheet start rounds ++ game_behind rounds (colour_played (cell_in sheet start (rounds + 1)))
 
 -- the same, where a round was paired
 abbrev pub colours_words : Sheet → ℕ → ℕ → List ℕ

@@ -1,5 +1,5 @@
 // The first line of a bracket, as codes and as a sentence, and the last line of a listing of its candidates.
-ghost use Rattle.std.specs.Prelude.{◌≡◌, ◌++◌, IfOk, codes, string_bytes};
+ghost use Rattle.std.specs.Prelude.{◌≡◌, ◌++◌, IfOk, OnOk, codes, string_bytes};
 ghost use Rattle.std.specs.Fmt.{decimal};
 ghost use Rattle.round_lines.specs.Listings.{ending_text};
 ghost use Rattle.round_lines.specs.CandidateTexts.{bracket_text, bracket_words, kind_text, kind_words};
@@ -58,13 +58,29 @@ pub fn bracket_words(
 ) -> Result<String, AllocError>
     ensures { IfOk result (λ text. string_bytes text ≡ bracket_words number of_kind shape) }
 {
-    let (pairs, mdps) = (shape.pairs, shape.mdps);
+    let mut text = bracket_front(alloc, number, of_kind)?;
+    put_shape_words(&mut text, shape)?;
+    Ok(text)
+}
+
+// The number of a bracket, and its kind.
+fn bracket_front(alloc: Global, number: u16, of_kind: BracketKind) -> Result<String, AllocError>
+    ensures { IfOk result (λ text. string_bytes text ≡ codes "Bracket " ++ (decimal number ++ kind_words of_kind)) }
+{
     let mut text = format!(in alloc; "Bracket {number}")?;
     text.push_str(kind_words(of_kind))?;
+    Ok(text)
+}
+
+// Puts its shape.
+fn put_shape_words(text: &mut String, shape: Shape) -> Result<(), AllocError>
+    ensures { OnOk result (string_bytes text.new ≡ string_bytes text.old ++ (codes " Pairs: " ++ (decimal shape.pairs
+        ++ (codes ". Moved-down players in them: " ++ (decimal shape.mdps ++ codes ".\n"))))) }
+{
+    let (pairs, mdps) = (shape.pairs, shape.mdps);
     write!(text, " Pairs: {pairs}")?;
     text.push_str(". Moved-down players in them: ")?;
-    write!(text, "{mdps}.\n")?;
-    Ok(text)
+    write!(text, "{mdps}.\n")
 }
 
 /// The last line of a listing.

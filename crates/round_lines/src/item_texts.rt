@@ -1,6 +1,8 @@
 // The lines and sentences of items that count against a choice (C.04.3 C.6 to C.19).
 ghost use Rattle.std.specs.Prelude.{◌≡◌, ◌++◌, OnOk, codes};
 ghost use Rattle.std.specs.List.{flat_map};
+ghost use Rattle.std.specs.Fmt.{decimal};
+ghost use Rattle.requests.specs.declared.options.Wording.TheVariants.{Words};
 ghost use Rattle.dutch_bracket.specs.Prelude.{players_counted, quality_in};
 ghost use Rattle.round_lines.specs.CandidateTexts.{rank_text};
 ghost use Rattle.replies.specs.Prelude.{halves_text};
@@ -189,12 +191,20 @@ fn put_next_line(text: &mut Page, quality: &Quality) -> Result<(), AllocError>
 fn put_next_words(text: &mut Page, quality: &Quality) -> Result<(), AllocError>
     ensures { OnOk result (text.new ≡ text.old ++ next_words (quality_in quality.now)) }
 {
-    let pairs = quality.next_pairs();
     put_said(text, Item::NextBracket)?;
+    put_next_value(text, quality)?;
+    put_closing(text, Item::NextBracket)
+}
+
+// Puts the pairs and the PSD of the next bracket in words.
+fn put_next_value(text: &mut Page, quality: &Quality) -> Result<(), AllocError>
+    ensures { OnOk result (text.new ≡ text.old ++ (decimal (quality_in quality.now).next_pairs
+        ++ (codes ". Score differences there: " ++ points_text Words (quality_in quality.now).next_psd))) }
+{
+    let pairs = quality.next_pairs();
     write!(text, "{pairs}")?;
     text.push_str(". Score differences there: ")?;
-    put_listed(text, Wording::Words, quality.next_psd())?;
-    put_closing(text, Item::NextBracket)
+    put_listed(text, Wording::Words, quality.next_psd())
 }
 
 /// How many players an item counts; 0 for those that count none.

@@ -1,15 +1,15 @@
 // What a player brings to the next round, in five sentences.
-ghost use Rattle.std.specs.Prelude.{◌≡◌, ◌<◌, ◌++◌, OnOk, length};
+ghost use Rattle.std.specs.Prelude.{◌≡◌, ◌<◌, ◌++◌, OnOk, codes, length};
 ghost use Rattle.dutch_player.specs.Prelude.{seat_at};
 ghost use Rattle.trf16.specs.Prelude.{rounds_played};
-ghost use Rattle.round_lines.specs.PlayerTexts.{colours_words, comma_behind, floats_words, game_words, games_words};
-ghost use Rattle.round_lines.specs.PlayerTexts.{met_words, player_sentences, preference_words, rights_words};
-ghost use Rattle.round_lines.specs.PlayerTexts.{score_words, wish_words};
+ghost use Rattle.round_lines.specs.PlayerTexts.{colours_words, comma_behind, float_text, floats_words, game_behind};
+ghost use Rattle.round_lines.specs.PlayerTexts.{game_words, games_words, met_words, player_sentences, preference_words};
+ghost use Rattle.round_lines.specs.PlayerTexts.{rights_words, score_words, wish_words, yes_text};
 
 use crate::page::Page;
 use crate::player_line::{ascending, colour, float, strength, yes};
 use crate::telling::{Telling, put_one, put_players};
-use dutch_player::{Field, Pref, colour_played};
+use dutch_player::{Field, Float, Pref, colour_played};
 use replies::points::HalfPoints;
 use std::alloc::AllocError;
 use trf16::{Colour, Report};
@@ -62,8 +62,9 @@ fn comma_behind(rounds: u8) -> &'static str
 }
 
 // Puts the colour of a round's game, behind those of the rounds before it, so many.
+#[tactic(auto, unfolding(crate::specs::PlayerTexts::game_behind))]
 fn put_game_word(text: &mut Page, before: u8, played: Option<Colour>) -> Result<(), AllocError>
-    ensures { OnOk result (text.new ≡ text.old ++ (comma_behind before ++ game_words played)) }
+    ensures { OnOk result (text.new ≡ text.old ++ game_behind before played) }
 {
     text.push_str(comma_behind(before))?;
     text.push_str(game_word(played))
@@ -108,6 +109,16 @@ fn put_preference_words(text: &mut Page, preference: Option<Pref>) -> Result<(),
     write!(text, "{colour}, {strength}")
 }
 
+// Puts a preference behind a player's colours, up to the end of the line.
+fn put_preference_behind(text: &mut Page, preference: Option<Pref>) -> Result<(), AllocError>
+    ensures { OnOk result (text.new
+        ≡ text.old ++ (codes ". Preference: " ++ (preference_words preference ++ codes ".\n"))) }
+{
+    text.push_str(". Preference: ")?;
+    put_preference_words(text, preference)?;
+    text.push_str(".\n")
+}
+
 // Puts the sentences on a player's colours.
 #[tactic(auto, unfolding(crate::specs::PlayerTexts::wish_words))]
 fn put_wish_words(
@@ -121,9 +132,15 @@ fn put_wish_words(
 {
     text.push_str("Colours so far: ")?;
     put_colours_words(text, report, field.start_rank(seat))?;
-    text.push_str(". Preference: ")?;
-    put_preference_words(text, field.preference(seat))?;
-    text.push_str(".\n")
+    put_preference_behind(text, field.preference(seat))
+}
+
+// Puts a float behind what stands in front of it.
+fn put_float(text: &mut Page, front: &str, of_round: Option<Float>) -> Result<(), AllocError>
+    ensures { OnOk result (text.new ≡ text.old ++ (front.now ++ float_text of_round)) }
+{
+    text.push_str(front)?;
+    text.push_str(float(of_round))
 }
 
 // Puts the sentence on a player's floats in the last two rounds.
@@ -132,11 +149,9 @@ fn put_floats_words(text: &mut Page, field: &Field, seat: u16) -> Result<(), All
     requires { seat < length field.now.seats }
     ensures { OnOk result (text.new ≡ text.old ++ floats_words (seat_at field.now seat)) }
 {
-    let (latest, earlier) = (float(field.float(seat, 1)), float(field.float(seat, 2)));
-    write!(
-        text,
-        "Floats: {latest} in the last round, {earlier} in the round before.\n"
-    )
+    put_float(text, "Floats: ", field.float(seat, 1))?;
+    put_float(text, " in the last round, ", field.float(seat, 2))?;
+    text.push_str(" in the round before.\n")
 }
 
 // Puts the sentence on those whom a player has met.
@@ -152,15 +167,21 @@ fn put_met_words(text: &mut Page, telling: &Telling<'_>, seat: u16) -> Result<()
     text.push_str(".\n")
 }
 
+// Puts whether something holds behind what it is.
+fn put_yes(text: &mut Page, front: &str, holds: bool) -> Result<(), AllocError>
+    ensures { OnOk result (text.new ≡ text.old ++ (front.now ++ yes_text holds)) }
+{
+    text.push_str(front)?;
+    text.push_str(yes(holds))
+}
+
 // Puts the sentences on whether a player is a topscorer, and whether they may have the bye.
 #[tactic(auto, unfolding(crate::specs::PlayerTexts::rights_words))]
 fn put_rights_words(text: &mut Page, field: &Field, seat: u16) -> Result<(), AllocError>
     requires { seat < length field.now.seats }
     ensures { OnOk result (text.new ≡ text.old ++ rights_words field.now (seat_at field.now seat)) }
 {
-    text.push_str("Topscorer: ")?;
-    text.push_str(yes(field.topscorer(seat)))?;
-    text.push_str(". May have the bye: ")?;
-    text.push_str(yes(field.may_bye(seat)))?;
+    put_yes(text, "Topscorer: ", field.topscorer(seat))?;
+    put_yes(text, ". May have the bye: ", field.may_bye(seat))?;
     text.push_str(".\n")
 }

@@ -1,6 +1,7 @@
 // The values of a quality's items as texts, beside those of another one (C.04.3 C.6 to C.19).
-ghost use Rattle.std.specs.Prelude.{◌≡◌, ◌++◌, OnOk};
+ghost use Rattle.std.specs.Prelude.{◌≡◌, ◌++◌, OnOk, Some};
 ghost use Rattle.dutch_bracket.specs.Prelude.{first_difference, quality_in};
+ghost use Rattle.round_lines.specs.ItemTexts.{article_text};
 ghost use Rattle.round_lines.specs.ValueTexts.{against_line, against_words, candidate_text, meaning_words, next_meaning};
 ghost use Rattle.round_lines.specs.ValueTexts.{next_value, value_text, worse_words};
 
@@ -110,11 +111,26 @@ fn put_worse(text: &mut Page, of: Beside<'_>, item: Item) -> Result<(), AllocErr
     ensures { OnOk result (text.new
         ≡ text.old ++ worse_words item (quality_in of.entry.0.now) (quality_in of.entry.1.now)) }
 {
-    text.push_str("is worse at ")?;
-    text.push_str(article(item))?;
-    text.push_str(" (")?;
-    text.push_str(meaning(item, of.0, of.1))?;
+    put_article(text, "is worse at ", item)?;
+    put_meaning(text, " (", of, item)?;
     text.push_str("): ")
+}
+
+// Puts the article of an item behind what stands in front of it.
+fn put_article(text: &mut Page, front: &str, item: Item) -> Result<(), AllocError>
+    ensures { OnOk result (text.new ≡ text.old ++ (front.now ++ article_text item)) }
+{
+    text.push_str(front)?;
+    text.push_str(article(item))
+}
+
+// Puts what an item compares behind what stands in front of it.
+fn put_meaning(text: &mut Page, front: &str, of: Beside<'_>, item: Item) -> Result<(), AllocError>
+    ensures { OnOk result (text.new ≡ text.old
+        ++ (front.now ++ meaning_words item (quality_in of.entry.0.now) (quality_in of.entry.1.now))) }
+{
+    text.push_str(front)?;
+    text.push_str(meaning(item, of.0, of.1))
 }
 
 // Puts the same as `put_against_line`, in words.
@@ -122,9 +138,19 @@ fn put_against_words(text: &mut Page, of: Beside<'_>, item: Option<Item>) -> Res
     ensures { OnOk result (text.new
         ≡ text.old ++ against_words (quality_in of.entry.0.now) (quality_in of.entry.1.now) item) }
 {
-    let Some(item) = item else {
-        return text.push_str("is as good, and stands behind the chosen one in the order of article D.");
-    };
+    match item {
+        Some(item) => put_worse_by(text, of, item),
+        None => {
+            text.push_str("is as good, and stands behind the chosen one in the order of article D.")
+        }
+    }
+}
+
+// Puts the item in which a quality is worse, and its value in both, in words.
+fn put_worse_by(text: &mut Page, of: Beside<'_>, item: Item) -> Result<(), AllocError>
+    ensures { OnOk result (text.new
+        ≡ text.old ++ against_words (quality_in of.entry.0.now) (quality_in of.entry.1.now) (Some item)) }
+{
     put_worse(text, of, item)?;
     put_value(text, Wording::Words, item, of)?;
     text.push_str(", where the chosen one has ")?;
