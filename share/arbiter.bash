@@ -16,7 +16,7 @@ _arbiter() {
                 *,pair) words="--round --rounds --initial --steps --report --names --bye --help" ;;
                 *,boards) words="--round --names --bye --help" ;;
                 *,candidates) words="--bracket --from --count --round --rounds --initial --steps --bye --help" ;;
-                *,explain) words="--player --instead --round --rounds --initial --steps --bye --help" ;;
+                *,explain) words="--player --instead --round --rounds --initial --steps --words --bye --help" ;;
                 *,standings) words="--round --by --names --games --bye --help" ;;
             esac
             ;;

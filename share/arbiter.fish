@@ -20,6 +20,7 @@ complete -c arbiter -n '__fish_seen_subcommand_from candidates' -l from -x -d 'B
 complete -c arbiter -n '__fish_seen_subcommand_from candidates' -l count -x -d 'How many candidates to print at most'
 complete -c arbiter -n '__fish_seen_subcommand_from explain' -l player -x -d 'Tell of this player alone, by start rank'
 complete -c arbiter -n '__fish_seen_subcommand_from explain' -l instead -x -d 'Tell why the player does not meet this one, or with 0 has no bye'
+complete -c arbiter -n '__fish_seen_subcommand_from explain' -l words -d 'Tell it in sentences and with names'
 complete -c arbiter -n '__fish_seen_subcommand_from standings' -l by -x -a 'direct,buchholz,sb direct buchholz sb' -d 'What tells players of one score apart'
 complete -c arbiter -n '__fish_seen_subcommand_from check format pair boards candidates explain standings' -l bye -x -a '0 1 2' -d 'Half points of the bye of the pairing'
 complete -c arbiter -n '__fish_seen_subcommand_from pair boards standings' -l names -d 'With names, in columns for the wall'

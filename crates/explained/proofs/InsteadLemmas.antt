@@ -12,6 +12,7 @@ use Rattle.dutch_pair.specs.declared.stage.Stage.{Stage}
 use Rattle.dutch_choice.specs.declared.wish.Wish.{Wish}
 use Rattle.explained.specs.InsteadAnswers.{IsSearched}
 use Rattle.explained.specs.InsteadTexts.{search_answer}
+use Rattle.round_lines.specs.Tellings.{TellingFacts}
 use Rattle.replies.specs.Prelude.{answer_of}
 use Rattle.replies.specs.declared.reply.Reply.{Reply}
 
@@ -32,8 +33,9 @@ pub few_seats : (facts : Facts) (stage : Stage) → IsStage facts stage → leng
 few_seats facts stage is = omega (arith, is.bracket.sound.few, length-map stage.reached.seats (score_at facts))
 
 -- what is told of what a search finds
-pub searched : (facts : Facts) (steps number : ℕ) (stage : Stage) (wish : Wish) (found : Instead) {E : Type 0} (r : Result Reply E)
-    → IsInstead (above_lower facts stage.reached) stage.shape wish steps found
-    → IfOk r (λ reply. answer_of reply ≡ search_answer number stage found) → IfOk r (λ reply. IsSearched facts steps number stage wish (answer_of reply))
-searched facts steps number stage wish found (Ok reply) is tells = record { found = found; is = is; tells = tells }
-searched facts steps number stage wish found (Err error) is tells = tells
+pub searched : (telling : TellingFacts) (steps player number : ℕ) (stage : Stage) (wish : Wish) (found : Instead) {E : Type 0} (r : Result Reply E)
+    → IsInstead (above_lower telling.facts stage.reached) stage.shape wish steps found
+    → IfOk r (λ reply. answer_of reply ≡ search_answer telling player number stage found)
+    → IfOk r (λ reply. IsSearched telling steps player number stage wish (answer_of reply))
+searched telling steps player number stage wish found (Ok reply) is tells = record { found = found; is = is; tells = tells }
+searched telling steps player number stage wish found (Err error) is tells = tells

@@ -1,5 +1,4 @@
 pub mod StageLemmas
-pub mod JoinedTexts
 pub mod ObstacleTruth
 pub mod InsteadLemmas
 pub mod DecidedLemmas

@@ -1,5 +1,5 @@
 -- What is answered to a player who asks for another opponent, or for the bye: what stands against it first.
-use Rattle.std.specs.Prelude.{◌≡◌, ℕ, ◌<◌, Bool, true, false, ◌&&◌, ◌==◌, if◌then◌else◌, List, [], ◌∷◌, length, Option, Some, None, option_map, codes}
+use Rattle.std.specs.Prelude.{◌≡◌, ℕ, ◌<◌, Bool, true, false, ◌&&◌, ◌==◌, if◌then◌else◌, List, [], ◌∷◌, length, Option, Some, None, option_map}
 use Rattle.std.specs.List.{list_any, position_from}
 use Rattle.std.specs.Option.{option_map_or}
 use Rattle.dutch_player.specs.Prelude.{Facts, seat_with}
@@ -9,8 +9,8 @@ use Rattle.dutch_pair.specs.declared.instead.Instead.{Instead}
 use Rattle.dutch_pair.specs.declared.stage.Stage.{Stage}
 use Rattle.dutch_choice.specs.declared.wish.Wish.{Wish}
 use Rattle.dutch_choice.specs.declared.wish.Wish.TheVariants.{Pair, LeftOver}
-use Rattle.trf16.specs.Prelude.{Sheet}
-use Rattle.explained.specs.InsteadTexts.{instead_text, search_answer}
+use Rattle.explained.specs.InsteadTexts.{granted_text, instead_text, search_answer}
+use Rattle.round_lines.specs.Tellings.{TellingFacts}
 use Rattle.round_lines.specs.Obstacles.{against_bye, against_meeting, obstacle_text}
 use Rattle.replies.specs.Prelude.{Answer, done}
 use Rattle.explained.specs.declared.instead.Rival.{Rival}
@@ -20,8 +20,7 @@ use Rattle.round_lines.specs.declared.obstacle.Obstacle.TheVariants.{Absent}
 
 -- a round that is paired: its report and its field, the brackets that it reached, and the seat that has the bye, if one has
 pub record PairedRound : Type 0 where
-  pub sheet : Sheet
-  pub facts : Facts
+  pub telling : TellingFacts
   pub stages : List Stage
   pub bye : List ℕ
 
@@ -75,19 +74,19 @@ IsRival facts (Seat seat) = seat < length facts.seats
 
 -- what stands against it, whatever is chosen in a bracket
 abbrev pub obstacle_of : PairedRound → ℕ → Rival → Option Obstacle
-obstacle_of round player Bye = against_bye round.facts round.bye player
-obstacle_of round player (Seat other) = against_meeting round.sheet round.facts player other
+obstacle_of round player Bye = against_bye round.telling.facts round.bye player
+obstacle_of round player (Seat other) = against_meeting round.telling.sheet round.telling.facts player other
 
-module _ (facts : Facts) (steps number : ℕ) where
+module _ (telling : TellingFacts) (steps player number : ℕ) where
   -- a candidate that grants a wish is searched for in a bracket, in so many steps, and what is found is told
   pub record IsSearched (stage : Stage) (wish : Wish) (answer : Answer) : Type 0 where
     pub found : Instead
-    pub is : IsInstead (above_lower facts stage.reached) stage.shape wish steps found
-    pub tells : answer ≡ search_answer number stage found
+    pub is : IsInstead (above_lower telling.facts stage.reached) stage.shape wish steps found
+    pub tells : answer ≡ search_answer telling player number stage found
 
   -- what is chosen in a bracket grants the wish; else a candidate that does is searched for
   abbrev pub AnswersWish : Stage → Wish → Bool → Answer → Type 0
-  AnswersWish stage wish true answer = answer ≡ done (instead_text number (codes "chosen"))
+  AnswersWish stage wish true answer = answer ≡ done (granted_text telling player number)
   AnswersWish stage wish false answer = IsSearched stage wish answer
 
   -- the same of the bracket in which it was decided; where there is no bracket nothing is told
@@ -97,16 +96,17 @@ module _ (facts : Facts) (steps number : ℕ) where
 
   -- an obstacle, or else what the brackets say
   abbrev pub AnswersPresent : Option Obstacle → Option (Stage × Wish) → Answer → Type 0
-  AnswersPresent (Some obstacle) decided answer = answer ≡ done (instead_text number (obstacle_text obstacle))
+  AnswersPresent (Some obstacle) decided answer = answer ≡ done (instead_text telling player number (obstacle_text telling player number obstacle))
   AnswersPresent None decided answer = AnswersDecided decided answer
 
 -- what is answered where the two are present, or else that one of them is absent
-abbrev pub AnswersSeats : PairedRound → ℕ → ℕ → Option ℕ → Option Rival → Answer → Type 0
-AnswersSeats round steps number (Some player) (Some rival) answer =
-    AnswersPresent round.facts steps number (obstacle_of round player rival) (decided_in round.stages player rival) answer
-AnswersSeats round steps number player rival answer = answer ≡ done (instead_text number (obstacle_text Absent))
+abbrev pub AnswersSeats : PairedRound → ℕ → ℕ → ℕ → Option ℕ → Option Rival → Answer → Type 0
+AnswersSeats round steps player number (Some seat) (Some rival) answer =
+    AnswersPresent round.telling steps player number (obstacle_of round seat rival) (decided_in round.stages seat rival) answer
+AnswersSeats round steps player number seat rival answer =
+    answer ≡ done (instead_text round.telling player number (obstacle_text round.telling player number Absent))
 
 -- what is answered to a player, by start rank, who asks for another one, or for the bye by 0
 abbrev pub AnswersInstead : PairedRound → ℕ → ℕ → ℕ → Answer → Type 0
 AnswersInstead round player number steps answer =
-    AnswersSeats round steps number (seat_with round.facts player) (rival_of round.facts number) answer
+    AnswersSeats round steps player number (seat_with round.telling.facts player) (rival_of round.telling.facts number) answer

@@ -1,29 +1,101 @@
--- The line that tells why a player does not meet another one in the next round, or does not have the bye.
-use Rattle.std.specs.Prelude.{ℕ, List, ◌++◌, codes}
+-- The line that tells why a player does not meet another one in the next round, or does not have the bye; as codes, and as a sentence.
+use Rattle.std.specs.Prelude.{ℕ, ◌==◌, if◌then◌else◌, List, [], ◌++◌, codes}
 use Rattle.std.specs.Fmt.{decimal}
 use Rattle.dutch_bracket.specs.Prelude.{quality_in}
 use Rattle.dutch_pair.specs.declared.instead.Instead.{Instead}
 use Rattle.dutch_pair.specs.declared.instead.Instead.TheVariants.{Best, FewerMovedDown, NoneEligible, NoneLegal, Undecided}
 use Rattle.dutch_pair.specs.declared.stage.Stage.{Stage}
+use Rattle.requests.specs.declared.options.Wording.{Wording}
+use Rattle.round_lines.specs.Tellings.{TellingFacts, in_wording, player_words}
 use Rattle.round_lines.specs.ValueTexts.{candidate_text}
-use Rattle.replies.specs.Prelude.{Answer, done, undecided}
+use Rattle.replies.specs.Prelude.{Answer, done, plain, undecided_text, undecided_words}
+use Rattle.replies.specs.declared.reply.Status.TheVariants.{Undecided as UndecidedStatus}
 
--- the line of who is asked for, 0 for the bye
-abbrev pub instead_text : ℕ → List ℕ → List ℕ
-instead_text number what = codes "instead " ++ (decimal number ++ (codes " " ++ (what ++ codes "\n")))
+-- ---- the steps reached the limit
 
--- ---- what a search finds
+-- the line of it
+abbrev pub undecided_told : Wording → ℕ → ℕ → List ℕ
+undecided_told wording number used = in_wording wording (undecided_text number used) (undecided_words number used)
 
--- what is told of a bracket
-abbrev pub in_bracket : ℕ → Stage → List ℕ → List ℕ
-in_bracket number stage what = instead_text number (codes "bracket " ++ (decimal stage.reached.number ++ (codes " " ++ what)))
+-- the steps of a bracket reached the limit before it was decided
+abbrev pub undecided_in : Wording → ℕ → ℕ → Answer
+undecided_in wording number used = plain UndecidedStatus (undecided_told wording number used)
 
--- what a search in a bracket found for a wish: the best candidate that grants it; that none that can be chosen does (C.4), none with as
--- many moved-down players in as many pairs (B.1), or none with as many pairs (C.5); or that its steps reached the limit
-abbrev pub search_answer : ℕ → Stage → Instead → Answer
-search_answer number stage (Best candidate quality) =
-    done (in_bracket number stage (candidate_text candidate.lists (quality_in quality) (quality_in stage.quality)))
-search_answer number stage NoneEligible = done (in_bracket number stage (codes "none C.4"))
-search_answer number stage FewerMovedDown = done (in_bracket number stage (codes "none B.1"))
-search_answer number stage NoneLegal = done (in_bracket number stage (codes "none C.5"))
-search_answer number stage (Undecided used) = undecided stage.reached.number used
+-- ---- what a search in a bracket finds
+
+-- C.4: none that can be chosen grants the wish
+abbrev pub none_c4_text : Wording → List ℕ
+none_c4_text wording =
+    in_wording wording (codes "none C.4")
+    (codes "candidates with as many pairs and no fewer moved-down players in them allow it, but those whom they leave over could not all be paired below (C.4).")
+
+-- B.1: none with as many moved-down players in as many pairs does
+abbrev pub none_b1_text : Wording → List ℕ
+none_b1_text wording =
+    in_wording wording (codes "none B.1") (codes "no candidate that allows it makes as many pairs with as many moved-down players in them (B.1).")
+
+-- C.5: none with as many pairs does
+abbrev pub none_c5_text : Wording → List ℕ
+none_c5_text wording = in_wording wording (codes "none C.5") (codes "no candidate that makes as many pairs allows it (C.5).")
+
+-- what stands in front of the best candidate that grants it
+abbrev pub best_front : Wording → List ℕ
+best_front wording = in_wording wording [] (codes "the best candidate that allows it ")
+
+-- what is found for a wish: the best candidate that grants it, or why there is none
+abbrev pub found_text : Wording → Stage → Instead → List ℕ
+found_text wording stage (Best candidate quality) =
+    best_front wording ++ candidate_text wording candidate.lists (quality_in quality) (quality_in stage.quality)
+found_text wording stage NoneEligible = none_c4_text wording
+found_text wording stage FewerMovedDown = none_b1_text wording
+found_text wording stage NoneLegal = none_c5_text wording
+found_text wording stage (Undecided used) = []
+
+-- the number of a bracket in front of what is found in it
+abbrev pub bracket_front : Wording → ℕ → List ℕ
+bracket_front wording number =
+    in_wording wording (codes "bracket " ++ (decimal number ++ codes " ")) (codes "In bracket " ++ (decimal number ++ codes ", "))
+
+-- ---- the line of a player, who asks for a number, 0 for the bye
+
+module _ (telling : TellingFacts) (player number : ℕ) where
+  -- what is chosen grants it
+  abbrev pub granted_line : List ℕ
+  granted_line = codes "instead " ++ (decimal number ++ codes " chosen\n")
+
+  abbrev pub granted_words : List ℕ
+  granted_words =
+      if number == 0 then player_words telling.sheet player ++ codes " has the bye.\n"
+      else player_words telling.sheet player ++ (codes " meets " ++ (player_words telling.sheet number ++ codes ".\n"))
+
+  abbrev pub granted_text : List ℕ
+  granted_text = in_wording telling.wording granted_line granted_words
+
+  -- it does not, in front of why
+  abbrev pub front_line : List ℕ
+  front_line = codes "instead " ++ (decimal number ++ codes " ")
+
+  abbrev pub front_words : List ℕ
+  front_words =
+      if number == 0 then player_words telling.sheet player ++ codes " does not get the bye. "
+      else player_words telling.sheet player ++ (codes " does not meet " ++ (player_words telling.sheet number ++ codes ". "))
+
+  abbrev pub front_text : List ℕ
+  front_text = in_wording telling.wording front_line front_words
+
+  -- the same, and why
+  abbrev pub instead_text : List ℕ → List ℕ
+  instead_text why = front_text ++ (why ++ codes "\n")
+
+  -- the same, by what a search in a bracket found
+  abbrev pub in_bracket : Stage → Instead → List ℕ
+  in_bracket stage found =
+      front_text ++ (bracket_front telling.wording stage.reached.number ++ (found_text telling.wording stage found ++ codes "\n"))
+
+  -- what a search in a bracket found, or that its steps reached the limit
+  abbrev pub search_answer : Stage → Instead → Answer
+  search_answer stage (Best candidate quality) = done (in_bracket stage (Best candidate quality))
+  search_answer stage NoneEligible = done (in_bracket stage NoneEligible)
+  search_answer stage FewerMovedDown = done (in_bracket stage FewerMovedDown)
+  search_answer stage NoneLegal = done (in_bracket stage NoneLegal)
+  search_answer stage (Undecided used) = undecided_in telling.wording stage.reached.number used

@@ -1,38 +1,20 @@
 // The lines that tell why there is no pairing: who blocks, the odd groups behind them, and that nobody may have the bye
 // (C.04.3 A.9).
-ghost use Rattle.std.specs.Prelude.{◌≡◌, ◌<◌, ◌++◌, IfOk, OnOk, length, string_bytes};
-ghost use Rattle.dutch_pair.specs.Prelude.{everybody};
+ghost use Rattle.std.specs.Prelude.{◌≡◌, ◌<◌, ◌==◌, ◌++◌, IfOk, OnOk, filter, length};
+ghost use Rattle.dutch_pair.specs.Prelude.{everybody, label};
 ghost use Rattle.dutch_bracket.specs.Prelude.{AreSeats};
-ghost use Rattle.explained.specs.BarrierTexts.{barrier_text, blockers_text, group_text, groups_text, labelled_text};
-ghost use Rattle.explained.specs.BarrierTexts.{lacking_text, member_text};
-ghost use Rattle.explained.specs.ExplainAnswers.{TellsWhy, no_pairing_with};
-ghost use Rattle.replies.specs.Prelude.{answer_of};
+ghost use Rattle.explained.specs.BarrierTexts.{barrier_text, blocked_line, blocked_words, blockers_text, group_line};
+ghost use Rattle.explained.specs.BarrierTexts.{group_text, group_words, groups_text, labelled_text, labelled_words};
+ghost use Rattle.explained.specs.BarrierTexts.{lacking_text, member_text, no_bye_text};
+ghost use Rattle.round_lines.specs.Tellings.{in_wording};
 
 use dutch_order::{Numbers, numbered_from};
-use dutch_pair::{Barrier, barrier_of, lacks_bye};
+use dutch_pair::{Barrier, lacks_bye};
 use dutch_player::Field;
-use replies::refusal::no_pairing;
-use replies::{Reply, Status};
+use requests::Wording;
+use round_lines::page::Page;
+use round_lines::telling::{Telling, in_wording, put_seats};
 use std::alloc::{AllocError, Global};
-
-/// No pairing meets the absolute criteria, and behind that why, where a search of so many steps finds it.
-pub fn no_pairing_because(alloc: Global, field: &Field, steps: u64) -> Result<Reply, AllocError>
-    ensures { IfOk result (λ reply. TellsWhy field.now (answer_of reply)) }
-{
-    match barrier_of(alloc, field, steps)? {
-        Some(barrier) => because(alloc, field, &barrier),
-        None => Ok(no_pairing()),
-    }
-}
-
-// The same of a barrier.
-fn because(alloc: Global, field: &Field, barrier: &Barrier) -> Result<Reply, AllocError>
-    ensures { IfOk result (λ reply. answer_of reply ≡ no_pairing_with (barrier_text field.now barrier.now)) }
-{
-    let mut text = String::from_str(alloc, "no pairing\n")?;
-    put_barrier(&mut text, field, barrier)?;
-    Ok(Reply::made(Status::NoPairing, text))
-}
 
 // All seats, by rank.
 #[tactic(auto, using(dutch_pair::proofs::LowerLemmas::everybody_inside))]
@@ -43,79 +25,127 @@ fn all_seats(field: &Field) -> Numbers
     numbered_from(0, field.len())
 }
 
-// Puts why there is no pairing.
+/// Puts why there is no pairing: who blocks the round, the odd groups behind them, and that nobody may have the bye.
 #[tactic(auto, unfolding(crate::specs::BarrierTexts::barrier_text))]
-fn put_barrier(text: &mut String, field: &Field, barrier: &Barrier) -> Result<(), AllocError>
-    ensures { OnOk result (string_bytes text.new ≡ string_bytes text.old ++ barrier_text field.now barrier.now) }
+pub fn put_barrier(
+    text: &mut Page,
+    telling: &Telling<'_>,
+    barrier: &Barrier,
+) -> Result<(), AllocError>
+    ensures { OnOk result (text.new ≡ text.old ++ barrier_text telling.now barrier.now) }
 {
-    text.push_str("blocked by")?;
-    put_blockers(text, field, barrier)?;
-    text.push_str("\n")?;
-    put_groups(text, field, barrier)?;
-    text.push_str(lacking(field))
+    put_blocked(text, telling, barrier)?;
+    put_groups(text, telling, barrier)?;
+    text.push_str(lacking(telling))
 }
 
-// That nobody may have the bye.
-fn lacking(field: &Field) -> &'static str
-    ensures { result.now ≡ lacking_text field.now }
+// That nobody may have the bye, if it is so.
+fn lacking(telling: &Telling<'_>) -> &'static str
+    ensures { result.now ≡ lacking_text telling.now }
 {
-    if lacks_bye(field) { "bye none\n" } else { "" }
+    if lacks_bye(telling.field) {
+        no_bye(telling.wording)
+    } else {
+        ""
+    }
+}
+
+// The same where it is so.
+fn no_bye(wording: Wording) -> &'static str
+    ensures { result.now ≡ no_bye_text wording }
+{
+    in_wording(
+        wording,
+        "bye none\n",
+        "One player would have to have the bye, and none of those present may have it.\n",
+    )
+}
+
+// Puts the line of who blocks.
+#[tactic(auto, unfolding(crate::specs::BarrierTexts::blocked_line, crate::specs::BarrierTexts::blocked_words))]
+fn put_blocked(text: &mut Page, telling: &Telling<'_>, barrier: &Barrier) -> Result<(), AllocError>
+    ensures { OnOk result (text.new ≡ text.old ++ in_wording telling.now.wording
+        (blocked_line telling.now barrier.now) (blocked_words telling.now barrier.now)) }
+{
+    match telling.wording {
+        Wording::Plain => {
+            text.push_str("blocked by")?;
+            put_blockers(text, telling, barrier)?;
+            text.push_str("\n")
+        }
+        Wording::Words => {
+            text.push_str("Blocking players: ")?;
+            put_labelled_words(text, telling, barrier, 0)?;
+            text.push_str(".\n")
+        }
+    }
 }
 
 // Puts who blocks.
-fn put_blockers(text: &mut String, field: &Field, barrier: &Barrier) -> Result<(), AllocError>
-    ensures { OnOk result (string_bytes text.new ≡ string_bytes text.old ++ blockers_text field.now barrier.now) }
+fn put_blockers(text: &mut Page, telling: &Telling<'_>, barrier: &Barrier) -> Result<(), AllocError>
+    ensures { OnOk result (text.new ≡ text.old ++ blockers_text telling.now barrier.now) }
 {
-    if barrier.has_blockers(field) {
-        put_labelled(text, field, barrier, 0)
+    if barrier.has_blockers(telling.field) {
+        put_labelled(text, telling, barrier, 0)
     } else {
         text.push_str(" -")
     }
 }
 
 // Puts the odd groups, in the order of their first players.
-fn put_groups(text: &mut String, field: &Field, barrier: &Barrier) -> Result<(), AllocError>
-    ensures { OnOk result (string_bytes text.new
-        ≡ string_bytes text.old ++ groups_text field.now barrier.now (everybody field.now)) }
+fn put_groups(text: &mut Page, telling: &Telling<'_>, barrier: &Barrier) -> Result<(), AllocError>
+    ensures { OnOk result (text.new
+        ≡ text.old ++ groups_text telling.now barrier.now (everybody telling.now.facts)) }
 {
-    let all = all_seats(field);
+    let all = all_seats(telling.field);
     for seat in all.as_slice() {
-        if barrier.opens_odd_group(field, *seat) {
-            put_group(text, field, barrier, barrier.label(*seat))?;
+        if barrier.opens_odd_group(telling.field, *seat) {
+            put_group(text, telling, barrier, barrier.label(*seat))?;
         }
     }
     Ok(())
 }
 
 // Puts a group.
-#[tactic(auto, unfolding(crate::specs::BarrierTexts::group_text))]
+#[tactic(auto, unfolding(crate::specs::BarrierTexts::group_line, crate::specs::BarrierTexts::group_words))]
 fn put_group(
-    text: &mut String,
-    field: &Field,
+    text: &mut Page,
+    telling: &Telling<'_>,
     barrier: &Barrier,
     group: u16,
 ) -> Result<(), AllocError>
-    ensures { OnOk result (string_bytes text.new ≡ string_bytes text.old ++ group_text field.now barrier.now group) }
+    ensures { OnOk result (text.new ≡ text.old ++ group_text telling.now barrier.now group) }
 {
-    text.push_str("group")?;
-    put_labelled(text, field, barrier, group)?;
-    text.push_str("\n")
+    match telling.wording {
+        Wording::Plain => {
+            text.push_str("group")?;
+            put_labelled(text, telling, barrier, group)?;
+            text.push_str("\n")
+        }
+        Wording::Words => {
+            text.push_str(
+                "Odd group, whose players may meet only each other and the blocking players: ",
+            )?;
+            put_labelled_words(text, telling, barrier, group)?;
+            text.push_str(".\n")
+        }
+    }
 }
 
 // Puts the players with a label, by rank.
 fn put_labelled(
-    text: &mut String,
-    field: &Field,
+    text: &mut Page,
+    telling: &Telling<'_>,
     barrier: &Barrier,
     group: u16,
 ) -> Result<(), AllocError>
-    ensures { OnOk result (string_bytes text.new
-        ≡ string_bytes text.old ++ labelled_text field.now barrier.now group (everybody field.now)) }
+    ensures { OnOk result (text.new
+        ≡ text.old ++ labelled_text telling.now barrier.now group (everybody telling.now.facts)) }
 {
-    let all = all_seats(field);
+    let all = all_seats(telling.field);
     for seat in all.as_slice() {
         if barrier.label(*seat) == group {
-            put_member(text, field, *seat)?;
+            put_member(text, telling.field, *seat)?;
         }
     }
     Ok(())
@@ -123,10 +153,40 @@ fn put_labelled(
 
 // Puts a player.
 #[tactic(auto, unfolding(crate::specs::BarrierTexts::member_text))]
-fn put_member(text: &mut String, field: &Field, seat: u16) -> Result<(), AllocError>
+fn put_member(text: &mut Page, field: &Field, seat: u16) -> Result<(), AllocError>
     requires { seat < length field.now.seats }
-    ensures { OnOk result (string_bytes text.new ≡ string_bytes text.old ++ member_text field.now seat) }
+    ensures { OnOk result (text.new ≡ text.old ++ member_text field.now seat) }
 {
     let start = field.start_rank(seat);
     write!(text, " {start}")
+}
+
+// The same in a sentence.
+fn put_labelled_words(
+    text: &mut Page,
+    telling: &Telling<'_>,
+    barrier: &Barrier,
+    group: u16,
+) -> Result<(), AllocError>
+    ensures { OnOk result (text.new ≡ text.old ++ labelled_words telling.now barrier.now group) }
+{
+    let all = all_seats(telling.field);
+    let seats = labelled(text.allocator(), barrier, all.as_slice(), group)?;
+    put_seats(text, telling, seats.as_slice())
+}
+
+// Those of some seats that have a label.
+fn labelled(
+    alloc: Global,
+    barrier: &Barrier,
+    seats: &[u16],
+    group: u16,
+) -> Result<Vec<u16>, AllocError>
+    ensures { IfOk result (λ members. members.items ≡ filter (λ seat. label barrier.now seat == group) seats.now) }
+{
+    seats
+        .iter()
+        .copied()
+        .filter(|seat| barrier.label(*seat) == group)
+        .collect(alloc)
 }

@@ -1,24 +1,27 @@
 // The command `explain`: why the next round is paired as it is, bracket by bracket or for one player.
-ghost use Rattle.std.specs.Prelude.{◌≡◌, ◌<◌, ◌≤◌, ◌++◌, IfOk, Ok, OnOk, length, string_bytes};
+ghost use Rattle.std.specs.Prelude.{◌≡◌, ◌<◌, ◌≤◌, ◌++◌, IfOk, Ok, OnOk, length};
 ghost use Rattle.std.specs.List.{AllByRecursion};
 ghost use Rattle.dutch_pair.specs.Prelude.{IsStage};
 ghost use Rattle.trf16.specs.Prelude.{verdict};
 ghost use Rattle.dutch_bracket.specs.Prelude.{AreSeats};
 ghost use Rattle.dutch_player.specs.Prelude.{seat_with};
-ghost use Rattle.explained.specs.ExplainAnswers.{AnswersExplain, ExplainsField, IsExplained, IsToldBehind};
+ghost use Rattle.explained.specs.ExplainAnswers.{AnswersExplain, ExplainsAsked, IsExplained, IsToldBehind};
 ghost use Rattle.explained.specs.ExplainAnswers.{TellsPaired, about_text, front_text, present_text};
-ghost use Rattle.replies.specs.Prelude.{answer_of, seen_before};
+ghost use Rattle.replies.specs.Prelude.{answer_of, question_fault, seen_before};
 
-use crate::barrier_lines::no_pairing_because;
-use crate::bracket_lines::{put_stages, round_line};
+use crate::bracket_lines::put_stages;
 use crate::instead::{Paired, Question, instead};
+use crate::not_paired::{no_pairing_because, undecided};
+use crate::round_line::put_round;
 use dutch_pair::{AllStages, stages};
 use dutch_player::{Field, FieldFault};
-use replies::refusal::{cannot_be_asked, cannot_be_paired, undecided};
+use replies::refusal::{cannot_be_asked, cannot_be_paired};
 use replies::views::{not_seen, read_before};
 use replies::{Reply, Status, question_fault};
 use requests::ExplainOptions;
-use round_lines::{put_absent, put_player};
+use round_lines::page::Page;
+use round_lines::telling::Telling;
+use round_lines::{Asked, put_absent, put_player};
 use std::alloc::{AllocError, Global};
 use trf16::Report;
 
@@ -48,7 +51,14 @@ fn of_report(
     ensures { IfOk result (λ reply. AnswersExplain options (Ok report.now) (answer_of reply)) }
 {
     match Field::new(alloc, report, options.rounds, options.initial) {
-        Ok(field) => of_field(alloc, options, report, &field),
+        Ok(field) => {
+            let telling = Telling {
+                report,
+                field: &field,
+                wording: options.wording,
+            };
+            of_field(alloc, options, &telling)
+        }
         Err(FieldFault::OutOfMemory) => Err(AllocError),
         Err(fault) => cannot_be_paired(alloc, fault),
     }
@@ -58,14 +68,14 @@ fn of_report(
 fn of_field(
     alloc: Global,
     options: ExplainOptions,
-    report: &Report<'_>,
-    field: &Field,
+    telling: &Telling<'_>,
 ) -> Result<Reply, AllocError>
-    ensures { IfOk result (λ reply. ExplainsField options report.now (Ok field.now) (answer_of reply)) }
+    ensures { IfOk result (λ reply. ExplainsAsked options telling.now
+        (question_fault telling.now.sheet options.question) (answer_of reply)) }
 {
-    match question_fault(report, options.question) {
+    match question_fault(telling.report, options.question) {
         Some(fault) => cannot_be_asked(alloc, fault),
-        None => of_round(alloc, options, report, field),
+        None => of_round(alloc, options, telling),
     }
 }
 
@@ -73,23 +83,23 @@ fn of_field(
 fn of_round(
     alloc: Global,
     options: ExplainOptions,
-    report: &Report<'_>,
-    field: &Field,
+    telling: &Telling<'_>,
 ) -> Result<Reply, AllocError>
-    ensures { IfOk result (λ reply. IsExplained options report.now field.now (answer_of reply)) }
+    ensures { IfOk result (λ reply. IsExplained options telling.now (answer_of reply)) }
 {
-    match stages(alloc, field, options.steps)? {
+    match stages(alloc, telling.field, options.steps)? {
         AllStages::Paired { stages, bye } => {
             let round = Paired {
-                report,
-                field,
+                telling,
                 stages: &stages,
                 bye: &bye,
             };
             tell_paired(alloc, options, &round)
         }
-        AllStages::NoPairing => no_pairing_because(alloc, field, options.steps),
-        AllStages::Undecided { bracket, used } => undecided(alloc, bracket, used),
+        AllStages::NoPairing => {
+            no_pairing_because(alloc, telling, options.question, options.steps)
+        }
+        AllStages::Undecided { bracket, used } => undecided(alloc, telling.wording, bracket, used),
     }
 }
 
@@ -99,61 +109,62 @@ fn tell_paired(
     options: ExplainOptions,
     round: &Paired<'_>,
 ) -> Result<Reply, AllocError>
-    requires bye { AreSeats round.now.facts round.now.bye }
-    requires stages { AllByRecursion (IsStage round.now.facts) round.now.stages }
+    requires bye { AreSeats round.now.telling.facts round.now.bye }
+    requires stages { AllByRecursion (IsStage round.now.telling.facts) round.now.stages }
     ensures { IfOk result (λ reply. TellsPaired options.question options.steps round.now (answer_of reply)) }
 {
-    let mut text = round_line(alloc, round.report, round.field, round.bye)?;
+    let mut text = Page::new(alloc);
+    put_round(&mut text, round.telling, round.bye)?;
     let Some(question) = options.question else {
-        put_stages(&mut text, round.field, round.stages, None)?;
-        return Ok(Reply::made(Status::Done, text));
+        put_stages(&mut text, round.telling, round.stages, None)?;
+        return Ok(Reply::bytes(Status::Done, text.into_bytes()));
     };
-    put_about(&mut text, round, question.player)?;
+    let player = question.player;
+    put_about(&mut text, round, player)?;
     match question.instead {
         Some(number) => {
-            let asked = Question {
-                player: question.player,
-                number,
-                steps: options.steps,
-            };
-            with_instead(alloc, text, round, asked)
+            let asked = Asked { player, number };
+            let steps = options.steps;
+            with_instead(alloc, text, round, Question { asked, steps })
         }
-        None => Ok(Reply::made(Status::Done, text)),
+        None => Ok(Reply::bytes(Status::Done, text.into_bytes())),
     }
 }
 
 // A text, and behind it why the player does not meet another one.
 fn with_instead(
     alloc: Global,
-    text: String,
+    text: Page,
     round: &Paired<'_>,
-    asked: Question,
+    question: Question,
 ) -> Result<Reply, AllocError>
-    requires front { string_bytes text ≡ front_text round.now asked.player }
-    requires stages { AllByRecursion (IsStage round.now.facts) round.now.stages }
-    ensures { IfOk result (λ reply. IsToldBehind round.now asked.steps asked.player asked.number (answer_of reply)) }
+    requires front { text ≡ front_text round.now question.asked.player }
+    requires stages { AllByRecursion (IsStage round.now.telling.facts) round.now.stages }
+    ensures { IfOk result (λ reply. IsToldBehind round.now question.steps question.asked.player question.asked.number
+        (answer_of reply)) }
 {
-    instead(alloc, round, asked)?.behind(text)
+    instead(alloc, round, question)?.behind(text.into_bytes())
 }
 
 // Puts what is told of a player: their line and their brackets, or that they are absent.
-fn put_about(text: &mut String, round: &Paired<'_>, player: u16) -> Result<(), AllocError>
-    requires { AllByRecursion (IsStage round.now.facts) round.now.stages }
-    ensures { OnOk result (string_bytes text.new
-        ≡ string_bytes text.old ++ about_text round.now player (seat_with round.now.facts player)) }
+fn put_about(text: &mut Page, round: &Paired<'_>, player: u16) -> Result<(), AllocError>
+    requires { AllByRecursion (IsStage round.now.telling.facts) round.now.stages }
+    ensures { OnOk result (text.new
+        ≡ text.old ++ about_text round.now player (seat_with round.now.telling.facts player)) }
 {
-    match round.field.seat_with(player) {
+    let telling = round.telling;
+    match telling.field.seat_with(player) {
         Some(seat) => put_present(text, round, seat),
-        None => put_absent(text, player),
+        None => put_absent(text, telling, player),
     }
 }
 
 // Puts the line of a present player and their brackets.
-fn put_present(text: &mut String, round: &Paired<'_>, seat: u16) -> Result<(), AllocError>
-    requires seat { seat < length round.now.facts.seats }
-    requires stages { AllByRecursion (IsStage round.now.facts) round.now.stages }
-    ensures { OnOk result (string_bytes text.new ≡ string_bytes text.old ++ present_text round.now seat) }
+fn put_present(text: &mut Page, round: &Paired<'_>, seat: u16) -> Result<(), AllocError>
+    requires seat { seat < length round.now.telling.facts.seats }
+    requires stages { AllByRecursion (IsStage round.now.telling.facts) round.now.stages }
+    ensures { OnOk result (text.new ≡ text.old ++ present_text round.now seat) }
 {
-    put_player(text, round.report, round.field, seat)?;
-    put_stages(text, round.field, round.stages, Some(seat))
+    put_player(text, round.telling, seat)?;
+    put_stages(text, round.telling, round.stages, Some(seat))
 }

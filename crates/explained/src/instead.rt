@@ -7,19 +7,20 @@ ghost use Rattle.dutch_choice.specs.Prelude.{grants};
 ghost use Rattle.explained.specs.InsteadAnswers.{AnswersInstead, AnswersWish, IsRival, IsSearched, decided_in};
 ghost use Rattle.explained.specs.InsteadAnswers.{goes_on, number_among, number_in, obstacle_of, rival_of};
 ghost use Rattle.explained.specs.InsteadAnswers.{stands_in, stands_in_one, wish_in};
-ghost use Rattle.explained.specs.InsteadTexts.{in_bracket, instead_text, search_answer};
+ghost use Rattle.explained.specs.InsteadTexts.{granted_text, in_bracket, instead_text, search_answer};
 ghost use Rattle.round_lines.specs.Obstacles.{obstacle_text};
 ghost use Rattle.replies.specs.Prelude.{answer_of, done};
 
+use crate::instead_lines::{put_found, put_front, put_granted};
+use crate::not_paired::undecided;
 use dutch_pair::{Instead, Stage, Wish, best_instead};
 use dutch_player::Field;
-use replies::refusal::undecided;
 use replies::{Reply, Status};
-use round_lines::value_texts::candidate;
-use round_lines::{Obstacle, against_bye, against_meeting};
+use round_lines::page::Page;
+use round_lines::telling::Telling;
+use round_lines::{Asked, Obstacle, against_bye, against_meeting, put_obstacle};
 use std::alloc::{AllocError, Global};
 use std::marker::Model;
-use trf16::Report;
 
 /// Whom a player asks for instead.
 #[derive(Debug, Clone, Copy, PartialEq, Eq)]
@@ -30,12 +31,10 @@ pub enum Rival {
     Seat(u16),
 }
 
-/// A round that is paired: its report and its field, the brackets that it reached, and the seat that has the bye, if
-/// one has.
+/// A round that is paired: how it is told, the brackets that it reached, and the seat that has the bye, if one has.
 #[derive(Drop)]
 pub struct Paired<'a> {
-    pub report: &'a Report<'a>,
-    pub field: &'a Field,
+    pub telling: &'a Telling<'a>,
     pub stages: &'a [Stage],
     pub bye: &'a [u16],
 }
@@ -45,15 +44,14 @@ impl<'a> Model for Paired<'a> {
 
     ghost Value = { PairedRound };
 
-    ghost view = { λ r. record { sheet = r.report.now; facts = r.field.now; stages = r.stages.now; bye = r.bye.now } };
+    ghost view = { λ r. record { telling = r.telling.now; stages = r.stages.now; bye = r.bye.now } };
 }
 
 /// What is asked: by whom and for whom, by their start ranks, for the bye by 0; and in how many steps a candidate may
 /// be searched for.
 #[derive(Clone, Copy)]
 pub struct Question {
-    pub player: u16,
-    pub number: u16,
+    pub asked: Asked,
     pub steps: u64,
 }
 
@@ -64,22 +62,24 @@ pub struct Question {
 ///
 /// # Errors
 /// Memory was refused.
-pub fn instead(alloc: Global, round: &Paired<'_>, asked: Question) -> Result<Reply, AllocError>
-    requires { AllByRecursion (IsStage round.now.facts) round.now.stages }
-    ensures { IfOk result (λ reply. AnswersInstead round.now asked.player asked.number asked.steps (answer_of reply)) }
+pub fn instead(alloc: Global, round: &Paired<'_>, question: Question) -> Result<Reply, AllocError>
+    requires { AllByRecursion (IsStage round.now.telling.facts) round.now.stages }
+    ensures { IfOk result (λ reply. AnswersInstead round.now question.asked.player question.asked.number
+        question.steps (answer_of reply)) }
 {
-    let Some(player) = round.field.seat_with(asked.player) else {
-        return stands_against(alloc, asked.number, Obstacle::Absent);
+    let (telling, asked) = (round.telling, question.asked);
+    let Some(player) = telling.field.seat_with(asked.player) else {
+        return stands_against(alloc, telling, asked, Obstacle::Absent);
     };
-    let Some(rival) = rival_of(round.field, asked.number) else {
-        return stands_against(alloc, asked.number, Obstacle::Absent);
+    let Some(rival) = rival_of(telling.field, asked.number) else {
+        return stands_against(alloc, telling, asked, Obstacle::Absent);
     };
     let meeting = Meeting { player, rival };
     if let Some(obstacle) = obstacle_of(round, meeting) {
-        return stands_against(alloc, asked.number, obstacle);
+        return stands_against(alloc, telling, asked, obstacle);
     }
-    match decided_in(round.field, round.stages, meeting) {
-        Some(decided) => by_wish(alloc, round.field, decided, asked),
+    match decided_in(telling.field, round.stages, meeting) {
+        Some(decided) => by_wish(alloc, telling, decided, question),
         None => Ok(Reply::made(Status::Done, String::new(alloc))),
     }
 }
@@ -107,30 +107,34 @@ fn rival_of(field: &Field, number: u16) -> Option<Rival>
 
 // What stands against it, whatever is chosen in a bracket.
 fn obstacle_of(round: &Paired<'_>, meeting: Meeting) -> Option<Obstacle>
-    requires player { meeting.player < length round.now.facts.seats }
-    requires rival { IsRival round.now.facts meeting.rival }
+    requires player { meeting.player < length round.now.telling.facts.seats }
+    requires rival { IsRival round.now.telling.facts meeting.rival }
     ensures { result ≡ obstacle_of round.now meeting.player meeting.rival }
 {
+    let telling = round.telling;
     match meeting.rival {
-        Rival::Bye => against_bye(round.field, round.bye, meeting.player),
-        Rival::Seat(other) => against_meeting(round.report, round.field, meeting.player, other),
+        Rival::Bye => against_bye(telling.field, round.bye, meeting.player),
+        Rival::Seat(other) => {
+            against_meeting(telling.report, telling.field, meeting.player, other)
+        }
     }
 }
 
-// A line on who is asked for.
-fn line(alloc: Global, number: u16, what: &str) -> Result<Reply, AllocError>
-    ensures { IfOk result (λ reply. answer_of reply ≡ done (instead_text number what.now)) }
-{
-    let text = format!(in alloc; "instead {number} {what}\n")?;
-    Ok(Reply::made(Status::Done, text))
-}
-
 // The line on what stands against it.
-fn stands_against(alloc: Global, number: u16, obstacle: Obstacle) -> Result<Reply, AllocError>
-    ensures { IfOk result (λ reply. answer_of reply ≡ done (instead_text number (obstacle_text obstacle))) }
+fn stands_against(
+    alloc: Global,
+    telling: &Telling<'_>,
+    asked: Asked,
+    obstacle: Obstacle,
+) -> Result<Reply, AllocError>
+    ensures { IfOk result (λ reply. answer_of reply ≡ done (instead_text telling.now asked.player asked.number
+        (obstacle_text telling.now asked.player asked.number obstacle))) }
 {
-    let what = obstacle.to_string(alloc)?;
-    line(alloc, number, what.as_str())
+    let mut text = Page::new(alloc);
+    put_front(&mut text, telling, asked)?;
+    put_obstacle(&mut text, telling, asked, obstacle)?;
+    text.push_str("\n")?;
+    Ok(Reply::bytes(Status::Done, text.into_bytes()))
 }
 
 // Whether a seat stands in a bracket.
@@ -222,61 +226,81 @@ fn decided_in<'a>(field: &Field, stages: &'a [Stage], meeting: Meeting) -> Optio
 // does finds.
 fn by_wish(
     alloc: Global,
-    field: &Field,
+    telling: &Telling<'_>,
     decided: (&Stage, Wish),
-    asked: Question,
+    question: Question,
 ) -> Result<Reply, AllocError>
-    requires { IsStage field.now decided.0.now }
-    ensures { IfOk result (λ reply. AnswersWish field.now asked.steps asked.number decided.entry.0.now decided.entry.1
-        (grants decided.entry.1 decided.entry.0.now.candidate.lists) (answer_of reply)) }
+    requires { IsStage telling.now.facts decided.0.now }
+    ensures { IfOk result (λ reply. AnswersWish telling.now question.steps question.asked.player question.asked.number
+        decided.entry.0.now decided.entry.1 (grants decided.entry.1 decided.entry.0.now.candidate.lists)
+        (answer_of reply)) }
 {
     if decided.1.is_granted(decided.0.candidate()) {
-        return line(alloc, asked.number, "chosen");
+        return granted(alloc, telling, question.asked);
     }
-    by_search(alloc, field, decided, asked)
+    by_search(alloc, telling, decided, question)
+}
+
+// The line that says that what is chosen grants it.
+fn granted(alloc: Global, telling: &Telling<'_>, asked: Asked) -> Result<Reply, AllocError>
+    ensures { IfOk result (λ reply. answer_of reply ≡ done (granted_text telling.now asked.player asked.number)) }
+{
+    let mut text = Page::new(alloc);
+    put_granted(&mut text, telling, asked)?;
+    Ok(Reply::bytes(Status::Done, text.into_bytes()))
 }
 
 // What a search for a candidate that grants a wish in a bracket finds.
 #[tactic(auto, using(crate::proofs::InsteadLemmas::searched))]
 fn by_search(
     alloc: Global,
-    field: &Field,
+    telling: &Telling<'_>,
     decided: (&Stage, Wish),
-    asked: Question,
+    question: Question,
 ) -> Result<Reply, AllocError>
-    requires { IsStage field.now decided.0.now }
-    ensures { IfOk result (λ reply. IsSearched field.now asked.steps asked.number decided.entry.0.now decided.entry.1
-        (answer_of reply)) }
+    requires { IsStage telling.now.facts decided.0.now }
+    ensures { IfOk result (λ reply. IsSearched telling.now question.steps question.asked.player question.asked.number
+        decided.entry.0.now decided.entry.1 (answer_of reply)) }
 {
     let (stage, wish) = decided;
-    let found = best_instead(alloc, field, stage, wish, asked.steps)?;
-    tell(alloc, asked.number, stage, &found)
+    let found = best_instead(alloc, telling.field, stage, wish, question.steps)?;
+    tell(alloc, telling, question.asked, (stage, &found))
 }
 
 // What is told of what a search in a bracket found.
-fn tell(alloc: Global, number: u16, stage: &Stage, found: &Instead) -> Result<Reply, AllocError>
-    ensures { IfOk result (λ reply. answer_of reply ≡ search_answer number stage.now found.now) }
+fn tell(
+    alloc: Global,
+    telling: &Telling<'_>,
+    asked: Asked,
+    searched: (&Stage, &Instead),
+) -> Result<Reply, AllocError>
+    ensures { IfOk result (λ reply. answer_of reply
+        ≡ search_answer telling.now asked.player asked.number searched.entry.0.now searched.entry.1.now) }
 {
-    match found {
-        Instead::Best {
-            candidate: best,
-            quality,
-        } => {
-            let what = candidate(alloc, best, quality, stage.quality())?;
-            in_bracket(alloc, number, stage, what.as_str())
+    match searched.1 {
+        Instead::Undecided { used } => {
+            undecided(alloc, telling.wording, searched.0.reached().number(), *used)
         }
-        Instead::NoneEligible => in_bracket(alloc, number, stage, "none C.4"),
-        Instead::FewerMovedDown => in_bracket(alloc, number, stage, "none B.1"),
-        Instead::NoneLegal => in_bracket(alloc, number, stage, "none C.5"),
-        Instead::Undecided { used } => undecided(alloc, stage.reached().number(), *used),
+        Instead::Best { .. }
+        | Instead::NoneEligible
+        | Instead::FewerMovedDown
+        | Instead::NoneLegal => in_bracket(alloc, telling, asked, searched),
     }
 }
 
-// A line on what is told of a bracket.
-fn in_bracket(alloc: Global, number: u16, stage: &Stage, what: &str) -> Result<Reply, AllocError>
-    ensures { IfOk result (λ reply. answer_of reply ≡ done (in_bracket number stage.now what.now)) }
+// The line on what a search in a bracket found.
+fn in_bracket(
+    alloc: Global,
+    telling: &Telling<'_>,
+    asked: Asked,
+    searched: (&Stage, &Instead),
+) -> Result<Reply, AllocError>
+    ensures { IfOk result (λ reply. answer_of reply
+        ≡ done (in_bracket telling.now asked.player asked.number searched.entry.0.now searched.entry.1.now)) }
 {
-    let bracket = stage.reached().number();
-    let what = format!(in alloc; "bracket {bracket} {what}")?;
-    line(alloc, number, what.as_str())
+    let mut text = Page::new(alloc);
+    put_front(&mut text, telling, asked)?;
+    put_found(&mut text, telling.wording, searched)?;
+    text.push_str("\n")?;
+    Ok(Reply::bytes(Status::Done, text.into_bytes()))
 }

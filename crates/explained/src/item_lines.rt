@@ -1,12 +1,13 @@
 // The lines of what counts against the choice in a bracket, item by item (C.04.3 C.6 to C.19).
-ghost use Rattle.std.specs.Prelude.{◌≡◌, ◌++◌, OnOk, string_bytes};
+ghost use Rattle.std.specs.Prelude.{◌≡◌, ◌++◌, OnOk};
 ghost use Rattle.std.specs.List.{flat_map};
 ghost use Rattle.dutch_pair.specs.Prelude.{IsStage};
 ghost use Rattle.explained.specs.StageItems.{counted_text, item_text, items_text};
 
 use dutch_pair::{ITEMS, Item, Stage, who_counts};
-use dutch_player::Field;
-use round_lines::item_texts::{players_counted, put_list, put_many, put_next, put_psd, put_ranks};
+use round_lines::item_texts::{Counted, players_counted, put_list, put_next, put_psd, put_who};
+use round_lines::page::Page;
+use round_lines::telling::Telling;
 use std::alloc::AllocError;
 
 /// Puts what counts against the choice in a bracket, item by item in the order in which the items count: C.6 always,
@@ -16,39 +17,43 @@ use std::alloc::AllocError;
 /// # Errors
 /// Memory was refused.
 #[tactic(auto, unfolding(crate::specs::StageItems::items_text))]
-pub fn put_items(text: &mut String, field: &Field, stage: &Stage) -> Result<(), AllocError>
-    requires { IsStage field.now stage.now }
-    ensures { OnOk result (string_bytes text.new ≡ string_bytes text.old ++ items_text field.now stage.now) }
+pub fn put_items(text: &mut Page, telling: &Telling<'_>, stage: &Stage) -> Result<(), AllocError>
+    requires { IsStage telling.now.facts stage.now }
+    ensures { OnOk result (text.new ≡ text.old ++ items_text telling.now stage.now) }
 {
-    put_each_item(text, field, stage, &ITEMS)
+    put_each_item(text, telling, stage, &ITEMS)
 }
 
 // Puts items, one after the other.
 fn put_each_item(
-    text: &mut String,
-    field: &Field,
+    text: &mut Page,
+    telling: &Telling<'_>,
     stage: &Stage,
     items: &[Item],
 ) -> Result<(), AllocError>
-    requires { IsStage field.now stage.now }
-    ensures { OnOk result (string_bytes text.new
-        ≡ string_bytes text.old ++ flat_map (item_text field.now stage.now) items.now) }
+    requires { IsStage telling.now.facts stage.now }
+    ensures { OnOk result (text.new ≡ text.old ++ flat_map (item_text telling.now stage.now) items.now) }
 {
     for item in items {
-        put_item(text, field, stage, *item)?;
+        put_item(text, telling, stage, *item)?;
     }
     Ok(())
 }
 
 // Puts an item.
-fn put_item(text: &mut String, field: &Field, stage: &Stage, item: Item) -> Result<(), AllocError>
-    requires { IsStage field.now stage.now }
-    ensures { OnOk result (string_bytes text.new ≡ string_bytes text.old ++ item_text field.now stage.now item) }
+fn put_item(
+    text: &mut Page,
+    telling: &Telling<'_>,
+    stage: &Stage,
+    item: Item,
+) -> Result<(), AllocError>
+    requires { IsStage telling.now.facts stage.now }
+    ensures { OnOk result (text.new ≡ text.old ++ item_text telling.now stage.now item) }
 {
-    let quality = stage.quality();
+    let (wording, quality) = (telling.wording, stage.quality());
     match item {
-        Item::Psd => put_psd(text, item, quality.psd()),
-        Item::NextBracket => put_next(text, stage.reached().kind(), quality),
+        Item::Psd => put_psd(text, wording, item, quality.psd()),
+        Item::NextBracket => put_next(text, wording, stage.reached().kind(), quality),
         Item::WideDifferences
         | Item::ThirdColours
         | Item::MissedPreferences
@@ -56,30 +61,30 @@ fn put_item(text: &mut String, field: &Field, stage: &Stage, item: Item) -> Resu
         | Item::DownAgain
         | Item::UpAgain
         | Item::DownAgainBefore
-        | Item::UpAgainBefore => put_counted(text, field, stage, item),
-        Item::DownAgainBy => put_list(text, item, quality.down_again_by()),
-        Item::UpAgainBy => put_list(text, item, quality.up_again_by()),
-        Item::DownAgainBeforeBy => put_list(text, item, quality.down_again_before_by()),
-        Item::UpAgainBeforeBy => put_list(text, item, quality.up_again_before_by()),
+        | Item::UpAgainBefore => put_counted(text, telling, stage, item),
+        Item::DownAgainBy => put_list(text, wording, item, quality.down_again_by()),
+        Item::UpAgainBy => put_list(text, wording, item, quality.up_again_by()),
+        Item::DownAgainBeforeBy => put_list(text, wording, item, quality.down_again_before_by()),
+        Item::UpAgainBeforeBy => put_list(text, wording, item, quality.up_again_before_by()),
     }
 }
 
 // Puts a count, if it is not 0, and who counts.
 #[tactic(auto, unfolding(crate::specs::StageItems::counted_text))]
 fn put_counted(
-    text: &mut String,
-    field: &Field,
+    text: &mut Page,
+    telling: &Telling<'_>,
     stage: &Stage,
     item: Item,
 ) -> Result<(), AllocError>
-    requires { IsStage field.now stage.now }
-    ensures { OnOk result (string_bytes text.new ≡ string_bytes text.old ++ counted_text field.now stage.now item) }
+    requires { IsStage telling.now.facts stage.now }
+    ensures { OnOk result (text.new ≡ text.old ++ counted_text telling.now stage.now item) }
 {
     let count = players_counted(stage.quality(), item);
     if count == 0 {
         return Ok(());
     }
-    put_many(text, item, count)?;
-    put_ranks(text, field, &who_counts(field, stage, item))?;
-    text.push_str("\n")
+    let who = who_counts(telling.field, stage, item);
+    let seats = who.as_slice();
+    put_who(text, telling, item, Counted { count, seats })
 }

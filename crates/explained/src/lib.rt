@@ -8,8 +8,14 @@
 #![tactic(auto)]
 
 mod barrier_lines;
+mod board_lines;
 mod bracket_lines;
+mod choice_lines;
 pub mod explain;
 mod instead;
+mod instead_lines;
 mod item_lines;
 pub mod laws;
+mod member_lines;
+mod not_paired;
+mod round_line;

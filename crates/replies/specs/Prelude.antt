@@ -1,7 +1,7 @@
 -- The words of replies by one name: for its proofs, and for the crates above.
 pub use Rattle.replies.specs.Devices.{IsKept, IsUnread, Reading, reading_of}
 pub use Rattle.replies.specs.Input.{IsRead, ReadsInput, most_read}
-pub use Rattle.replies.specs.Texts.{accepted_text, not_of_bracket_text, not_reached_text, question_text, read_text, round_not_reached_text, undecided_text, word_text, write_text}
+pub use Rattle.replies.specs.Texts.{accepted_text, not_of_bracket_text, not_reached_text, question_text, read_text, round_not_reached_text, undecided_text, undecided_words, word_text, write_text}
 unfoldable pub use Rattle.replies.specs.Texts.{halves_text}
 pub use Rattle.replies.specs.Questions.{instead_fault, question_fault}
 pub use Rattle.replies.specs.Statuses.{Answer, behind, code_of, done, field_refusal, is_output, no_pairing, not_of_bracket, not_reached, out_of_memory, plain, question_refusal, read_fault, refusal, round_not_reached, tie_refusal, undecided, unread_refusal}

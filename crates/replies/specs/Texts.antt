@@ -35,6 +35,10 @@ accepted_text players rounds = codes "accepted players " ++ (decimal players ++ 
 abbrev pub undecided_text : ℕ → ℕ → List ℕ
 undecided_text number used = codes "undecided bracket " ++ (decimal number ++ (codes " steps " ++ (decimal used ++ codes "\n")))
 
+-- the same in a sentence
+abbrev pub undecided_words : ℕ → ℕ → List ℕ
+undecided_words number used = codes "Undecided: bracket " ++ (decimal number ++ (codes " needs more than " ++ (decimal used ++ codes " steps.\n")))
+
 -- the round ends before a bracket
 abbrev pub not_reached_text : ℕ → List ℕ
 not_reached_text number = codes "words: bracket " ++ (decimal number ++ codes " is not reached\n")

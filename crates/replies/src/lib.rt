@@ -3,8 +3,8 @@
 //!
 //! `read_input` reads what a source has, in a counted number of calls. `check::check`, `format::format` and
 //! `standings::standings` answer to the bytes of a report. `refusal` has the answers that several commands have,
-//! `texts` the lines of the program's own, and `wall` boards and standings with names. `Reply::write` writes a reply
-//! where its status says.
+//! `texts` the lines of the program's own, `wall` boards and standings with names, and `shown` a name as it is printed.
+//! `Reply::write` writes a reply where its status says.
 //!
 //! To mind: a text is made whole in memory before a byte of it is written, and if memory is refused, a call says so.
 #![tactic(auto)]
@@ -31,3 +31,4 @@ pub mod wall;
 pub use input::{InputFault, read_input};
 pub use question::{QuestionFault, question_fault};
 pub use reply::{Reply, Status, Text};
+pub use table::shown;

@@ -134,10 +134,10 @@ impl Reply {
     ///
     /// # Errors
     /// Memory was refused.
-    pub fn behind(&self, text: String) -> Result<Reply, AllocError>
-        ensures { IfOk result (λ reply. answer_of reply ≡ behind (string_bytes text) (answer_of self.now)) }
+    pub fn behind(&self, text: Vec<u8>) -> Result<Reply, AllocError>
+        ensures { IfOk result (λ reply. answer_of reply ≡ behind text.items (answer_of self.now)) }
     {
-        let mut bytes = text.into_bytes();
+        let mut bytes = text;
         bytes.extend_from_slice(self.text.as_bytes())?;
         Ok(Reply::bytes(self.status, bytes))
     }

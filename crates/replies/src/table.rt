@@ -123,8 +123,11 @@ impl TableLine {
     }
 }
 
-// A name with a question mark in place of each control character, or a dash where it is blank.
-fn shown(alloc: Global, name: &[u8]) -> Result<Vec<u8>, AllocError>
+/// A name with a question mark in place of each control character, or a dash where it is blank.
+///
+/// # Errors
+/// Memory was refused.
+pub fn shown(alloc: Global, name: &[u8]) -> Result<Vec<u8>, AllocError>
     ensures { IfOk result (λ text. text.items ≡ shown name.now) }
 {
     if name.is_empty() {

@@ -2,7 +2,7 @@
 ghost use Rattle.std.specs.Prelude.{◌≡◌, ◌++◌, IfOk, codes, string_bytes};
 ghost use Rattle.std.specs.Fmt.{decimal};
 ghost use Rattle.replies.specs.Texts.{accepted_text, halves_text, not_of_bracket_text, not_reached_text};
-ghost use Rattle.replies.specs.Texts.{question_text, round_not_reached_text, undecided_text, word_text};
+ghost use Rattle.replies.specs.Texts.{question_text, round_not_reached_text, undecided_text, undecided_words, word_text};
 
 use crate::points::HalfPoints;
 use crate::question::QuestionFault;
@@ -48,6 +48,13 @@ pub fn undecided(alloc: Global, number: u16, used: u64) -> Result<String, AllocE
     ensures { IfOk result (λ text. string_bytes text ≡ undecided_text number used) }
 {
     format!(in alloc; "undecided bracket {number} steps {used}\n")
+}
+
+/// The same in a sentence.
+pub fn undecided_words(alloc: Global, number: u16, used: u64) -> Result<String, AllocError>
+    ensures { IfOk result (λ text. string_bytes text ≡ undecided_words number used) }
+{
+    format!(in alloc; "Undecided: bracket {number} needs more than {used} steps.\n")
 }
 
 /// The round ends before a bracket.

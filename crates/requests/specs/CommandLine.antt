@@ -7,7 +7,7 @@ use Rattle.clap.specs.declared.builder.action.ArgAction.TheVariants.{SetTrue}
 use Rattle.clap.specs.declared.builder.value_parser.ValueParser.{ValueParser}
 use Rattle.clap.specs.declared.builder.value_parser.ValueParser.TheVariants.{Signed, Unsigned}
 use Rattle.requests.specs.declared.arguments.OptionName.{OptionName}
-use Rattle.requests.specs.declared.arguments.OptionName.TheVariants.{Bracket, From, Count, Player, Instead, Round, PlayedRound, Rounds, Initial, Steps, Report, Notes, Points, Renumber, BoardNames, PlayedNames, PlayerNames, Games, By, Bye}
+use Rattle.requests.specs.declared.arguments.OptionName.TheVariants.{Bracket, From, Count, Player, Instead, Round, PlayedRound, Rounds, Initial, Steps, Report, Notes, Points, Renumber, BoardNames, PlayedNames, PlayerNames, Games, Words, By, Bye}
 use Rattle.trf16.specs.declared.limits.TheConstants.{MOST_ROUNDS}
 
 -- ---- options
@@ -84,6 +84,10 @@ names_rule = flag_rule (codes "names")
 unfoldable pub games_rule : Rule
 games_rule = flag_rule (codes "games")
 
+-- `--words`
+unfoldable pub words_rule : Rule
+words_rule = flag_rule (codes "words")
+
 -- `--by LIST`
 unfoldable pub by_rule : Rule
 by_rule = option_rule (codes "by")
@@ -112,6 +116,7 @@ rule_for BoardNames = names_rule
 rule_for PlayedNames = names_rule
 rule_for PlayerNames = names_rule
 rule_for Games = games_rule
+rule_for Words = words_rule
 rule_for By = by_rule
 rule_for Bye = bye_rule
 
@@ -155,7 +160,7 @@ candidates_app = with_option (with_round_rules (with_bracket_rules (new_app (cod
 
 -- `explain`
 unfoldable pub explain_app : App
-explain_app = with_option (with_round_rules (with_option (with_option (new_app (codes "explain")) player_rule) instead_rule)) bye_rule
+explain_app = with_option (with_option (with_round_rules (with_option (with_option (new_app (codes "explain")) player_rule) instead_rule)) words_rule) bye_rule
 
 -- `standings`
 unfoldable pub standings_app : App

@@ -22,6 +22,8 @@ use Rattle.requests.specs.declared.options.Question.{Question}
 use Rattle.requests.specs.declared.options.Shown.{Shown}
 use Rattle.requests.specs.declared.options.Shown.TheVariants.{Boards, Names, Report}
 use Rattle.requests.specs.declared.options.StandingsOptions.{StandingsOptions}
+use Rattle.requests.specs.declared.options.Wording.{Wording}
+use Rattle.requests.specs.declared.options.Wording.TheVariants.{Plain, Words}
 use Rattle.trf16.specs.declared.limits.TheConstants.{MOST_ROUNDS}
 
 -- what follows where there is no fault
@@ -115,6 +117,10 @@ question_by None None = Ok None
 question_by None (Some instead) = Err InsteadAlone
 question_by (Some player) instead = Ok (Some (record { player = player; instead = instead }))
 
+-- `--words`: how the lines of an explanation are worded
+abbrev pub wording_by : Bool → Wording
+wording_by words = if words then Words else Plain
+
 -- `--report` and `--names`: what is printed of a round; both at once ask for nothing that there is
 abbrev pub shown_by : Bool → Bool → Result Shown WordFault
 shown_by false false = Ok Boards
@@ -148,7 +154,7 @@ unfoldable pub explain_options : List Row → Result ExplainOptions WordFault
 explain_options rows = do
   initial ← initial_in rows
   question ← question_by (player_in rows) (instead_in rows)
-  Ok (record { question = question; round = round_in rows; rounds = rounds_in rows; initial = initial; steps = steps_in rows })
+  Ok (record { question = question; round = round_in rows; rounds = rounds_in rows; initial = initial; steps = steps_in rows; wording = wording_by (flag_in (codes "words") rows) })
 
 -- `standings`
 unfoldable pub standings_options : List Row → Result StandingsOptions WordFault

@@ -4,7 +4,7 @@ ghost use Rattle.clap.specs.Words.{rule_of};
 ghost use Rattle.requests.specs.CommandLine.{bracket_rule, by_rule, bye_rule, count_rule, flag_rule, from_rule};
 ghost use Rattle.requests.specs.CommandLine.{games_rule, initial_rule, instead_rule, names_rule, notes_rule, option_rule};
 ghost use Rattle.requests.specs.CommandLine.{player_rule, points_rule, renumber_rule, report_rule, round_rule, rounds_rule, rule_for};
-ghost use Rattle.requests.specs.CommandLine.{steps_rule};
+ghost use Rattle.requests.specs.CommandLine.{steps_rule, words_rule};
 
 use clap::{Arg, ArgAction, value_parser};
 use std::alloc::Global;
@@ -49,6 +49,8 @@ pub enum OptionName {
     PlayerNames,
     /// `--games`.
     Games,
+    /// `--words`.
+    Words,
     /// `--by LIST`.
     By,
     /// `--bye N`.
@@ -91,6 +93,7 @@ pub fn option_for<'a>(alloc: Global, which: OptionName) -> Arg<'a>
         ),
         OptionName::PlayerNames => names(alloc, "Prints the names too, in columns for the wall"),
         OptionName::Games => games(alloc),
+        OptionName::Words => words(alloc),
         OptionName::By => by(alloc),
         OptionName::Bye => bye(alloc),
     }
@@ -295,6 +298,19 @@ fn games<'a>(alloc: Global) -> Arg<'a>
         alloc,
         "games",
         "Prints a column for each round too: opponent, colour and result, or the bye's letter",
+    )
+}
+
+// `--words`.
+#[tactic(auto, unfolding(crate::specs::CommandLine::words_rule))]
+fn words<'a>(alloc: Global) -> Arg<'a>
+    ensures rule { rule_of result ≡ words_rule }
+    ensures local { result.global ≡ false }
+{
+    flag(
+        alloc,
+        "words",
+        "Tells it in sentences and with names, to be read out",
     )
 }
 

@@ -44,13 +44,14 @@ const CANDIDATES: [OptionName; 8] = [
 ];
 
 // The options of `explain`.
-const EXPLAIN: [OptionName; 7] = [
+const EXPLAIN: [OptionName; 8] = [
     OptionName::Player,
     OptionName::Instead,
     OptionName::Round,
     OptionName::Rounds,
     OptionName::Initial,
     OptionName::Steps,
+    OptionName::Words,
     OptionName::Bye,
 ];
 
@@ -128,7 +129,7 @@ pub fn explain_command<'a>(alloc: Global) -> Made<'a>
         HelpTexts {
             about: "Tells why the next round is paired as it is, bracket by bracket, or for one player",
             usage: "arbiter explain [OPTIONS] < REPORT",
-            after_help: "The report is read from standard input. Printed are the round, and for each bracket its players with their scores, what is chosen in it, the criteria that count against that (C.6 to C.19; lists of score differences, the highest first), and each board with the rule of article E that decided its colours. With --player it is told of him and of his brackets, and with --instead the first rule that keeps him from this one.\n\nExamples:\n  arbiter explain < report.trf\n  arbiter explain --player 5 --instead 4 < report.trf\n  arbiter explain --player 5 --instead 0 < report.trf",
+            after_help: "The report is read from standard input. Printed are the round, and for each bracket its players with their scores, what is chosen in it, the criteria that count against that (C.6 to C.19; lists of score differences, the highest first), and each board with the rule of article E that decided its colours. With --player it is told of him and of his brackets, and with --instead the first rule that keeps him from this one. With --words it is told in sentences and with names.\n\nExamples:\n  arbiter explain < report.trf\n  arbiter explain --player 5 --instead 4 < report.trf\n  arbiter explain --player 5 --instead 0 < report.trf\n  arbiter explain --words --player 5 < report.trf",
         },
     );
     with_options(alloc, command, &EXPLAIN)

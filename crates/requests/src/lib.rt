@@ -18,6 +18,6 @@ mod words;
 pub use keys::Keys;
 pub use options::{
     BoardsOptions, CandidatesOptions, CheckOptions, ExplainOptions, FormatOptions, GivenCursor,
-    PairOptions, Question, Shown, StandingsOptions, WordFault,
+    PairOptions, Question, Shown, StandingsOptions, WordFault, Wording,
 };
 pub use words::{Meaning, Request, Task, meant, read_words};

@@ -4,7 +4,7 @@ ghost use Rattle.clap.specs.Words.{first_of};
 ghost use Rattle.requests.specs.Options.{boards_options, bracket_in, bye_in, candidates_options, check_options};
 ghost use Rattle.requests.specs.Options.{count_in, explain_options, flag_in, format_options, from_in, initial_in};
 ghost use Rattle.requests.specs.Options.{keys_by, number_in, pair_options, question_by, round_in, rounds_in, rows_in};
-ghost use Rattle.requests.specs.Options.{shown_by, standings_options, steps_in, u16_max};
+ghost use Rattle.requests.specs.Options.{shown_by, standings_options, steps_in, u16_max, wording_by};
 
 use crate::keys::{Keys, keys_in};
 use clap::ArgMatches;
@@ -92,6 +92,17 @@ pub struct ExplainOptions {
     pub initial: Option<Colour>,
     /// How many steps a bracket may take, and how many the search for another opponent may.
     pub steps: u64,
+    /// How the lines are worded.
+    pub wording: Wording,
+}
+
+/// How the lines of an explanation are worded.
+#[derive(Debug, Clone, Copy, PartialEq, Eq)]
+pub enum Wording {
+    /// As codes, for programs and for people who know them.
+    Plain,
+    /// As sentences with the names of the players, to be read out.
+    Words,
 }
 
 /// What is asked of one player.
@@ -227,6 +238,7 @@ pub fn explain_options(matches: &ArgMatches<'_>) -> Result<ExplainOptions, WordF
         rounds: rounds_in(matches),
         initial,
         steps: steps_in(matches),
+        wording: wording_by(flag_in(matches, "words")),
     })
 }
 
@@ -294,6 +306,17 @@ fn question_by(player: Option<u16>, instead: Option<u16>) -> Result<Option<Quest
         (None, None) => Ok(None),
         (None, Some(_)) => Err(WordFault::InsteadAlone),
         (Some(player), instead) => Ok(Some(Question { player, instead })),
+    }
+}
+
+// `--words`: how the lines are worded.
+fn wording_by(words: bool) -> Wording
+    ensures { result ≡ wording_by words }
+{
+    if words {
+        Wording::Words
+    } else {
+        Wording::Plain
     }
 }
 

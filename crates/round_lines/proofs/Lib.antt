@@ -1,3 +1,4 @@
 pub mod ListingLemmas
 pub mod PlayerLemmas
 pub mod ObstacleLemmas
+pub mod Joined

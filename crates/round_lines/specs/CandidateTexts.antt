@@ -16,10 +16,20 @@ kind_text Last = codes "last"
 kind_text Penultimate = codes "penultimate"
 kind_text Collapsed = codes "collapsed"
 
+abbrev pub kind_words : BracketKind → List ℕ
+kind_words Ordinary = codes "."
+kind_words Last = codes ", the last one."
+kind_words Penultimate = codes ", the penultimate one."
+kind_words Collapsed = codes ", the collapsed one."
+
 -- the bracket of a number: its kind, how many pairs it makes, and how many moved-down players are in them
 unfoldable pub bracket_text : ℕ → BracketKind → Shape → List ℕ
 bracket_text number kind shape =
     codes "bracket " ++ (decimal number ++ (codes " " ++ (kind_text kind ++ (codes " pairs " ++ (decimal shape.pairs ++ (codes " mdps " ++ (decimal shape.mdps ++ codes "\n")))))))
+
+unfoldable pub bracket_words : ℕ → BracketKind → Shape → List ℕ
+bracket_words number kind shape =
+    codes "Bracket " ++ (decimal number ++ (kind_words kind ++ (codes " Pairs: " ++ (decimal shape.pairs ++ (codes ". Moved-down players in them: " ++ (decimal shape.mdps ++ codes ".\n"))))))
 
 -- the start rank of a seat
 abbrev pub rank_text : Facts → ℕ → List ℕ

@@ -1,4 +1,4 @@
--- The line of an item that counts against a choice in a bracket (C.04.3 C.6 to C.19).
+-- The line of an item that counts against a choice in a bracket, and its sentence (C.04.3 C.6 to C.19).
 use Rattle.std.specs.Prelude.{ℕ, ◌==◌, if◌then◌else◌, List, [], ◌∷◌, ◌++◌, codes}
 use Rattle.std.specs.List.{flat_map}
 use Rattle.std.specs.Fmt.{decimal}
@@ -8,7 +8,10 @@ use Rattle.dutch_bracket.specs.declared.item.Item.{Item}
 use Rattle.dutch_bracket.specs.declared.item.Item.TheVariants.{Psd, NextBracket, WideDifferences, ThirdColours, MissedPreferences, MissedStrong, DownAgain, UpAgain, DownAgainBefore, UpAgainBefore, DownAgainBy, UpAgainBy, DownAgainBeforeBy, UpAgainBeforeBy}
 use Rattle.dutch_bracket.specs.declared.reached.BracketKind.{BracketKind}
 use Rattle.dutch_bracket.specs.declared.reached.BracketKind.TheVariants.{Ordinary, Last, Penultimate, Collapsed}
+use Rattle.requests.specs.declared.options.Wording.{Wording}
+use Rattle.requests.specs.declared.options.Wording.TheVariants.{Words}
 use Rattle.round_lines.specs.CandidateTexts.{rank_text}
+use Rattle.round_lines.specs.Tellings.{TellingFacts, in_wording, seats_words}
 use Rattle.replies.specs.Prelude.{halves_text}
 
 -- the article of an item
@@ -28,32 +31,95 @@ article_text UpAgainBy = codes "C.17"
 article_text DownAgainBeforeBy = codes "C.18"
 article_text UpAgainBeforeBy = codes "C.19"
 
+-- what an item tells of a choice, in words
+abbrev pub said_words : Item → List ℕ
+said_words Psd = codes "Score differences"
+said_words NextBracket = codes "Pairs that the next bracket can make"
+said_words WideDifferences = codes "Get a colour difference over 2, in a pair with a topscorer"
+said_words ThirdColours = codes "Get one colour three times in a row, in a pair with a topscorer"
+said_words MissedPreferences = codes "Do not get the colour they prefer"
+said_words MissedStrong = codes "Do not get the colour they strongly prefer"
+said_words DownAgain = codes "Go down, as in the last round"
+said_words UpAgain = codes "Go up, as in the last round"
+said_words DownAgainBefore = codes "Go down, as two rounds ago"
+said_words UpAgainBefore = codes "Go up, as two rounds ago"
+said_words DownAgainBy = codes "Score differences of those of C.12"
+said_words UpAgainBy = codes "Score differences of those of C.13"
+said_words DownAgainBeforeBy = codes "Score differences of those of C.14"
+said_words UpAgainBeforeBy = codes "Score differences of those of C.15"
+
+-- the article of an item, at the end of its sentence
+abbrev pub closing_words : Item → List ℕ
+closing_words item = codes " (" ++ (article_text item ++ codes ").\n")
+
+-- the sentence of an item: what it tells, of whom or what, and its article
+abbrev pub item_words : Item → List ℕ → List ℕ
+item_words item what = said_words item ++ (codes ": " ++ (what ++ closing_words item))
+
+-- ---- lists of differences
+
+-- what parts differences in a list of them: a comma, and in a sentence a blank too
+abbrev pub mark_text : Wording → List ℕ
+mark_text wording = in_wording wording (codes ",") (codes ", ")
+
+-- what stands for no difference
+abbrev pub none_text : Wording → List ℕ
+none_text wording = in_wording wording (codes "-") (codes "none")
+
+-- differences as points, with commas between them
+abbrev pub points_text : Wording → List ℕ → List ℕ
+points_text wording [] = none_text wording
+points_text wording (halves ∷ others) = halves_text halves ++ flat_map (λ more. mark_text wording ++ halves_text more) others
+
 -- differences as points, each behind a blank; a dash for none
 abbrev pub differences_text : List ℕ → List ℕ
 differences_text [] = codes " -"
 differences_text (first ∷ rest) = flat_map (λ halves. codes " " ++ halves_text halves) (first ∷ rest)
 
 -- C.6: always told
-abbrev pub psd_text : Item → List ℕ → List ℕ
-psd_text item differences = article_text item ++ (differences_text differences ++ codes "\n")
+abbrev pub psd_line : Item → List ℕ → List ℕ
+psd_line item differences = article_text item ++ (differences_text differences ++ codes "\n")
 
--- C.7: the pairs of the next bracket and its PSD, always told in an ordinary bracket, behind which alone there is one
-abbrev pub next_text : BracketKind → Quality → List ℕ
-next_text Ordinary quality = codes "C.7 " ++ (decimal quality.next_pairs ++ (differences_text quality.next_psd ++ codes "\n"))
-next_text Last quality = []
-next_text Penultimate quality = []
-next_text Collapsed quality = []
+abbrev pub psd_words : Item → List ℕ → List ℕ
+psd_words item differences = item_words item (points_text Words differences)
+
+abbrev pub psd_text : Wording → Item → List ℕ → List ℕ
+psd_text wording item differences = in_wording wording (psd_line item differences) (psd_words item differences)
 
 -- C.16 to C.19: told where there are some
-abbrev pub list_text : Item → List ℕ → List ℕ
-list_text item [] = []
-list_text item (first ∷ rest) = psd_text item (first ∷ rest)
+abbrev pub list_text : Wording → Item → List ℕ → List ℕ
+list_text wording item [] = []
+list_text wording item (first ∷ rest) = psd_text wording item (first ∷ rest)
 
--- C.8 to C.15: how many players count
-abbrev pub many_text : Item → ℕ → List ℕ
-many_text item count = article_text item ++ (codes " " ++ (decimal count ++ codes " players"))
+-- ---- the next bracket
 
--- the same, told where it is not 0, and who counts, by rank
-abbrev pub count_text : Facts → Item → ℕ → List ℕ → List ℕ
-count_text facts item count who =
-    if count == 0 then [] else many_text item count ++ (flat_map (λ seat. codes " " ++ rank_text facts seat) who ++ codes "\n")
+-- C.7: the pairs of the next bracket and its PSD
+abbrev pub next_line : Quality → List ℕ
+next_line quality = codes "C.7 " ++ (decimal quality.next_pairs ++ (differences_text quality.next_psd ++ codes "\n"))
+
+unfoldable pub next_words : Quality → List ℕ
+next_words quality = item_words NextBracket (decimal quality.next_pairs ++ (codes ". Score differences there: " ++ points_text Words quality.next_psd))
+
+-- always told in an ordinary bracket, behind which alone there is one
+abbrev pub next_text : Wording → BracketKind → Quality → List ℕ
+next_text wording Ordinary quality = in_wording wording (next_line quality) (next_words quality)
+next_text wording Last quality = []
+next_text wording Penultimate quality = []
+next_text wording Collapsed quality = []
+
+-- ---- players who count
+
+-- C.8 to C.15: how many players count, and who, by rank
+unfoldable pub who_line : Facts → Item → ℕ → List ℕ → List ℕ
+who_line facts item count who =
+    article_text item ++ (codes " " ++ (decimal count ++ (codes " players" ++ (flat_map (λ seat. codes " " ++ rank_text facts seat) who ++ codes "\n"))))
+
+unfoldable pub who_words : TellingFacts → Item → List ℕ → List ℕ
+who_words telling item who = item_words item (seats_words telling who)
+
+abbrev pub who_text : TellingFacts → Item → ℕ → List ℕ → List ℕ
+who_text telling item count who = in_wording telling.wording (who_line telling.facts item count who) (who_words telling item who)
+
+-- told where the count is not 0
+abbrev pub count_text : TellingFacts → Item → ℕ → List ℕ → List ℕ
+count_text telling item count who = if count == 0 then [] else who_text telling item count who

@@ -6,6 +6,7 @@ use Rattle.std.specs.Option.{option_map_or}
 use Rattle.dutch_order.specs.Prelude.{numbers_from}
 use Rattle.dutch_player.specs.Prelude.{Facts, seat_at, opponent_played, colours_allow}
 use Rattle.trf16.specs.Prelude.{apart, Sheet, cell_in, rounds_played}
+use Rattle.round_lines.specs.Tellings.{TellingFacts, in_wording, player_words}
 use Rattle.round_lines.specs.declared.obstacle.Obstacle.{Obstacle}
 use Rattle.round_lines.specs.declared.obstacle.Obstacle.TheVariants.{Absent, Met, Apart, Colours, HadBye, Even}
 
@@ -40,10 +41,27 @@ abbrev pub against_bye : Facts → List ℕ → ℕ → Option Obstacle
 against_bye facts bye seat = if (seat_at facts seat).may_bye then is_even bye else Some HadBye
 
 -- an obstacle as it is told
-abbrev pub obstacle_text : Obstacle → List ℕ
-obstacle_text Absent = codes "absent"
-obstacle_text (Met round) = codes "met round " ++ (decimal round ++ codes " C.1")
-obstacle_text Apart = codes "apart XXP"
-obstacle_text Colours = codes "colours C.3"
-obstacle_text HadBye = codes "bye C.2"
-obstacle_text Even = codes "even"
+abbrev pub obstacle_line : Obstacle → List ℕ
+obstacle_line Absent = codes "absent"
+obstacle_line (Met round) = codes "met round " ++ (decimal round ++ codes " C.1")
+obstacle_line Apart = codes "apart XXP"
+obstacle_line Colours = codes "colours C.3"
+obstacle_line HadBye = codes "bye C.2"
+obstacle_line Even = codes "even"
+
+-- who is absent where a player asks for a number: one of the two, or, where the bye is asked for by 0, the player
+abbrev pub absent_words : Sheet → ℕ → ℕ → List ℕ
+absent_words sheet player number = if number == 0 then player_words sheet player ++ codes " is absent." else codes "One of them is absent."
+
+-- the same in a sentence to a player who asks for a number
+abbrev pub obstacle_words : Sheet → ℕ → ℕ → Obstacle → List ℕ
+obstacle_words sheet player number Absent = absent_words sheet player number
+obstacle_words sheet player number (Met round) = codes "They met in round " ++ (decimal round ++ codes " (C.1).")
+obstacle_words sheet player number Apart = codes "An XXP line keeps them apart."
+obstacle_words sheet player number Colours = codes "Both have to get the same colour (C.3)."
+obstacle_words sheet player number HadBye = player_words sheet player ++ codes " has had the bye, or a point without a game (C.2)."
+obstacle_words sheet player number Even = codes "The number of players present is even."
+
+abbrev pub obstacle_text : TellingFacts → ℕ → ℕ → Obstacle → List ℕ
+obstacle_text telling player number obstacle =
+    in_wording telling.wording (obstacle_line obstacle) (obstacle_words telling.sheet player number obstacle)

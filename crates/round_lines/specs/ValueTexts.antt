@@ -1,46 +1,78 @@
 -- The values of a quality's items as texts, beside those of another one (C.04.3 C.6 to C.19).
 use Rattle.std.specs.Prelude.{ℕ, ◌==◌, if◌then◌else◌, List, [], ◌∷◌, ◌++◌, Option, Some, None, codes}
-use Rattle.std.specs.List.{flat_map}
 use Rattle.std.specs.Fmt.{decimal}
 use Rattle.dutch_order.specs.Prelude.{Arrangement, cursor_text}
 use Rattle.dutch_bracket.specs.Prelude.{Quality, first_difference}
 use Rattle.dutch_bracket.specs.declared.item.Item.{Item}
 use Rattle.dutch_bracket.specs.declared.item.Item.TheVariants.{Psd, NextBracket, WideDifferences, ThirdColours, MissedPreferences, MissedStrong, DownAgain, UpAgain, DownAgainBefore, UpAgainBefore, DownAgainBy, UpAgainBy, DownAgainBeforeBy, UpAgainBeforeBy}
-use Rattle.round_lines.specs.ItemTexts.{article_text}
-use Rattle.replies.specs.Prelude.{halves_text}
+use Rattle.requests.specs.declared.options.Wording.{Wording}
+use Rattle.requests.specs.declared.options.Wording.TheVariants.{Plain, Words}
+use Rattle.round_lines.specs.ItemTexts.{article_text, points_text}
+use Rattle.round_lines.specs.Tellings.{in_wording}
 
--- differences as points, with commas between them; a dash where there is none
-abbrev pub points_text : List ℕ → List ℕ
-points_text [] = codes "-"
-points_text (halves ∷ others) = halves_text halves ++ flat_map (λ more. codes "," ++ halves_text more) others
-
--- C.7: the pairs of the next bracket; where the other quality has as many, their PSD
-abbrev pub next_text : Quality → Quality → List ℕ
-next_text mine theirs = if mine.next_pairs == theirs.next_pairs then points_text mine.next_psd else decimal mine.next_pairs
+-- C.7: the pairs of the next bracket; where the other quality has as many, its PSD
+abbrev pub next_value : Wording → Quality → Quality → List ℕ
+next_value wording mine theirs = if mine.next_pairs == theirs.next_pairs then points_text wording mine.next_psd else decimal mine.next_pairs
 
 -- C.6 to C.19: the value of an item in a quality, beside another one
-abbrev pub value_text : Item → Quality → Quality → List ℕ
-value_text Psd mine theirs = points_text mine.psd
-value_text NextBracket mine theirs = next_text mine theirs
-value_text WideDifferences mine theirs = decimal mine.wide_differences
-value_text ThirdColours mine theirs = decimal mine.third_colours
-value_text MissedPreferences mine theirs = decimal mine.missed_preferences
-value_text MissedStrong mine theirs = decimal mine.missed_strong
-value_text DownAgain mine theirs = decimal mine.down_again
-value_text UpAgain mine theirs = decimal mine.up_again
-value_text DownAgainBefore mine theirs = decimal mine.down_again_before
-value_text UpAgainBefore mine theirs = decimal mine.up_again_before
-value_text DownAgainBy mine theirs = points_text mine.down_again_by
-value_text UpAgainBy mine theirs = points_text mine.up_again_by
-value_text DownAgainBeforeBy mine theirs = points_text mine.down_again_before_by
-value_text UpAgainBeforeBy mine theirs = points_text mine.up_again_before_by
+abbrev pub value_text : Wording → Item → Quality → Quality → List ℕ
+value_text wording Psd mine theirs = points_text wording mine.psd
+value_text wording NextBracket mine theirs = next_value wording mine theirs
+value_text wording WideDifferences mine theirs = decimal mine.wide_differences
+value_text wording ThirdColours mine theirs = decimal mine.third_colours
+value_text wording MissedPreferences mine theirs = decimal mine.missed_preferences
+value_text wording MissedStrong mine theirs = decimal mine.missed_strong
+value_text wording DownAgain mine theirs = decimal mine.down_again
+value_text wording UpAgain mine theirs = decimal mine.up_again
+value_text wording DownAgainBefore mine theirs = decimal mine.down_again_before
+value_text wording UpAgainBefore mine theirs = decimal mine.up_again_before
+value_text wording DownAgainBy mine theirs = points_text wording mine.down_again_by
+value_text wording UpAgainBy mine theirs = points_text wording mine.up_again_by
+value_text wording DownAgainBeforeBy mine theirs = points_text wording mine.down_again_before_by
+value_text wording UpAgainBeforeBy mine theirs = points_text wording mine.up_again_before_by
+
+-- ---- what is compared, in words
+
+-- C.7: the pairs of the next bracket; where both have as many, its PSD
+abbrev pub next_meaning : Quality → Quality → List ℕ
+next_meaning mine theirs =
+    if mine.next_pairs == theirs.next_pairs then codes "score differences in the next bracket" else codes "pairs in the next bracket"
+
+-- C.6 to C.19: what an item compares in two qualities
+abbrev pub meaning_words : Item → Quality → Quality → List ℕ
+meaning_words Psd mine theirs = codes "score differences"
+meaning_words NextBracket mine theirs = next_meaning mine theirs
+meaning_words WideDifferences mine theirs = codes "colour differences of topscorers' pairs"
+meaning_words ThirdColours mine theirs = codes "colours three times in topscorers' pairs"
+meaning_words MissedPreferences mine theirs = codes "colours preferred and not given"
+meaning_words MissedStrong mine theirs = codes "colours strongly preferred and not given"
+meaning_words DownAgain mine theirs = codes "players who go down again"
+meaning_words UpAgain mine theirs = codes "players who go up again"
+meaning_words DownAgainBefore mine theirs = codes "players who go down again"
+meaning_words UpAgainBefore mine theirs = codes "players who go up again"
+meaning_words DownAgainBy mine theirs = codes "score differences of those players"
+meaning_words UpAgainBy mine theirs = codes "score differences of those players"
+meaning_words DownAgainBeforeBy mine theirs = codes "score differences of those players"
+meaning_words UpAgainBeforeBy mine theirs = codes "score differences of those players"
+
+-- ---- a candidate beside the chosen one
 
 -- how a quality stands to the chosen one: the first item in which they differ, and its value in both; or equal, and so behind
-abbrev pub against_text : Quality → Quality → Option Item → List ℕ
-against_text mine chosen (Some item) =
-    codes " " ++ (article_text item ++ (codes " " ++ (value_text item mine chosen ++ (codes " " ++ value_text item chosen mine))))
-against_text mine chosen None = codes " behind"
+abbrev pub against_line : Quality → Quality → Option Item → List ℕ
+against_line mine chosen (Some item) =
+    codes " " ++ (article_text item ++ (codes " " ++ (value_text Plain item mine chosen ++ (codes " " ++ value_text Plain item chosen mine))))
+against_line mine chosen None = codes " behind"
 
--- a candidate, and how its quality stands to the chosen one's
-abbrev pub candidate_text : Arrangement → Quality → Quality → List ℕ
-candidate_text lists mine chosen = cursor_text lists ++ against_text mine chosen (first_difference mine chosen)
+-- the item in which a quality is worse, and what it compares
+abbrev pub worse_words : Item → Quality → Quality → List ℕ
+worse_words item mine chosen = codes "is worse at " ++ (article_text item ++ (codes " (" ++ (meaning_words item mine chosen ++ codes "): ")))
+
+abbrev pub against_words : Quality → Quality → Option Item → List ℕ
+against_words mine chosen (Some item) =
+    worse_words item mine chosen ++ (value_text Words item mine chosen ++ (codes ", where the chosen one has " ++ (value_text Words item chosen mine ++ codes ".")))
+against_words mine chosen None = codes "is as good, and stands behind the chosen one in the order of article D."
+
+-- a candidate, and how its quality stands to the chosen one's; in words without its cursor
+abbrev pub candidate_text : Wording → Arrangement → Quality → Quality → List ℕ
+candidate_text wording lists mine chosen =
+    in_wording wording (cursor_text lists ++ against_line mine chosen (first_difference mine chosen)) (against_words mine chosen (first_difference mine chosen))

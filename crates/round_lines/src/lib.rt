@@ -13,8 +13,11 @@ pub mod bracket_texts;
 pub mod item_texts;
 pub mod listing;
 mod obstacle;
+pub mod page;
 mod player_line;
+mod player_sentences;
+pub mod telling;
 pub mod value_texts;
 
-pub use obstacle::{Obstacle, against_bye, against_meeting};
+pub use obstacle::{Asked, Obstacle, against_bye, against_meeting, put_obstacle};
 pub use player_line::{put_absent, put_player};

@@ -1,9 +1,14 @@
 // What stands against a meeting in the next round, or against the bye, whatever is chosen in a bracket (C.04.3 C.1 to
 // C.3).
-ghost use Rattle.std.specs.Prelude.{◌≡◌, ◌<◌, Some, length};
-ghost use Rattle.round_lines.specs.Obstacles.{against_bye, against_meeting, first_meeting, has_played};
+ghost use Rattle.std.specs.Prelude.{◌≡◌, ◌<◌, ◌++◌, OnOk, Some, length};
+ghost use Rattle.round_lines.specs.Obstacles.{absent_words, against_bye, against_meeting, first_meeting, has_played};
+ghost use Rattle.round_lines.specs.Obstacles.{obstacle_text, obstacle_words};
 
+use crate::page::Page;
+use crate::telling::{Telling, put_one};
 use dutch_player::{Field, opponent_played};
+use requests::Wording;
+use std::alloc::AllocError;
 use std::fmt;
 use trf16::Report;
 
@@ -25,9 +30,9 @@ pub enum Obstacle {
 }
 
 impl fmt::Display for Obstacle {
-    ghost use Rattle.round_lines.specs.Obstacles.{obstacle_text};
+    ghost use Rattle.round_lines.specs.Obstacles.{obstacle_line};
 
-    ghost output = { λ obstacle. Some (obstacle_text obstacle) };
+    ghost output = { λ obstacle. Some (obstacle_line obstacle) };
 
     fn fmt<W: fmt::Write>(&self, f: &mut fmt::Formatter<W>) -> fmt::Result {
         match *self {
@@ -98,4 +103,64 @@ pub fn against_bye(field: &Field, bye: &[u16], seat: u16) -> Option<Obstacle>
         return Some(Obstacle::Even);
     }
     None
+}
+
+/// What a player asks for, by start ranks: to meet the player of a number, or for 0 to have the bye.
+#[derive(Clone, Copy)]
+pub struct Asked {
+    pub player: u16,
+    pub number: u16,
+}
+
+/// Puts what stands against it, without the end of a line.
+///
+/// # Errors
+/// Memory was refused.
+pub fn put_obstacle(
+    text: &mut Page,
+    telling: &Telling<'_>,
+    asked: Asked,
+    obstacle: Obstacle,
+) -> Result<(), AllocError>
+    ensures { OnOk result (text.new
+        ≡ text.old ++ obstacle_text telling.now asked.player asked.number obstacle) }
+{
+    match telling.wording {
+        Wording::Plain => write!(text, "{obstacle}"),
+        Wording::Words => put_obstacle_words(text, telling, asked, obstacle),
+    }
+}
+
+// Puts the sentence of what stands against it.
+fn put_obstacle_words(
+    text: &mut Page,
+    telling: &Telling<'_>,
+    asked: Asked,
+    obstacle: Obstacle,
+) -> Result<(), AllocError>
+    ensures { OnOk result (text.new
+        ≡ text.old ++ obstacle_words telling.now.sheet asked.player asked.number obstacle) }
+{
+    match obstacle {
+        Obstacle::Absent => put_absent_words(text, telling, asked),
+        Obstacle::Met { round } => write!(text, "They met in round {round} (C.1)."),
+        Obstacle::Apart => text.push_str("An XXP line keeps them apart."),
+        Obstacle::Colours => text.push_str("Both have to get the same colour (C.3)."),
+        Obstacle::HadBye => {
+            put_one(text, telling.report, asked.player)?;
+            text.push_str(" has had the bye, or a point without a game (C.2).")
+        }
+        Obstacle::Even => text.push_str("The number of players present is even."),
+    }
+}
+
+// Puts who is absent.
+fn put_absent_words(text: &mut Page, telling: &Telling<'_>, asked: Asked) -> Result<(), AllocError>
+    ensures { OnOk result (text.new ≡ text.old ++ absent_words telling.now.sheet asked.player asked.number) }
+{
+    if asked.number != 0 {
+        return text.push_str("One of them is absent.");
+    }
+    put_one(text, telling.report, asked.player)?;
+    text.push_str(" is absent.")
 }

@@ -1,36 +1,50 @@
-// The line of a player: what they bring to the next round.
-ghost use Rattle.std.specs.Prelude.{◌≡◌, ◌<◌, ◌++◌, IfOk, OnOk, codes, length, string_bytes};
+// What a player brings to the next round, in one line; and that a player is absent.
+ghost use Rattle.std.specs.Prelude.{◌≡◌, ◌<◌, ◌++◌, IfOk, OnOk, codes, length};
 ghost use Rattle.std.specs.List.{flat_map};
 ghost use Rattle.std.specs.Fmt.{decimal};
 ghost use Rattle.dutch_player.specs.Prelude.{seat_at};
 ghost use Rattle.trf16.specs.Prelude.{rounds_played};
 ghost use Rattle.round_lines.specs.PlayerTexts.{absent_text, ascending, colour_text, colours_text, difference_text};
 ghost use Rattle.round_lines.specs.PlayerTexts.{float_text, floats_text, game_text, games_text, history_text};
-ghost use Rattle.round_lines.specs.PlayerTexts.{met_text, placed, player_text, preference_text, rights_text};
-ghost use Rattle.round_lines.specs.PlayerTexts.{score_text, strength_text, wish_text, yes_text};
+ghost use Rattle.round_lines.specs.PlayerTexts.{met_text, placed, player_line, player_text, preference_text};
+ghost use Rattle.round_lines.specs.PlayerTexts.{rights_text, score_text, strength_text, wish_text, yes_text};
 
+use crate::page::Page;
+use crate::player_sentences::put_player_sentences;
+use crate::telling::{Telling, put_one};
 use dutch_player::{Field, Float, Pref, Strength, colour_played};
 use replies::points::HalfPoints;
+use requests::Wording;
 use std::alloc::{AllocError, Global};
 use trf16::{Colour, Report};
 
-/// Puts the line of a present player of a report: their score, the colours of their games round by round, what these
-/// come to (A.6), their floats in the last round and in the one before it (A.4), whom they have met (C.1), and whether
-/// they are a topscorer (A.7) and may have the bye (C.2).
+/// Puts what a present player of a report brings to the next round: their score, the colours of their games round by
+/// round, what these come to (A.6), their floats in the last round and in the one before it (A.4), whom they have met
+/// (C.1), and whether they are a topscorer (A.7) and may have the bye (C.2). In words these are five sentences, each
+/// on a line.
 ///
 /// # Errors
 /// Memory was refused.
 #[tactic(auto, unfolding(crate::specs::PlayerTexts::player_text))]
-pub fn put_player(
-    text: &mut String,
-    report: &Report<'_>,
-    field: &Field,
-    seat: u16,
-) -> Result<(), AllocError>
-    requires { seat < length field.now.seats }
-    ensures { OnOk result (string_bytes text.new ≡ string_bytes text.old ++ player_text report.now field.now seat) }
+pub fn put_player(text: &mut Page, telling: &Telling<'_>, seat: u16) -> Result<(), AllocError>
+    requires { seat < length telling.now.facts.seats }
+    ensures { OnOk result (text.new ≡ text.old ++ player_text telling.now seat) }
 {
-    put_history(text, report, field, seat)?;
+    match telling.wording {
+        Wording::Plain => put_player_line(text, telling, seat),
+        Wording::Words => put_player_sentences(text, telling, seat),
+    }
+}
+
+// Puts the line of a player.
+#[tactic(auto, unfolding(crate::specs::PlayerTexts::player_line))]
+fn put_player_line(text: &mut Page, telling: &Telling<'_>, seat: u16) -> Result<(), AllocError>
+    requires { seat < length telling.now.facts.seats }
+    ensures { OnOk result (text.new ≡ text.old
+        ++ player_line telling.now.sheet telling.now.facts (seat_at telling.now.facts seat)) }
+{
+    let field = telling.field;
+    put_history(text, telling.report, field, seat)?;
     put_floats(text, field, seat)?;
     text.push_str(" met")?;
     put_met(text, field.opponents(seat))?;
@@ -40,14 +54,14 @@ pub fn put_player(
 // Puts a player's score and colours.
 #[tactic(auto, unfolding(crate::specs::PlayerTexts::history_text))]
 fn put_history(
-    text: &mut String,
+    text: &mut Page,
     report: &Report<'_>,
     field: &Field,
     seat: u16,
 ) -> Result<(), AllocError>
     requires { seat < length field.now.seats }
-    ensures { OnOk result (string_bytes text.new
-        ≡ string_bytes text.old ++ history_text report.now (seat_at field.now seat)) }
+    ensures { OnOk result (text.new
+        ≡ text.old ++ history_text report.now (seat_at field.now seat)) }
 {
     put_score(text, field, seat)?;
     text.push_str(" colours")?;
@@ -55,21 +69,27 @@ fn put_history(
     put_wish(text, field, seat)
 }
 
-/// Puts the line of a player who is absent.
+/// Puts that a player is absent.
 ///
 /// # Errors
 /// Memory was refused.
-pub fn put_absent(text: &mut String, start: u16) -> Result<(), AllocError>
-    ensures { OnOk result (string_bytes text.new ≡ string_bytes text.old ++ absent_text start) }
+pub fn put_absent(text: &mut Page, telling: &Telling<'_>, start: u16) -> Result<(), AllocError>
+    ensures { OnOk result (text.new ≡ text.old ++ absent_text telling.now start) }
 {
-    write!(text, "player {start} absent\n")
+    match telling.wording {
+        Wording::Plain => write!(text, "player {start} absent\n"),
+        Wording::Words => {
+            put_one(text, telling.report, start)?;
+            text.push_str(" is absent.\n")
+        }
+    }
 }
 
 // Puts who a player is, and their score.
 #[tactic(auto, unfolding(crate::specs::PlayerTexts::score_text))]
-fn put_score(text: &mut String, field: &Field, seat: u16) -> Result<(), AllocError>
+fn put_score(text: &mut Page, field: &Field, seat: u16) -> Result<(), AllocError>
     requires { seat < length field.now.seats }
-    ensures { OnOk result (string_bytes text.new ≡ string_bytes text.old ++ score_text (seat_at field.now seat)) }
+    ensures { OnOk result (text.new ≡ text.old ++ score_text (seat_at field.now seat)) }
 {
     let start = field.start_rank(seat);
     let score = HalfPoints(u32::from(field.score(seat)));
@@ -88,13 +108,8 @@ fn game(colour: Option<Colour>) -> &'static str
 }
 
 // Puts the colours of a player's games, round by round.
-fn put_games(
-    text: &mut String,
-    report: &Report<'_>,
-    start: u16,
-    rounds: u8,
-) -> Result<(), AllocError>
-    ensures { OnOk result (string_bytes text.new ≡ string_bytes text.old ++ games_text report.now start rounds) }
+fn put_games(text: &mut Page, report: &Report<'_>, start: u16, rounds: u8) -> Result<(), AllocError>
+    ensures { OnOk result (text.new ≡ text.old ++ games_text report.now start rounds) }
 {
     for round in 0..rounds {
         let cell = report.cell(start, round + 1);
@@ -104,9 +119,9 @@ fn put_games(
 }
 
 // Puts the same, or a dash where no round was paired.
-fn put_colours(text: &mut String, report: &Report<'_>, start: u16) -> Result<(), AllocError>
-    ensures { OnOk result (string_bytes text.new
-        ≡ string_bytes text.old ++ colours_text report.now start (rounds_played report.now)) }
+fn put_colours(text: &mut Page, report: &Report<'_>, start: u16) -> Result<(), AllocError>
+    ensures { OnOk result (text.new
+        ≡ text.old ++ colours_text report.now start (rounds_played report.now)) }
 {
     let rounds = report.rounds_played();
     if rounds == 0 {
@@ -116,8 +131,8 @@ fn put_colours(text: &mut String, report: &Report<'_>, start: u16) -> Result<(),
 }
 
 // Puts a colour difference, with its sign.
-fn put_difference(text: &mut String, games: i16) -> Result<(), AllocError>
-    ensures { OnOk result (string_bytes text.new ≡ string_bytes text.old ++ difference_text games) }
+fn put_difference(text: &mut Page, games: i16) -> Result<(), AllocError>
+    ensures { OnOk result (text.new ≡ text.old ++ difference_text games) }
 {
     if 0 < games {
         write!(text, "+{games}")
@@ -126,7 +141,7 @@ fn put_difference(text: &mut String, games: i16) -> Result<(), AllocError>
     }
 }
 
-fn strength(kind: Strength) -> &'static str
+pub(crate) fn strength(kind: Strength) -> &'static str
     ensures { result.now ≡ strength_text kind }
 {
     match kind {
@@ -136,7 +151,7 @@ fn strength(kind: Strength) -> &'static str
     }
 }
 
-fn colour(colour: Colour) -> &'static str
+pub(crate) fn colour(colour: Colour) -> &'static str
     ensures { result.now ≡ colour_text colour }
 {
     match colour {
@@ -146,8 +161,8 @@ fn colour(colour: Colour) -> &'static str
 }
 
 // Puts a preference.
-fn put_preference(text: &mut String, preference: Option<Pref>) -> Result<(), AllocError>
-    ensures { OnOk result (string_bytes text.new ≡ string_bytes text.old ++ preference_text preference) }
+fn put_preference(text: &mut Page, preference: Option<Pref>) -> Result<(), AllocError>
+    ensures { OnOk result (text.new ≡ text.old ++ preference_text preference) }
 {
     let Some(wish) = preference else {
         return text.push_str("none");
@@ -158,9 +173,9 @@ fn put_preference(text: &mut String, preference: Option<Pref>) -> Result<(), All
 
 // Puts what a player's colours come to.
 #[tactic(auto, unfolding(crate::specs::PlayerTexts::wish_text))]
-fn put_wish(text: &mut String, field: &Field, seat: u16) -> Result<(), AllocError>
+fn put_wish(text: &mut Page, field: &Field, seat: u16) -> Result<(), AllocError>
     requires { seat < length field.now.seats }
-    ensures { OnOk result (string_bytes text.new ≡ string_bytes text.old ++ wish_text (seat_at field.now seat)) }
+    ensures { OnOk result (text.new ≡ text.old ++ wish_text (seat_at field.now seat)) }
 {
     text.push_str(" difference ")?;
     put_difference(text, field.difference(seat))?;
@@ -168,7 +183,7 @@ fn put_wish(text: &mut String, field: &Field, seat: u16) -> Result<(), AllocErro
     put_preference(text, field.preference(seat))
 }
 
-fn float(float: Option<Float>) -> &'static str
+pub(crate) fn float(float: Option<Float>) -> &'static str
     ensures { result.now ≡ float_text float }
 {
     match float {
@@ -180,9 +195,9 @@ fn float(float: Option<Float>) -> &'static str
 
 // Puts a player's floats in the last two rounds.
 #[tactic(auto, unfolding(crate::specs::PlayerTexts::floats_text))]
-fn put_floats(text: &mut String, field: &Field, seat: u16) -> Result<(), AllocError>
+fn put_floats(text: &mut Page, field: &Field, seat: u16) -> Result<(), AllocError>
     requires { seat < length field.now.seats }
-    ensures { OnOk result (string_bytes text.new ≡ string_bytes text.old ++ floats_text (seat_at field.now seat)) }
+    ensures { OnOk result (text.new ≡ text.old ++ floats_text (seat_at field.now seat)) }
 {
     let (latest, earlier) = (float(field.float(seat, 1)), float(field.float(seat, 2)));
     write!(text, " floats {latest} {earlier}")
@@ -208,7 +223,7 @@ fn place(numbers: &mut Vec<u16>, number: u16) -> Result<(), AllocError>
 }
 
 // Some numbers, ascending and each once, put to their places from the last one on.
-fn ascending(alloc: Global, numbers: &[u16]) -> Result<Vec<u16>, AllocError>
+pub(crate) fn ascending(alloc: Global, numbers: &[u16]) -> Result<Vec<u16>, AllocError>
     ensures { IfOk result (λ all. all.items ≡ ascending numbers.now) }
 {
     let [first, others @ ..] = numbers else {
@@ -220,9 +235,9 @@ fn ascending(alloc: Global, numbers: &[u16]) -> Result<Vec<u16>, AllocError>
 }
 
 // Puts start ranks with a blank before each.
-fn put_each(text: &mut String, starts: &[u16]) -> Result<(), AllocError>
-    ensures { OnOk result (string_bytes text.new
-        ≡ string_bytes text.old ++ flat_map (λ start. codes " " ++ decimal start) starts.now) }
+fn put_each(text: &mut Page, starts: &[u16]) -> Result<(), AllocError>
+    ensures { OnOk result (text.new
+        ≡ text.old ++ flat_map (λ start. codes " " ++ decimal start) starts.now) }
 {
     for start in starts {
         let one = *start;
@@ -232,17 +247,17 @@ fn put_each(text: &mut String, starts: &[u16]) -> Result<(), AllocError>
 }
 
 // Puts those whom a player has met.
-fn put_met(text: &mut String, opponents: &[u16]) -> Result<(), AllocError>
-    ensures { OnOk result (string_bytes text.new ≡ string_bytes text.old ++ met_text opponents.now) }
+fn put_met(text: &mut Page, opponents: &[u16]) -> Result<(), AllocError>
+    ensures { OnOk result (text.new ≡ text.old ++ met_text opponents.now) }
 {
     if opponents.is_empty() {
         return text.push_str(" -");
     }
-    let met = ascending(*text.allocator(), opponents)?;
+    let met = ascending(text.allocator(), opponents)?;
     put_each(text, met.as_slice())
 }
 
-fn yes(holds: bool) -> &'static str
+pub(crate) fn yes(holds: bool) -> &'static str
     ensures { result.now ≡ yes_text holds }
 {
     if holds { "yes" } else { "no" }
@@ -250,10 +265,10 @@ fn yes(holds: bool) -> &'static str
 
 // Puts whether a player is a topscorer, and whether they may have the bye.
 #[tactic(auto, unfolding(crate::specs::PlayerTexts::rights_text))]
-fn put_rights(text: &mut String, field: &Field, seat: u16) -> Result<(), AllocError>
+fn put_rights(text: &mut Page, field: &Field, seat: u16) -> Result<(), AllocError>
     requires { seat < length field.now.seats }
-    ensures { OnOk result (string_bytes text.new
-        ≡ string_bytes text.old ++ rights_text field.now (seat_at field.now seat)) }
+    ensures { OnOk result (text.new
+        ≡ text.old ++ rights_text field.now (seat_at field.now seat)) }
 {
     let (topscorer, bye) = (yes(field.topscorer(seat)), yes(field.may_bye(seat)));
     write!(text, " topscorer {topscorer} bye {bye}\n")

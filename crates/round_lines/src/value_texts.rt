@@ -1,95 +1,183 @@
-// The values of a quality's items as texts (C.04.3 C.6 to C.19).
-ghost use Rattle.std.specs.Prelude.{◌≡◌, IfOk, string_bytes};
-ghost use Rattle.dutch_bracket.specs.Prelude.{quality_in};
-ghost use Rattle.round_lines.specs.ValueTexts.{against_text, candidate_text, next_text, points_text, value_text};
+// The values of a quality's items as texts, beside those of another one (C.04.3 C.6 to C.19).
+ghost use Rattle.std.specs.Prelude.{◌≡◌, ◌++◌, OnOk, Some};
+ghost use Rattle.dutch_bracket.specs.Prelude.{first_difference, quality_in};
+ghost use Rattle.round_lines.specs.ItemTexts.{article_text};
+ghost use Rattle.round_lines.specs.ValueTexts.{against_line, against_words, candidate_text, meaning_words, next_meaning};
+ghost use Rattle.round_lines.specs.ValueTexts.{next_value, value_text, worse_words};
 
-use crate::item_texts::{article, put_points};
+use crate::item_texts::{article, players_counted, put_listed};
+use crate::page::Page;
 use dutch_bracket::{Item, Quality};
 use dutch_order::Candidate;
-use replies::points::HalfPoints;
-use std::alloc::{AllocError, Global};
+use requests::Wording;
+use std::alloc::AllocError;
 
-// Differences as points, with commas between them.
-fn points(alloc: Global, differences: &[u16]) -> Result<String, AllocError>
-    ensures { IfOk result (λ text. string_bytes text ≡ points_text differences.now) }
+/// A quality, and the chosen one, or another with which it is compared.
+pub type Beside<'a> = (&'a Quality, &'a Quality);
+
+// Puts the pairs of the next bracket, or its PSD if the other quality has as many.
+fn put_next(text: &mut Page, wording: Wording, of: Beside<'_>) -> Result<(), AllocError>
+    ensures { OnOk result (text.new
+        ≡ text.old ++ next_value wording (quality_in of.entry.0.now) (quality_in of.entry.1.now)) }
 {
-    let [first, others @ ..] = differences else {
-        return String::from_str(alloc, "-");
-    };
-    let mut text = HalfPoints(u32::from(*first)).to_string(alloc)?;
-    put_points(&mut text, ",", others)?;
-    Ok(text)
+    let (mine, theirs) = of;
+    let pairs = mine.next_pairs();
+    if pairs == theirs.next_pairs() {
+        put_listed(text, wording, mine.next_psd())
+    } else {
+        write!(text, "{pairs}")
+    }
 }
 
-// The pairs of the next bracket; if the other quality has as many, their PSD.
-fn next(alloc: Global, mine: &Quality, theirs: &Quality) -> Result<String, AllocError>
-    ensures { IfOk result (λ text. string_bytes text ≡ next_text (quality_in mine.now) (quality_in theirs.now)) }
+// Puts the value of an item in a quality, beside another one.
+fn put_value(
+    text: &mut Page,
+    wording: Wording,
+    item: Item,
+    of: Beside<'_>,
+) -> Result<(), AllocError>
+    ensures { OnOk result (text.new
+        ≡ text.old ++ value_text wording item (quality_in of.entry.0.now) (quality_in of.entry.1.now)) }
+{
+    let mine = of.0;
+    match item {
+        Item::Psd => put_listed(text, wording, mine.psd()),
+        Item::NextBracket => put_next(text, wording, of),
+        Item::WideDifferences
+        | Item::ThirdColours
+        | Item::MissedPreferences
+        | Item::MissedStrong
+        | Item::DownAgain
+        | Item::UpAgain
+        | Item::DownAgainBefore
+        | Item::UpAgainBefore => {
+            let count = players_counted(mine, item);
+            write!(text, "{count}")
+        }
+        Item::DownAgainBy => put_listed(text, wording, mine.down_again_by()),
+        Item::UpAgainBy => put_listed(text, wording, mine.up_again_by()),
+        Item::DownAgainBeforeBy => put_listed(text, wording, mine.down_again_before_by()),
+        Item::UpAgainBeforeBy => put_listed(text, wording, mine.up_again_before_by()),
+    }
+}
+
+// What is compared of the next bracket.
+fn next_meaning(mine: &Quality, theirs: &Quality) -> &'static str
+    ensures { result.now ≡ next_meaning (quality_in mine.now) (quality_in theirs.now) }
 {
     if mine.next_pairs() == theirs.next_pairs() {
-        points(alloc, mine.next_psd())
+        "score differences in the next bracket"
     } else {
-        mine.next_pairs().to_string(alloc)
+        "pairs in the next bracket"
     }
 }
 
-// The value of an item in a quality, beside another one.
-fn value(alloc: Global, item: Item, mine: &Quality, theirs: &Quality) -> Result<String, AllocError>
-    ensures { IfOk result (λ text. string_bytes text ≡ value_text item (quality_in mine.now) (quality_in theirs.now)) }
+// What an item compares in two qualities.
+fn meaning(item: Item, mine: &Quality, theirs: &Quality) -> &'static str
+    ensures { result.now ≡ meaning_words item (quality_in mine.now) (quality_in theirs.now) }
 {
     match item {
-        Item::Psd => points(alloc, mine.psd()),
-        Item::NextBracket => next(alloc, mine, theirs),
-        Item::WideDifferences => mine.wide_differences().to_string(alloc),
-        Item::ThirdColours => mine.third_colours().to_string(alloc),
-        Item::MissedPreferences => mine.missed_preferences().to_string(alloc),
-        Item::MissedStrong => mine.missed_strong().to_string(alloc),
-        Item::DownAgain => mine.down_again().to_string(alloc),
-        Item::UpAgain => mine.up_again().to_string(alloc),
-        Item::DownAgainBefore => mine.down_again_before().to_string(alloc),
-        Item::UpAgainBefore => mine.up_again_before().to_string(alloc),
-        Item::DownAgainBy => points(alloc, mine.down_again_by()),
-        Item::UpAgainBy => points(alloc, mine.up_again_by()),
-        Item::DownAgainBeforeBy => points(alloc, mine.down_again_before_by()),
-        Item::UpAgainBeforeBy => points(alloc, mine.up_again_before_by()),
+        Item::Psd => "score differences",
+        Item::NextBracket => next_meaning(mine, theirs),
+        Item::WideDifferences => "colour differences of topscorers' pairs",
+        Item::ThirdColours => "colours three times in topscorers' pairs",
+        Item::MissedPreferences => "colours preferred and not given",
+        Item::MissedStrong => "colours strongly preferred and not given",
+        Item::DownAgain | Item::DownAgainBefore => "players who go down again",
+        Item::UpAgain | Item::UpAgainBefore => "players who go up again",
+        Item::DownAgainBy | Item::UpAgainBy | Item::DownAgainBeforeBy | Item::UpAgainBeforeBy =>
+            "score differences of those players",
     }
 }
 
-// How a quality stands to the chosen one: the first item in which they differ, and its value in both; or equal, and so
-// behind.
-fn against(
-    alloc: Global,
-    mine: &Quality,
-    chosen: &Quality,
-    item: Option<Item>,
-) -> Result<String, AllocError>
-    ensures { IfOk result (λ text. string_bytes text
-        ≡ against_text (quality_in mine.now) (quality_in chosen.now) item) }
+// Puts how a quality stands to the chosen one: the first item in which they differ, and its value in both; or equal,
+// and so behind.
+fn put_against_line(text: &mut Page, of: Beside<'_>, item: Option<Item>) -> Result<(), AllocError>
+    ensures { OnOk result (text.new
+        ≡ text.old ++ against_line (quality_in of.entry.0.now) (quality_in of.entry.1.now) item) }
 {
     let Some(item) = item else {
-        return String::from_str(alloc, " behind");
+        return text.push_str(" behind");
     };
     let article = article(item);
-    let own = value(alloc, item, mine, chosen)?;
-    let other = value(alloc, item, chosen, mine)?;
-    format!(in alloc; " {article} {own} {other}")
+    write!(text, " {article} ")?;
+    put_value(text, Wording::Plain, item, of)?;
+    text.push_str(" ")?;
+    put_value(text, Wording::Plain, item, (of.1, of.0))
 }
 
-/// A candidate, and how its quality stands to the chosen one's: the first item in which they differ, and its value in
-/// both.
+// Puts the item in which a quality is worse, and what it compares, in words.
+fn put_worse(text: &mut Page, of: Beside<'_>, item: Item) -> Result<(), AllocError>
+    ensures { OnOk result (text.new
+        ≡ text.old ++ worse_words item (quality_in of.entry.0.now) (quality_in of.entry.1.now)) }
+{
+    put_article(text, "is worse at ", item)?;
+    put_meaning(text, " (", of, item)?;
+    text.push_str("): ")
+}
+
+// Puts the article of an item behind what stands in front of it.
+fn put_article(text: &mut Page, front: &str, item: Item) -> Result<(), AllocError>
+    ensures { OnOk result (text.new ≡ text.old ++ (front.now ++ article_text item)) }
+{
+    text.push_str(front)?;
+    text.push_str(article(item))
+}
+
+// Puts what an item compares behind what stands in front of it.
+fn put_meaning(text: &mut Page, front: &str, of: Beside<'_>, item: Item) -> Result<(), AllocError>
+    ensures { OnOk result (text.new ≡ text.old
+        ++ (front.now ++ meaning_words item (quality_in of.entry.0.now) (quality_in of.entry.1.now))) }
+{
+    text.push_str(front)?;
+    text.push_str(meaning(item, of.0, of.1))
+}
+
+// Puts the same as `put_against_line`, in words.
+fn put_against_words(text: &mut Page, of: Beside<'_>, item: Option<Item>) -> Result<(), AllocError>
+    ensures { OnOk result (text.new
+        ≡ text.old ++ against_words (quality_in of.entry.0.now) (quality_in of.entry.1.now) item) }
+{
+    match item {
+        Some(item) => put_worse_by(text, of, item),
+        None => {
+            text.push_str("is as good, and stands behind the chosen one in the order of article D.")
+        }
+    }
+}
+
+// Puts the item in which a quality is worse, and its value in both, in words.
+fn put_worse_by(text: &mut Page, of: Beside<'_>, item: Item) -> Result<(), AllocError>
+    ensures { OnOk result (text.new
+        ≡ text.old ++ against_words (quality_in of.entry.0.now) (quality_in of.entry.1.now) (Some item)) }
+{
+    put_worse(text, of, item)?;
+    put_value(text, Wording::Words, item, of)?;
+    text.push_str(", where the chosen one has ")?;
+    put_value(text, Wording::Words, item, (of.1, of.0))?;
+    text.push_str(".")
+}
+
+/// Puts a candidate, and how its quality stands to the chosen one's: the first item in which they differ, and its value
+/// in both. In words the candidate's cursor is left out.
 ///
 /// # Errors
 /// Memory was refused.
-pub fn candidate(
-    alloc: Global,
+pub fn put_candidate(
+    text: &mut Page,
+    wording: Wording,
     candidate: &Candidate,
-    mine: &Quality,
-    chosen: &Quality,
-) -> Result<String, AllocError>
-    ensures { IfOk result (λ text. string_bytes text
-        ≡ candidate_text candidate.now.lists (quality_in mine.now) (quality_in chosen.now)) }
+    of: Beside<'_>,
+) -> Result<(), AllocError>
+    ensures { OnOk result (text.new ≡ text.old
+        ++ candidate_text wording candidate.now.lists (quality_in of.entry.0.now) (quality_in of.entry.1.now)) }
 {
-    let cursor = candidate.cursor().print();
-    let against = against(alloc, mine, chosen, mine.first_difference(chosen))?;
-    let cursor = cursor.as_str();
-    format!(in alloc; "{cursor}{against}")
+    let item = of.0.first_difference(of.1);
+    match wording {
+        Wording::Plain => {
+            text.push_str(candidate.cursor().print().as_str())?;
+            put_against_line(text, of, item)
+        }
+        Wording::Words => put_against_words(text, of, item),
+    }
 }

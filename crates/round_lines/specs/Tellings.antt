@@ -1,0 +1,46 @@
+-- How a round is told: of which report and field, and whether its lines are codes or sentences, in which players have their names.
+use Rattle.std.specs.Prelude.{ℕ, if◌then◌else◌, List, [], ◌∷◌, ◌++◌, map, codes}
+use Rattle.std.specs.List.{flat_map}
+use Rattle.std.specs.Fmt.{decimal}
+use Rattle.std.specs.Str.{bytes_eq}
+use Rattle.trf16.specs.Prelude.{name_in, Sheet}
+use Rattle.dutch_player.specs.Prelude.{Facts, seat_at}
+use Rattle.requests.specs.declared.options.Wording.{Wording}
+use Rattle.requests.specs.declared.options.Wording.TheVariants.{Plain, Words}
+use Rattle.replies.specs.Prelude.{shown}
+
+-- a round as it is told: its report, those whom it is paired from, and how the lines are worded
+pub record TellingFacts : Type 0 where
+  pub sheet : Sheet
+  pub facts : Facts
+  pub wording : Wording
+
+-- the plain line, or the sentence, as the wording says
+abbrev pub in_wording : Wording → List ℕ → List ℕ → List ℕ
+in_wording Plain line words = line
+in_wording Words line words = words
+
+-- ---- players in a sentence
+
+-- a start rank, and behind it a name as it is shown; a dash is no name
+abbrev pub named : ℕ → List ℕ → List ℕ
+named start name = if bytes_eq name (codes "-") then decimal start else decimal start ++ (codes " " ++ name)
+
+module _ (sheet : Sheet) where
+  -- a player, by start rank
+  abbrev pub player_words : ℕ → List ℕ
+  player_words start = named start (shown (name_in sheet start))
+
+  -- players, by start ranks
+  abbrev pub players_words : List ℕ → List ℕ
+  players_words [] = codes "none"
+  players_words (start ∷ others) = player_words start ++ flat_map (λ other. codes "; " ++ player_words other) others
+
+module _ (telling : TellingFacts) where
+  -- a player, by seat
+  abbrev pub seat_words : ℕ → List ℕ
+  seat_words seat = player_words telling.sheet (seat_at telling.facts seat).start
+
+  -- players, by seats
+  abbrev pub seats_words : List ℕ → List ℕ
+  seats_words seats = players_words telling.sheet (map (λ seat. (seat_at telling.facts seat).start) seats)

@@ -1,0 +1,66 @@
+// A text that is made piece by piece.
+ghost use Rattle.std.specs.Prelude.{◌≡◌, ◌++◌, [], OnOk};
+ghost use Rattle.std.specs.Fmt.{AppendsText};
+
+use std::alloc::{AllocError, Global};
+use std::fmt::Display;
+use std::marker::Model;
+
+/// A text that is made piece by piece: bytes, since the names of a report need not be UTF-8.
+#[derive(Drop)]
+pub struct Page {
+    bytes: Vec<u8>,
+}
+
+impl Model for Page {
+    ghost use Rattle.std.specs.Prelude.{ℕ, List};
+
+    ghost Value = { List ℕ };
+
+    ghost view = { λ p. p.bytes.items };
+}
+
+impl Page {
+    /// Nothing yet.
+    pub fn new(alloc: Global) -> Page
+        ensures { result ≡ [] }
+    {
+        Page {
+            bytes: Vec::new(alloc),
+        }
+    }
+
+    /// What the text has its memory from.
+    pub fn allocator(&self) -> Global {
+        *self.bytes.allocator()
+    }
+
+    /// Puts a piece behind what is there.
+    pub fn push_str(&mut self, piece: &str) -> Result<(), AllocError>
+        ensures { OnOk result (self.new ≡ self.old ++ piece.now) }
+    {
+        self.push_bytes(piece.as_bytes())
+    }
+
+    /// The same of bytes.
+    pub fn push_bytes(&mut self, piece: &[u8]) -> Result<(), AllocError>
+        ensures { OnOk result (self.new ≡ self.old ++ piece.now) }
+    {
+        self.bytes.extend_from_slice(piece)
+    }
+
+    /// What `write!` calls.
+    pub fn write_fmt<D: Display + Drop>(&mut self, value: D) -> Result<(), AllocError>
+        ensures { OnOk result (AppendsText self.old self.new (D.output value)) }
+    {
+        let piece = String::format(self.allocator(), value)?;
+        self.push_str(piece.as_str())
+    }
+
+    /// The text.
+    pub fn into_bytes(self) -> Vec<u8>
+        ensures { result.items ≡ self }
+    {
+        self.bytes
+    }
+}

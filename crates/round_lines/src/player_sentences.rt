@@ -1,0 +1,187 @@
+// What a player brings to the next round, in five sentences.
+ghost use Rattle.std.specs.Prelude.{◌≡◌, ◌<◌, ◌++◌, OnOk, codes, length};
+ghost use Rattle.dutch_player.specs.Prelude.{seat_at};
+ghost use Rattle.trf16.specs.Prelude.{rounds_played};
+ghost use Rattle.round_lines.specs.PlayerTexts.{colours_words, comma_behind, float_text, floats_words, game_behind};
+ghost use Rattle.round_lines.specs.PlayerTexts.{game_words, games_words, met_words, player_sentences, preference_words};
+ghost use Rattle.round_lines.specs.PlayerTexts.{rights_words, score_words, wish_words, yes_text};
+
+use crate::page::Page;
+use crate::player_line::{ascending, colour, float, strength, yes};
+use crate::telling::{Telling, put_one, put_players};
+use dutch_player::{Field, Float, Pref, colour_played};
+use replies::points::HalfPoints;
+use std::alloc::AllocError;
+use trf16::{Colour, Report};
+
+/// Puts the sentences of a player.
+#[tactic(auto, unfolding(crate::specs::PlayerTexts::player_sentences))]
+pub(crate) fn put_player_sentences(
+    text: &mut Page,
+    telling: &Telling<'_>,
+    seat: u16,
+) -> Result<(), AllocError>
+    requires { seat < length telling.now.facts.seats }
+    ensures { OnOk result (text.new ≡ text.old
+        ++ player_sentences telling.now.sheet telling.now.facts (seat_at telling.now.facts seat)) }
+{
+    put_score_words(text, telling, seat)?;
+    put_wish_words(text, telling.report, telling.field, seat)?;
+    put_floats_words(text, telling.field, seat)?;
+    put_met_words(text, telling, seat)?;
+    put_rights_words(text, telling.field, seat)
+}
+
+// Puts the sentence on a player's score.
+#[tactic(auto, unfolding(crate::specs::PlayerTexts::score_words))]
+fn put_score_words(text: &mut Page, telling: &Telling<'_>, seat: u16) -> Result<(), AllocError>
+    requires { seat < length telling.now.facts.seats }
+    ensures { OnOk result (text.new
+        ≡ text.old ++ score_words telling.now.sheet (seat_at telling.now.facts seat)) }
+{
+    let score = HalfPoints(u32::from(telling.field.score(seat)));
+    put_one(text, telling.report, telling.field.start_rank(seat))?;
+    write!(text, " has {score} points.\n")
+}
+
+// The colour of a round's game, or that there was none.
+fn game_word(played: Option<Colour>) -> &'static str
+    ensures { result.now ≡ game_words played }
+{
+    match played {
+        Some(played) => colour(played),
+        None => "none",
+    }
+}
+
+// What parts a round from those before it, so many.
+fn comma_behind(rounds: u8) -> &'static str
+    ensures { result.now ≡ comma_behind rounds }
+{
+    if rounds == 0 { "" } else { ", " }
+}
+
+// Puts the colour of a round's game, behind those of the rounds before it, so many.
+#[tactic(auto, unfolding(crate::specs::PlayerTexts::game_behind))]
+fn put_game_word(text: &mut Page, before: u8, played: Option<Colour>) -> Result<(), AllocError>
+    ensures { OnOk result (text.new ≡ text.old ++ game_behind before played) }
+{
+    text.push_str(comma_behind(before))?;
+    text.push_str(game_word(played))
+}
+
+// Puts the colours of a player's games, round by round, in words.
+fn put_games_words(
+    text: &mut Page,
+    report: &Report<'_>,
+    start: u16,
+    rounds: u8,
+) -> Result<(), AllocError>
+    ensures { OnOk result (text.new ≡ text.old ++ games_words report.now start rounds) }
+{
+    for round in 0..rounds {
+        let cell = report.cell(start, round + 1);
+        put_game_word(text, round, colour_played(&cell))?;
+    }
+    Ok(())
+}
+
+// Puts the same, or that no round was paired.
+fn put_colours_words(text: &mut Page, report: &Report<'_>, start: u16) -> Result<(), AllocError>
+    ensures { OnOk result (text.new
+        ≡ text.old ++ colours_words report.now start (rounds_played report.now)) }
+{
+    let rounds = report.rounds_played();
+    if rounds == 0 {
+        return text.push_str("none");
+    }
+    put_games_words(text, report, start, rounds)
+}
+
+// Puts a preference in words.
+fn put_preference_words(text: &mut Page, preference: Option<Pref>) -> Result<(), AllocError>
+    ensures { OnOk result (text.new ≡ text.old ++ preference_words preference) }
+{
+    let Some(wish) = preference else {
+        return text.push_str("none");
+    };
+    let (colour, strength) = (colour(wish.colour), strength(wish.strength));
+    write!(text, "{colour}, {strength}")
+}
+
+// Puts a preference behind a player's colours, up to the end of the line.
+fn put_preference_behind(text: &mut Page, preference: Option<Pref>) -> Result<(), AllocError>
+    ensures { OnOk result (text.new
+        ≡ text.old ++ (codes ". Preference: " ++ (preference_words preference ++ codes ".\n"))) }
+{
+    text.push_str(". Preference: ")?;
+    put_preference_words(text, preference)?;
+    text.push_str(".\n")
+}
+
+// Puts the sentences on a player's colours.
+#[tactic(auto, unfolding(crate::specs::PlayerTexts::wish_words))]
+fn put_wish_words(
+    text: &mut Page,
+    report: &Report<'_>,
+    field: &Field,
+    seat: u16,
+) -> Result<(), AllocError>
+    requires { seat < length field.now.seats }
+    ensures { OnOk result (text.new ≡ text.old ++ wish_words report.now (seat_at field.now seat)) }
+{
+    text.push_str("Colours so far: ")?;
+    put_colours_words(text, report, field.start_rank(seat))?;
+    put_preference_behind(text, field.preference(seat))
+}
+
+// Puts a float behind what stands in front of it.
+fn put_float(text: &mut Page, front: &str, of_round: Option<Float>) -> Result<(), AllocError>
+    ensures { OnOk result (text.new ≡ text.old ++ (front.now ++ float_text of_round)) }
+{
+    text.push_str(front)?;
+    text.push_str(float(of_round))
+}
+
+// Puts the sentence on a player's floats in the last two rounds.
+#[tactic(auto, unfolding(crate::specs::PlayerTexts::floats_words))]
+fn put_floats_words(text: &mut Page, field: &Field, seat: u16) -> Result<(), AllocError>
+    requires { seat < length field.now.seats }
+    ensures { OnOk result (text.new ≡ text.old ++ floats_words (seat_at field.now seat)) }
+{
+    put_float(text, "Floats: ", field.float(seat, 1))?;
+    put_float(text, " in the last round, ", field.float(seat, 2))?;
+    text.push_str(" in the round before.\n")
+}
+
+// Puts the sentence on those whom a player has met.
+#[tactic(auto, unfolding(crate::specs::PlayerTexts::met_words))]
+fn put_met_words(text: &mut Page, telling: &Telling<'_>, seat: u16) -> Result<(), AllocError>
+    requires { seat < length telling.now.facts.seats }
+    ensures { OnOk result (text.new
+        ≡ text.old ++ met_words telling.now.sheet (seat_at telling.now.facts seat)) }
+{
+    let met = ascending(text.allocator(), telling.field.opponents(seat))?;
+    text.push_str("Has met: ")?;
+    put_players(text, telling.report, met.as_slice())?;
+    text.push_str(".\n")
+}
+
+// Puts whether something holds behind what it is.
+fn put_yes(text: &mut Page, front: &str, holds: bool) -> Result<(), AllocError>
+    ensures { OnOk result (text.new ≡ text.old ++ (front.now ++ yes_text holds)) }
+{
+    text.push_str(front)?;
+    text.push_str(yes(holds))
+}
+
+// Puts the sentences on whether a player is a topscorer, and whether they may have the bye.
+#[tactic(auto, unfolding(crate::specs::PlayerTexts::rights_words))]
+fn put_rights_words(text: &mut Page, field: &Field, seat: u16) -> Result<(), AllocError>
+    requires { seat < length field.now.seats }
+    ensures { OnOk result (text.new ≡ text.old ++ rights_words field.now (seat_at field.now seat)) }
+{
+    put_yes(text, "Topscorer: ", field.topscorer(seat))?;
+    put_yes(text, ". May have the bye: ", field.may_bye(seat))?;
+    text.push_str(".\n")
+}
