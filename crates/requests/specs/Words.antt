@@ -120,10 +120,15 @@ abbrev pub asked_by : Result Task WordFault → Meaning
 asked_by (Ok task) = Command task
 asked_by (Err fault) = Refused fault
 
--- the words as clap reads them: `help` in front of some words stands for `--help` behind them
+-- some words without a `help` at their front, which asks about help
+abbrev pub without_help : List Text → List Text
+without_help [] = []
+without_help (first ∷ rest) = if bytes_eq first (codes "help") then rest else first ∷ rest
+
+-- the words as clap reads them: `help` in front of some words stands for `--help` behind them, and so does `help help`
 abbrev pub meant : List Text → List Text
 meant [] = []
-meant (first ∷ rest) = if bytes_eq first (codes "help") then rest ++ codes "--help" ∷ [] else first ∷ rest
+meant (first ∷ rest) = if bytes_eq first (codes "help") then without_help rest ++ codes "--help" ∷ [] else first ∷ rest
 
 -- an error of clap's that shows what was asked for: help, or the version
 abbrev pub is_shown : ErrorKind → Bool

@@ -8,7 +8,7 @@ ghost use Rattle.requests.specs.Options.{rows_in};
 ghost use Rattle.requests.specs.Words.{ComesTo, FitsKind, asked_by, candidates_request, explain_request, meant};
 ghost use Rattle.requests.specs.Words.{pair_request, request_of, standings_request, task_by, task_of, with_bye};
 ghost use Rattle.requests.specs.Words.{app_for, arbiter_app, check_app, format_app, settled, versioned, with_command};
-ghost use Rattle.requests.specs.Words.{with_commands};
+ghost use Rattle.requests.specs.Words.{with_commands, without_help};
 
 use crate::arguments::OptionName;
 use crate::commands::{
@@ -78,7 +78,8 @@ pub enum Meaning<'a> {
     Refused(WordFault),
 }
 
-/// The words as `read_words` reads them: `help` in front of some words stands for `--help` behind them.
+/// The words as `read_words` reads them: `help` in front of some words stands for `--help` behind them, and so does
+/// `help help`.
 ///
 /// # Errors
 /// Memory was refused.
@@ -94,8 +95,22 @@ pub fn meant<'a>(alloc: Global, words: &'a [&'a str]) -> Result<Vec<&'a str>, Al
     }
 }
 
-// Some words with `--help` behind them.
+// The words behind `help`, without another `help` at their front, and with `--help` behind them.
 fn with_help<'a>(alloc: Global, words: &'a [&'a str]) -> Result<Vec<&'a str>, AllocError>
+    ensures { IfOk result (λ all. map (λ word. word.now) all.items
+        ≡ without_help (map (λ word. word.now) words.now) ++ codes "--help" ∷ []) }
+{
+    let Some((first, rest)) = words.split_first() else {
+        return with_flag(alloc, words);
+    };
+    match *first {
+        "help" => with_flag(alloc, rest),
+        _ => with_flag(alloc, words),
+    }
+}
+
+// Some words with `--help` behind them.
+fn with_flag<'a>(alloc: Global, words: &'a [&'a str]) -> Result<Vec<&'a str>, AllocError>
     ensures { IfOk result (λ all. map (λ word. word.now) all.items
         ≡ map (λ word. word.now) words.now ++ codes "--help" ∷ []) }
 {
@@ -315,7 +330,7 @@ fn named<'a>(alloc: Global) -> Made<'a>
         HelpTexts {
             about: "Pairs, explains, checks, rewrites and ranks a chess tournament whose report, in TRF16 columns, is read from standard input",
             usage: "arbiter <COMMAND> [OPTIONS] < REPORT",
-            after_help: "The exit status is 0 where all is done, 1 where the report is refused, 2 where the words are, 3 where there is no pairing, 4 where the steps ended first, and 5 where a device failed or memory was refused.\n\nExample: arbiter pair < report.trf",
+            after_help: "arbiter help COMMAND prints what arbiter COMMAND --help prints. A report is read from standard input: without < at a terminal the program waits for one.\n\nThe exit status is 0 where all is done, 1 where the report is refused, 2 where the words are, 3 where there is no pairing, 4 where the steps ended first, and 5 where a device failed or memory was refused.\n\nExample: arbiter pair < report.trf",
         },
     )
     .version("1.2 (FIDE C.04.3, 2017; TRF16)")
