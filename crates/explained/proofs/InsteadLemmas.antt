@@ -1,5 +1,5 @@
 -- The number of a seat in a bracket, and what a search answers.
-use Rattle.std.proofs.Common.{◌≡◌, ℕ, true, false, ◌==◌, ◌+◌, ◌≤◌, ◌<◌, List, Result, Ok, Err, IfOk, length, get_or, drop, refl, arith}
+use Rattle.std.proofs.Common.{◌≡◌, ◌∙◌, ℕ, true, false, ◌==◌, ◌+◌, ◌≤◌, ◌<◌, List, Option, Some, None, Result, Ok, Err, IfOk, length, get_or, drop, refl, sym, ap, arith}
 use Rattle.std.specs.List.{position_from}
 use Rattle.std.specs.Option.{option_map_or}
 use Rattle.std.proofs.lemmas.List.{drop_more, drop_all, length-map}
@@ -10,10 +10,12 @@ use Rattle.dutch_bracket.specs.Prelude.{score_at}
 use Rattle.dutch_pair.specs.declared.instead.Instead.{Instead}
 use Rattle.dutch_pair.specs.declared.stage.Stage.{Stage}
 use Rattle.dutch_choice.specs.declared.wish.Wish.{Wish}
-use Rattle.explained.specs.InsteadAnswers.{IsSearched}
-use Rattle.explained.specs.InsteadTexts.{search_answer}
+use Rattle.explained.specs.InsteadAnswers.{AnswersPresent, IsSearched}
+use Rattle.explained.specs.InsteadTexts.{instead_text, search_answer}
+use Rattle.round_lines.specs.Obstacles.{obstacle_text}
+use Rattle.round_lines.specs.declared.obstacle.Obstacle.{Obstacle}
 use Rattle.round_lines.specs.Tellings.{TellingFacts}
-use Rattle.replies.specs.Prelude.{answer_of}
+use Rattle.replies.specs.Prelude.{answer_of, done}
 use Rattle.replies.specs.declared.reply.Reply.{Reply}
 
 -- the number that is found from a place on
@@ -39,3 +41,15 @@ pub searched : (telling : TellingFacts) (steps player number : ℕ) (stage : Sta
     → IfOk r (λ reply. IsSearched telling steps player number stage wish (answer_of reply))
 searched telling steps player number stage wish found (Ok reply) is tells = record { found = found; is = is; tells = tells }
 searched telling steps player number stage wish found (Err error) is tells = tells
+
+-- an obstacle that is told of a round stands against it there
+pub against_told : (told telling : TellingFacts) (steps player number : ℕ) (found : Option Obstacle) (obstacle : Obstacle) (decided : Option (Stage × Wish))
+    {E : Type 0} (r : Result Reply E) → told ≡ telling → found ≡ Some obstacle
+    → IfOk r (λ reply. answer_of reply ≡ done (instead_text told player number (obstacle_text told player number obstacle)))
+    → IfOk r (λ reply. AnswersPresent telling steps player number found decided (answer_of reply))
+against_told told telling steps player number None obstacle decided r same is tells = cc
+against_told told telling steps player number (Some found) obstacle decided (Err error) same is tells = tells
+against_told told telling steps player number (Some found) obstacle decided (Ok reply) same is tells =
+    let one : found ≡ obstacle = cc in
+    tells ∙ (ap (λ (t : TellingFacts). done (instead_text t player number (obstacle_text t player number obstacle))) same
+    ∙ ap (λ (o : Obstacle). done (instead_text telling player number (obstacle_text telling player number o))) (sym one))

@@ -107,7 +107,7 @@ fn put_groups(text: &mut Page, telling: &Telling<'_>, barrier: &Barrier) -> Resu
 }
 
 // Puts a group.
-#[tactic(auto, unfolding(crate::specs::BarrierTexts::group_line, crate::specs::BarrierTexts::group_words))]
+#[tactic(auto, unfolding(crate::specs::BarrierTexts::group_line))]
 fn put_group(
     text: &mut Page,
     telling: &Telling<'_>,
@@ -122,14 +122,23 @@ fn put_group(
             put_labelled(text, telling, barrier, group)?;
             text.push_str("\n")
         }
-        Wording::Words => {
-            text.push_str(
-                "Odd group, whose players may meet only each other and the blocking players: ",
-            )?;
-            put_labelled_words(text, telling, barrier, group)?;
-            text.push_str(".\n")
-        }
+        Wording::Words => put_group_words(text, telling, barrier, group),
     }
+}
+
+// The same as a sentence.
+#[tactic(auto, unfolding(crate::specs::BarrierTexts::group_words))]
+fn put_group_words(
+    text: &mut Page,
+    telling: &Telling<'_>,
+    barrier: &Barrier,
+    group: u16,
+) -> Result<(), AllocError>
+    ensures { OnOk result (text.new ≡ text.old ++ group_words telling.now barrier.now group) }
+{
+    text.push_str("Odd group, whose players may meet only each other and the blocking players: ")?;
+    put_labelled_words(text, telling, barrier, group)?;
+    text.push_str(".\n")
 }
 
 // Puts the players with a label, by rank.

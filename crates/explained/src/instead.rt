@@ -4,7 +4,8 @@ ghost use Rattle.std.specs.List.{AllByRecursion};
 ghost use Rattle.dutch_order.specs.declared.numbers.TheConstants.{LIMIT};
 ghost use Rattle.dutch_pair.specs.Prelude.{IsStage};
 ghost use Rattle.dutch_choice.specs.Prelude.{grants};
-ghost use Rattle.explained.specs.InsteadAnswers.{AnswersInstead, AnswersWish, IsRival, IsSearched, decided_in};
+ghost use Rattle.explained.specs.InsteadAnswers.{AnswersInstead, AnswersPresent, AnswersWish, IsRival, IsSearched};
+ghost use Rattle.explained.specs.InsteadAnswers.{decided_in};
 ghost use Rattle.explained.specs.InsteadAnswers.{goes_on, number_among, number_in, obstacle_of, rival_of};
 ghost use Rattle.explained.specs.InsteadAnswers.{stands_in, stands_in_one, wish_in};
 ghost use Rattle.explained.specs.InsteadTexts.{granted_text, in_bracket, instead_text, search_answer};
@@ -74,9 +75,26 @@ pub fn instead(alloc: Global, round: &Paired<'_>, question: Question) -> Result<
     let Some(rival) = rival_of(telling.field, asked.number) else {
         return stands_against(alloc, telling, asked, Obstacle::Absent);
     };
-    let meeting = Meeting { player, rival };
+    of_meeting(alloc, round, Meeting { player, rival }, question)
+}
+
+// The same where both are present.
+fn of_meeting(
+    alloc: Global,
+    round: &Paired<'_>,
+    meeting: Meeting,
+    question: Question,
+) -> Result<Reply, AllocError>
+    requires player { meeting.player < length round.now.telling.facts.seats }
+    requires rival { IsRival round.now.telling.facts meeting.rival }
+    requires stages { AllByRecursion (IsStage round.now.telling.facts) round.now.stages }
+    ensures { IfOk result (λ reply. AnswersPresent round.now.telling question.steps question.asked.player
+        question.asked.number (obstacle_of round.now meeting.player meeting.rival)
+        (decided_in round.now.stages meeting.player meeting.rival) (answer_of reply)) }
+{
+    let telling = round.telling;
     if let Some(obstacle) = obstacle_of(round, meeting) {
-        return stands_against(alloc, telling, asked, obstacle);
+        return stands_against(alloc, telling, question.asked, obstacle);
     }
     match decided_in(telling.field, round.stages, meeting) {
         Some(decided) => by_wish(alloc, telling, decided, question),

@@ -79,8 +79,16 @@ fn put_members_words(
 {
     let (moved_down, residents) = reached.seats().split_at(reached.mdps());
     put_moved_down(text, telling, moved_down)?;
+    put_residents(text, telling, residents)
+}
+
+// Puts the residents.
+fn put_residents(text: &mut Page, telling: &Telling<'_>, seats: &[u16]) -> Result<(), AllocError>
+    ensures { OnOk result (text.new
+        ≡ text.old ++ (codes "Residents: " ++ (all_scored_words telling.now seats.now ++ codes ".\n"))) }
+{
     text.push_str("Residents: ")?;
-    put_scored_words(text, telling, residents)?;
+    put_scored_words(text, telling, seats)?;
     text.push_str(".\n")
 }
 
@@ -91,6 +99,14 @@ fn put_moved_down(text: &mut Page, telling: &Telling<'_>, seats: &[u16]) -> Resu
     if seats.is_empty() {
         return Ok(());
     }
+    put_some_moved(text, telling, seats)
+}
+
+// Puts the same of some.
+fn put_some_moved(text: &mut Page, telling: &Telling<'_>, seats: &[u16]) -> Result<(), AllocError>
+    ensures { OnOk result (text.new
+        ≡ text.old ++ (codes "Moved down: " ++ (all_scored_words telling.now seats.now ++ codes ". "))) }
+{
     text.push_str("Moved down: ")?;
     put_scored_words(text, telling, seats)?;
     text.push_str(". ")
