@@ -159,7 +159,7 @@ fn help_and_version_are_printed(rt: HostRuntime) {
         ),
     ];
     for (words, part) in table {
-        let ended = run_on(rt.alloc(), words, Breaking(Dripping(b"")), 1000, 0);
+        let ended = run_on(rt.alloc(), words, Breaking(Dripping(b"")), 10_000, 0);
         assert!(rt; ended.status == Status::Done);
         assert!(rt; contains(ended.out.as_slice(), part.as_bytes()));
     }
