@@ -3,7 +3,8 @@ ghost use Rattle.trf16.specs.Round.{CanBePaired};
 
 use std::alloc::Global;
 use std::test::Fail;
-use trf16::{Bye, Cell, Counted, Fault, Report, read, write};
+use trf16::{Bye, Cell, Counted, Fault, Report, read};
+use trf16_writer::{can_be_paired, with_round, write};
 
 const FOUR: &[u8] = b"001    1\n001    2\n001    3\n001    4\n";
 
@@ -36,7 +37,7 @@ fn text_with_round(
 ) -> Result<Vec<u8>, Fault>
     requires { CanBePaired boards.now report.now }
 {
-    let paired = report.with_round(alloc, boards)?;
+    let paired = with_round(alloc, report, boards)?;
     let mut writer = Counted::new(Vec::new(alloc));
     let _ = write(&paired, &mut writer);
     Ok(writer.into_inner())
@@ -45,7 +46,7 @@ fn text_with_round(
 // The same, read from its text; nothing where the boards are none for it.
 fn paired_text(alloc: Global, text: &[u8], boards: &[(u16, u16)]) -> Result<Vec<u8>, Fault> {
     let report = read(alloc, text)?;
-    if !report.can_be_paired(boards) {
+    if !can_be_paired(&report, boards) {
         return Ok(Vec::new(alloc));
     }
     text_with_round(alloc, &report, boards)
@@ -91,7 +92,7 @@ fn boards_that_are_none(rt: HostRuntime) -> Result<(), Fail> {
         [(2, 6)].as_slice(),
     ];
     for boards in table {
-        assert!(rt; !report.can_be_paired(boards));
+        assert!(rt; !can_be_paired(&report, boards));
     }
     Ok(())
 }

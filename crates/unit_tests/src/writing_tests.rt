@@ -3,7 +3,8 @@ use std::alloc::Global;
 use std::io;
 use std::io::Write;
 use std::test::Fail;
-use trf16::{Counted, Failed, Fault, read, write};
+use trf16::{Counted, Failed, Fault, read};
+use trf16_writer::write;
 
 // Small letters and capitals, numbers and points in other forms, lines that end in different ways.
 const REPORT: &str = "012 Pohár města\r\n\
