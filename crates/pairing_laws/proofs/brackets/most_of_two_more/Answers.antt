@@ -1,5 +1,5 @@
 -- The definition goes by the successors of a number, the law by sums.
-use Rattle.std.proofs.Common.{◌≡◌, ◌∙◌, ℕ, suc, ◌+◌, ◌*◌, Bool, true, false, ap, arith}
+use Rattle.std.proofs.Common.{◌≡◌, ℕ, suc, ◌+◌, ◌*◌, Bool, true, false, ap, arith}
 use Rattle.dutch_bracket.specs.Prelude.{most, most_of_bye}
 use Rattle.pairing_laws.proofs.brackets.most_of_two_more.Goals as goal
 
