@@ -45,7 +45,7 @@ const PAIRS_FOR_A_STEP: usize = 64;
 const MOST_WEIGHED: usize = 400;
 
 /// What is chosen in a bracket.
-#[derive(Debug, Drop)]
+#[derive(Drop)]
 pub enum Choice {
     /// The shape, and the first candidate of it that none is better than, with its quality.
     Chosen {

@@ -5,14 +5,14 @@ ghost use Rattle.dutch_bracket.specs.Prelude.{IsAbove, frame_of};
 
 use dutch_order::{Budget, Candidates, Shape, Step};
 use dutch_pair::boards::boards;
-use dutch_pair::laws::{
-    a_bracket_stands_above_the_lower, candidates_are_of_the_bracket, the_first_scoregroup_is_next,
-};
 use dutch_pair::lookahead::quality;
 use dutch_pair::{
     BracketAt, Choice, Item, Quality, Reached, bracket_at, choose, lower_of, split_first_group,
 };
 use dutch_player::Field;
+use pairing_laws::calls::{
+    a_bracket_stands_above_the_lower, candidates_are_of_the_bracket, the_first_scoregroup_is_next,
+};
 use sample_reports::{PlayerLine, field_of};
 use std::alloc::Global;
 use std::test::Fail;

@@ -1,0 +1,4 @@
+pub mod GroupLaws
+pub mod StandsAbove
+pub mod DeadEndLaws
+pub mod BarrierLemmas
