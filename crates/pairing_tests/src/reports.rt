@@ -1,20 +1,19 @@
-//! Reports for tests, made of the lines of their players, and the fields that they are. Nothing is promised of them.
-#![tactic(auto)]
+// Reports for tests, made of the lines of their players, and the fields that they are. Nothing is promised of them.
 
 use dutch_player::Field;
 use std::alloc::{AllocError, Global};
 use std::test::Fail;
 use trf16::Colour;
 
-/// What stands in front of column 9 of a player's line, and what stands from column 92 on.
-pub type PlayerLine<'a> = (&'a str, &'a str);
+// What stands in front of column 9 of a player's line, and what stands from column 92 on.
+pub(crate) type PlayerLine<'a> = (&'a str, &'a str);
 
 // Columns 9 to 91 of a player's line, without a name and without points.
 const BLANK: &str =
     "                                                                                   ";
 
-/// The text of some lines.
-pub fn text_of(alloc: Global, lines: &[PlayerLine<'_>]) -> Result<String, AllocError> {
+// The text of some lines.
+fn text_of(alloc: Global, lines: &[PlayerLine<'_>]) -> Result<String, AllocError> {
     let mut text = String::new(alloc);
     for (front, cells) in lines {
         text.push_str(*front)?;
@@ -25,8 +24,8 @@ pub fn text_of(alloc: Global, lines: &[PlayerLine<'_>]) -> Result<String, AllocE
     Ok(text)
 }
 
-/// The field of some lines, for a total of rounds and an initial colour that are asked for.
-pub fn field_of(
+// The field of some lines, for a total of rounds and an initial colour that are asked for.
+pub(crate) fn field_of(
     alloc: Global,
     lines: &[PlayerLine<'_>],
     total: Option<u8>,
