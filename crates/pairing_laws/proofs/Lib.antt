@@ -1,3 +1,4 @@
+pub mod Certificates
 pub mod GroupLaws
 pub mod StandsAbove
 pub mod DeadEndLaws
