@@ -1,4 +1,4 @@
-pub mod Certificates
+pub mod Covered
 pub mod GroupLaws
 pub mod StandsAbove
 pub mod DeadEndLaws

@@ -25,7 +25,7 @@ pub fn known_pairs_cost_their_slack()
 {}
 
 /// Pairs that cover players, in the form that completion is stated in, are a matching with those whom they leave out.
-#[tactic(auto, using(crate::proofs::Certificates::covering_is_matching))]
+#[tactic(auto, using(crate::proofs::Covered::covering_is_matching))]
 pub fn a_covering_is_a_matching()
     ensures { (costs : Costs) (players : List ℕ) (pairs : List (ℕ × ℕ)) (out : List ℕ)
         → Covers costs.meets players pairs out
@@ -55,7 +55,7 @@ pub fn players_with_a_witness_are_completable()
 
 /// Two costs at once come to what the first does and so many times the second: so a certificate for both, less a first
 /// cost that is known, bounds the second.
-#[tactic(auto, using(crate::proofs::Certificates::added))]
+#[tactic(auto, using(crate::proofs::Covered::added))]
 pub fn costs_beside_others_are_added()
     ensures { (costs : Costs) (factor : ℕ) (more : Costs) (pairs : List (ℕ × ℕ)) (left : List ℕ)
         → cost (beside_times costs factor more) pairs left ≡ cost costs pairs left + factor * cost more pairs left }

@@ -11,6 +11,5 @@ pub mod arrangements;
 pub mod brackets;
 pub mod calls;
 pub mod certificates;
-pub mod certificates;
 pub mod examples;
 pub mod rounds;

@@ -1,7 +1,6 @@
-// The lines, reason by reason.
-ghost use Rattle.std.specs.Prelude.{◌≡◌, ◌++◌, IfOk, codes, string_bytes};
-ghost use Rattle.std.specs.Fmt.{decimal};
-ghost use Rattle.refusals.specs.Texts.{excess_text, fault_text, field_text, round_text, tie_text, unread_text};
+// The lines that tell why a report is refused, cannot be paired further, or has no standings, reason by reason.
+ghost use Rattle.std.specs.Prelude.{◌≡◌, IfOk, string_bytes};
+ghost use Rattle.replies.specs.RefusalTexts.{excess_text, fault_text, field_text, line_text, round_text, tie_text};
 
 use dutch_player::FieldFault;
 use std::alloc::{AllocError, Global};
@@ -12,7 +11,7 @@ use trf16::{Excess, Fault};
 ///
 /// # Errors
 /// Memory was refused.
-pub fn refused(alloc: Global, fault: Fault) -> Result<String, AllocError>
+pub(crate) fn refused(alloc: Global, fault: Fault) -> Result<String, AllocError>
     ensures { IfOk result (λ text. string_bytes text ≡ fault_text fault) }
 {
     match fault {
@@ -41,22 +40,11 @@ pub fn refused(alloc: Global, fault: Fault) -> Result<String, AllocError>
     }
 }
 
-/// Why a report cannot be renumbered: the number of its first line, from 1, that names players in a way that is not
-/// read.
-///
-/// # Errors
-/// Memory was refused.
-pub fn cannot_be_renumbered(alloc: Global, line: usize) -> Result<String, AllocError>
-    ensures { IfOk result (λ text. string_bytes text ≡ unread_text line) }
-{
-    of_line(alloc, line, ": unsupported\n")
-}
-
 /// Why the next round cannot be paired from a report.
 ///
 /// # Errors
 /// Memory was refused.
-pub fn cannot_be_paired(alloc: Global, fault: FieldFault) -> Result<String, AllocError>
+pub(crate) fn cannot_be_paired(alloc: Global, fault: FieldFault) -> Result<String, AllocError>
     ensures { IfOk result (λ text. string_bytes text ≡ field_text fault) }
 {
     match fault {
@@ -74,7 +62,7 @@ pub fn cannot_be_paired(alloc: Global, fault: FieldFault) -> Result<String, Allo
 ///
 /// # Errors
 /// Memory was refused.
-pub fn has_no_standings(alloc: Global, fault: TieFault) -> Result<String, AllocError>
+pub(crate) fn has_no_standings(alloc: Global, fault: TieFault) -> Result<String, AllocError>
     ensures { IfOk result (λ text. string_bytes text ≡ tie_text fault) }
 {
     match fault {
@@ -86,9 +74,12 @@ pub fn has_no_standings(alloc: Global, fault: TieFault) -> Result<String, AllocE
     }
 }
 
-// What is wrong with a line of a report.
-fn of_line(alloc: Global, line: usize, what: &str) -> Result<String, AllocError>
-    ensures { IfOk result (λ text. string_bytes text ≡ codes "refused: line " ++ (decimal line ++ what.now)) }
+/// What is wrong with a line of a report.
+///
+/// # Errors
+/// Memory was refused.
+pub(crate) fn of_line(alloc: Global, line: usize, what: &str) -> Result<String, AllocError>
+    ensures { IfOk result (λ text. string_bytes text ≡ line_text line what.now) }
 {
     format!(in alloc; "refused: line {line}{what}")
 }

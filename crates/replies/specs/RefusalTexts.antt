@@ -20,17 +20,21 @@ excess_text Bytes = codes "refused: too many bytes\n"
 excess_text Players = codes "refused: too many players\n"
 excess_text Rounds = codes "refused: too many rounds\n"
 
+-- what is wrong with a line of a report
+abbrev pub line_text : ℕ → List ℕ → List ℕ
+line_text line what = codes "refused: line " ++ (decimal line ++ what)
+
 -- what does not fit in a round of a player
 abbrev pub round_text : ℕ → ℕ → List ℕ → List ℕ
 round_text player round what = codes "refused: player " ++ (decimal player ++ (codes " round " ++ (decimal round ++ what)))
 
 -- why a report is refused
 abbrev pub fault_text : Fault → List ℕ
-fault_text (BadNumber line) = codes "refused: line " ++ (decimal line ++ codes ": bad number\n")
-fault_text (Duplicate line) = codes "refused: line " ++ (decimal line ++ codes ": duplicate\n")
-fault_text (Misaligned line column) = codes "refused: line " ++ (decimal line ++ (codes ": column " ++ (decimal column ++ codes " must be blank\n")))
-fault_text (BadCell line round) = codes "refused: line " ++ (decimal line ++ (codes ": round " ++ (decimal round ++ codes ": bad cell\n")))
-fault_text (BadExtension line) = codes "refused: line " ++ (decimal line ++ codes ": bad extension\n")
+fault_text (BadNumber line) = line_text line (codes ": bad number\n")
+fault_text (Duplicate line) = line_text line (codes ": duplicate\n")
+fault_text (Misaligned line column) = line_text line (codes ": column " ++ (decimal column ++ codes " must be blank\n"))
+fault_text (BadCell line round) = line_text line (codes ": round " ++ (decimal round ++ codes ": bad cell\n"))
+fault_text (BadExtension line) = line_text line (codes ": bad extension\n")
 fault_text (TooMany excess) = excess_text excess
 fault_text NoPlayers = codes "refused: no players\n"
 fault_text (NoSuchOpponent player round) = round_text player round (codes ": no such opponent\n")
@@ -43,12 +47,12 @@ fault_text OutOfMemory = memory_text
 
 -- why a report cannot be renumbered: its first line that names players in a way that is not read
 abbrev pub unread_text : ℕ → List ℕ
-unread_text line = codes "refused: line " ++ (decimal line ++ codes ": unsupported\n")
+unread_text line = line_text line (codes ": unsupported\n")
 
 -- why the next round cannot be paired from a report
 abbrev pub field_text : FieldFault → List ℕ
 field_text (Unfinished player round) = round_text player round (codes ": unfinished\n")
-field_text (Unsupported line) = codes "refused: line " ++ (decimal line ++ codes ": unsupported\n")
+field_text (Unsupported line) = line_text line (codes ": unsupported\n")
 field_text RoundsUnknown = codes "refused: rounds unknown\n"
 field_text RoundsOver = codes "refused: all rounds are played\n"
 field_text FieldMemory = memory_text
@@ -56,5 +60,5 @@ field_text FieldMemory = memory_text
 -- why a report has no standings
 abbrev pub tie_text : TieFault → List ℕ
 tie_text (TieUnfinished player round) = round_text player round (codes ": unfinished\n")
-tie_text (TieUnsupported line) = codes "refused: line " ++ (decimal line ++ codes ": unsupported\n")
+tie_text (TieUnsupported line) = line_text line (codes ": unsupported\n")
 tie_text TieMemory = memory_text
