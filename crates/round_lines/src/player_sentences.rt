@@ -1,18 +1,19 @@
 // What a player brings to the next round, in five sentences.
-ghost use Rattle.std.specs.Prelude.{◌≡◌, ◌<◌, ◌++◌, OnOk, codes, length};
+ghost use Rattle.std.specs.Prelude.{◌≡◌, ◌<◌, ◌++◌, OnOk, length};
 ghost use Rattle.dutch_player.specs.Prelude.{seat_at};
 ghost use Rattle.trf16.specs.Prelude.{rounds_played};
-ghost use Rattle.round_lines.specs.PlayerTexts.{colours_words, comma_behind, float_text, floats_words, game_behind};
-ghost use Rattle.round_lines.specs.PlayerTexts.{game_words, games_words, met_words, player_sentences, preference_words};
-ghost use Rattle.round_lines.specs.PlayerTexts.{rights_words, score_words, wish_words, yes_text};
+ghost use Rattle.round_lines.specs.PlayerTexts.{colours_words, comma_behind, floats_words, game_words};
+ghost use Rattle.round_lines.specs.PlayerTexts.{games_words, met_words, player_sentences, rights_words, score_words};
+ghost use Rattle.round_lines.specs.PlayerTexts.{wish_words};
 
 use crate::page::Page;
-use crate::player_line::{ascending, colour, float, strength, yes};
-use crate::telling::{Telling, put_one, put_players};
-use dutch_player::{Field, Float, Pref, colour_played};
-use replies::points::HalfPoints;
+use crate::pieces::Piece::{Player, Players, Points, Text};
+use crate::pieces::put;
+use crate::player_line::{ascending, colour, float, preference, yes};
+use crate::telling::Telling;
+use dutch_player::colour_played;
 use std::alloc::AllocError;
-use trf16::{Colour, Report};
+use trf16::Colour;
 
 /// Puts the sentences of a player.
 #[tactic(auto, unfolding(crate::specs::PlayerTexts::player_sentences))]
@@ -26,10 +27,10 @@ pub(crate) fn put_player_sentences(
         ++ player_sentences telling.now.sheet telling.now.facts (seat_at telling.now.facts seat)) }
 {
     put_score_words(text, telling, seat)?;
-    put_wish_words(text, telling.report, telling.field, seat)?;
-    put_floats_words(text, telling.field, seat)?;
+    put_wish_words(text, telling, seat)?;
+    put_floats_words(text, telling, seat)?;
     put_met_words(text, telling, seat)?;
-    put_rights_words(text, telling.field, seat)
+    put_rights_words(text, telling, seat)
 }
 
 // Puts the sentence on a player's score.
@@ -39,9 +40,13 @@ fn put_score_words(text: &mut Page, telling: &Telling<'_>, seat: u16) -> Result<
     ensures { OnOk result (text.new
         ≡ text.old ++ score_words telling.now.sheet (seat_at telling.now.facts seat)) }
 {
-    let score = HalfPoints(u32::from(telling.field.score(seat)));
-    put_one(text, telling.report, telling.field.start_rank(seat))?;
-    write!(text, " has {score} points.\n")
+    let player = Player(telling.field.start_rank(seat));
+    let score = Points(telling.field.score(seat));
+    put(
+        text,
+        telling,
+        &[player, Text(" has "), score, Text(" points.\n")],
+    )
 }
 
 // The colour of a round's game, or that there was none.
@@ -61,97 +66,63 @@ fn comma_behind(rounds: u8) -> &'static str
     if rounds == 0 { "" } else { ", " }
 }
 
-// Puts the colour of a round's game, behind those of the rounds before it, so many.
-#[tactic(auto, unfolding(crate::specs::PlayerTexts::game_behind))]
-fn put_game_word(text: &mut Page, before: u8, played: Option<Colour>) -> Result<(), AllocError>
-    ensures { OnOk result (text.new ≡ text.old ++ game_behind before played) }
-{
-    text.push_str(comma_behind(before))?;
-    text.push_str(game_word(played))
-}
-
 // Puts the colours of a player's games, round by round, in words.
+#[tactic(auto, unfolding(crate::specs::PlayerTexts::game_behind))]
 fn put_games_words(
     text: &mut Page,
-    report: &Report<'_>,
+    telling: &Telling<'_>,
     start: u16,
     rounds: u8,
 ) -> Result<(), AllocError>
-    ensures { OnOk result (text.new ≡ text.old ++ games_words report.now start rounds) }
+    ensures { OnOk result (text.new ≡ text.old ++ games_words telling.now.sheet start rounds) }
 {
     for round in 0..rounds {
-        let cell = report.cell(start, round + 1);
-        put_game_word(text, round, colour_played(&cell))?;
+        let cell = telling.report.cell(start, round + 1);
+        let game = Text(game_word(colour_played(&cell)));
+        put(text, telling, &[Text(comma_behind(round)), game])?;
     }
     Ok(())
 }
 
 // Puts the same, or that no round was paired.
-fn put_colours_words(text: &mut Page, report: &Report<'_>, start: u16) -> Result<(), AllocError>
+fn put_colours_words(text: &mut Page, telling: &Telling<'_>, start: u16) -> Result<(), AllocError>
     ensures { OnOk result (text.new
-        ≡ text.old ++ colours_words report.now start (rounds_played report.now)) }
+        ≡ text.old ++ colours_words telling.now.sheet start (rounds_played telling.now.sheet)) }
 {
-    let rounds = report.rounds_played();
+    let rounds = telling.report.rounds_played();
     if rounds == 0 {
         return text.push_str("none");
     }
-    put_games_words(text, report, start, rounds)
-}
-
-// Puts a preference in words.
-fn put_preference_words(text: &mut Page, preference: Option<Pref>) -> Result<(), AllocError>
-    ensures { OnOk result (text.new ≡ text.old ++ preference_words preference) }
-{
-    let Some(wish) = preference else {
-        return text.push_str("none");
-    };
-    let (colour, strength) = (colour(wish.colour), strength(wish.strength));
-    write!(text, "{colour}, {strength}")
-}
-
-// Puts a preference behind a player's colours, up to the end of the line.
-fn put_preference_behind(text: &mut Page, preference: Option<Pref>) -> Result<(), AllocError>
-    ensures { OnOk result (text.new
-        ≡ text.old ++ (codes ". Preference: " ++ (preference_words preference ++ codes ".\n"))) }
-{
-    text.push_str(". Preference: ")?;
-    put_preference_words(text, preference)?;
-    text.push_str(".\n")
+    put_games_words(text, telling, start, rounds)
 }
 
 // Puts the sentences on a player's colours.
 #[tactic(auto, unfolding(crate::specs::PlayerTexts::wish_words))]
-fn put_wish_words(
-    text: &mut Page,
-    report: &Report<'_>,
-    field: &Field,
-    seat: u16,
-) -> Result<(), AllocError>
-    requires { seat < length field.now.seats }
-    ensures { OnOk result (text.new ≡ text.old ++ wish_words report.now (seat_at field.now seat)) }
+fn put_wish_words(text: &mut Page, telling: &Telling<'_>, seat: u16) -> Result<(), AllocError>
+    requires { seat < length telling.now.facts.seats }
+    ensures { OnOk result (text.new
+        ≡ text.old ++ wish_words telling.now.sheet (seat_at telling.now.facts seat)) }
 {
+    let wish = Text(preference(telling.field.preference(seat)).1);
     text.push_str("Colours so far: ")?;
-    put_colours_words(text, report, field.start_rank(seat))?;
-    put_preference_behind(text, field.preference(seat))
-}
-
-// Puts a float behind what stands in front of it.
-fn put_float(text: &mut Page, front: &str, of_round: Option<Float>) -> Result<(), AllocError>
-    ensures { OnOk result (text.new ≡ text.old ++ (front.now ++ float_text of_round)) }
-{
-    text.push_str(front)?;
-    text.push_str(float(of_round))
+    put_colours_words(text, telling, telling.field.start_rank(seat))?;
+    put(text, telling, &[Text(". Preference: "), wish, Text(".\n")])
 }
 
 // Puts the sentence on a player's floats in the last two rounds.
 #[tactic(auto, unfolding(crate::specs::PlayerTexts::floats_words))]
-fn put_floats_words(text: &mut Page, field: &Field, seat: u16) -> Result<(), AllocError>
-    requires { seat < length field.now.seats }
-    ensures { OnOk result (text.new ≡ text.old ++ floats_words (seat_at field.now seat)) }
+fn put_floats_words(text: &mut Page, telling: &Telling<'_>, seat: u16) -> Result<(), AllocError>
+    requires { seat < length telling.now.facts.seats }
+    ensures { OnOk result (text.new ≡ text.old ++ floats_words (seat_at telling.now.facts seat)) }
 {
-    put_float(text, "Floats: ", field.float(seat, 1))?;
-    put_float(text, " in the last round, ", field.float(seat, 2))?;
-    text.push_str(" in the round before.\n")
+    let latest = Text(float(telling.field.float(seat, 1)));
+    let earlier = Text(float(telling.field.float(seat, 2)));
+    let (last, before) = (" in the last round, ", " in the round before.\n");
+    put(
+        text,
+        telling,
+        &[Text("Floats: "), latest, Text(last), earlier, Text(before)],
+    )
 }
 
 // Puts the sentence on those whom a player has met.
@@ -162,26 +133,23 @@ fn put_met_words(text: &mut Page, telling: &Telling<'_>, seat: u16) -> Result<()
         ≡ text.old ++ met_words telling.now.sheet (seat_at telling.now.facts seat)) }
 {
     let met = ascending(text.allocator(), telling.field.opponents(seat))?;
-    text.push_str("Has met: ")?;
-    put_players(text, telling.report, met.as_slice())?;
-    text.push_str(".\n")
-}
-
-// Puts whether something holds behind what it is.
-fn put_yes(text: &mut Page, front: &str, holds: bool) -> Result<(), AllocError>
-    ensures { OnOk result (text.new ≡ text.old ++ (front.now ++ yes_text holds)) }
-{
-    text.push_str(front)?;
-    text.push_str(yes(holds))
+    let players = Players(met.as_slice());
+    put(text, telling, &[Text("Has met: "), players, Text(".\n")])
 }
 
 // Puts the sentences on whether a player is a topscorer, and whether they may have the bye.
 #[tactic(auto, unfolding(crate::specs::PlayerTexts::rights_words))]
-fn put_rights_words(text: &mut Page, field: &Field, seat: u16) -> Result<(), AllocError>
-    requires { seat < length field.now.seats }
-    ensures { OnOk result (text.new ≡ text.old ++ rights_words field.now (seat_at field.now seat)) }
+fn put_rights_words(text: &mut Page, telling: &Telling<'_>, seat: u16) -> Result<(), AllocError>
+    requires { seat < length telling.now.facts.seats }
+    ensures { OnOk result (text.new
+        ≡ text.old ++ rights_words telling.now.facts (seat_at telling.now.facts seat)) }
 {
-    put_yes(text, "Topscorer: ", field.topscorer(seat))?;
-    put_yes(text, ". May have the bye: ", field.may_bye(seat))?;
-    text.push_str(".\n")
+    let topscorer = Text(yes(telling.field.topscorer(seat)));
+    let bye = Text(yes(telling.field.may_bye(seat)));
+    let between = Text(". May have the bye: ");
+    put(
+        text,
+        telling,
+        &[Text("Topscorer: "), topscorer, between, bye, Text(".\n")],
+    )
 }
