@@ -1,19 +1,19 @@
 // What a player brings to the next round, in five sentences.
-ghost use Rattle.std.specs.Prelude.{◌≡◌, ◌<◌, ◌++◌, OnOk, length};
+ghost use Rattle.std.specs.Prelude.{◌≡◌, ◌<◌, ◌++◌, OnOk, codes, length};
 ghost use Rattle.dutch_player.specs.Prelude.{seat_at};
 ghost use Rattle.trf16.specs.Prelude.{rounds_played};
-ghost use Rattle.round_lines.specs.PlayerTexts.{colours_words, comma_behind, floats_words, game_words};
-ghost use Rattle.round_lines.specs.PlayerTexts.{games_words, met_words, player_sentences, rights_words, score_words};
-ghost use Rattle.round_lines.specs.PlayerTexts.{wish_words};
+ghost use Rattle.round_lines.specs.PlayerTexts.{colours_words, comma_behind, floats_words, game_behind};
+ghost use Rattle.round_lines.specs.PlayerTexts.{game_words, games_words, met_words, player_sentences, preference_words};
+ghost use Rattle.round_lines.specs.PlayerTexts.{rights_words, score_words, wish_words};
 
 use crate::page::Page;
 use crate::pieces::Piece::{Player, Players, Points, Text};
 use crate::pieces::put;
 use crate::player_line::{ascending, colour, float, preference, yes};
 use crate::telling::Telling;
-use dutch_player::colour_played;
+use dutch_player::{Pref, colour_played};
 use std::alloc::AllocError;
-use trf16::Colour;
+use trf16::{Colour, Report};
 
 /// Puts the sentences of a player.
 #[tactic(auto, unfolding(crate::specs::PlayerTexts::player_sentences))]
@@ -66,34 +66,58 @@ fn comma_behind(rounds: u8) -> &'static str
     if rounds == 0 { "" } else { ", " }
 }
 
-// Puts the colours of a player's games, round by round, in words.
+// Puts the colour of a round's game, behind those of the rounds before it, so many.
 #[tactic(auto, unfolding(crate::specs::PlayerTexts::game_behind))]
+fn put_game_word(text: &mut Page, before: u8, played: Option<Colour>) -> Result<(), AllocError>
+    ensures { OnOk result (text.new ≡ text.old ++ game_behind before played) }
+{
+    text.push_str(comma_behind(before))?;
+    text.push_str(game_word(played))
+}
+
+// Puts the colours of a player's games, round by round, in words.
 fn put_games_words(
     text: &mut Page,
-    telling: &Telling<'_>,
+    report: &Report<'_>,
     start: u16,
     rounds: u8,
 ) -> Result<(), AllocError>
-    ensures { OnOk result (text.new ≡ text.old ++ games_words telling.now.sheet start rounds) }
+    ensures { OnOk result (text.new ≡ text.old ++ games_words report.now start rounds) }
 {
     for round in 0..rounds {
-        let cell = telling.report.cell(start, round + 1);
-        let game = Text(game_word(colour_played(&cell)));
-        put(text, telling, &[Text(comma_behind(round)), game])?;
+        let cell = report.cell(start, round + 1);
+        put_game_word(text, round, colour_played(&cell))?;
     }
     Ok(())
 }
 
 // Puts the same, or that no round was paired.
-fn put_colours_words(text: &mut Page, telling: &Telling<'_>, start: u16) -> Result<(), AllocError>
+fn put_colours_words(text: &mut Page, report: &Report<'_>, start: u16) -> Result<(), AllocError>
     ensures { OnOk result (text.new
-        ≡ text.old ++ colours_words telling.now.sheet start (rounds_played telling.now.sheet)) }
+        ≡ text.old ++ colours_words report.now start (rounds_played report.now)) }
 {
-    let rounds = telling.report.rounds_played();
+    let rounds = report.rounds_played();
     if rounds == 0 {
         return text.push_str("none");
     }
-    put_games_words(text, telling, start, rounds)
+    put_games_words(text, report, start, rounds)
+}
+
+// Puts a preference behind a player's colours, up to the end of the line.
+fn put_preference_behind(
+    text: &mut Page,
+    telling: &Telling<'_>,
+    wish: Option<Pref>,
+) -> Result<(), AllocError>
+    ensures { OnOk result (text.new
+        ≡ text.old ++ (codes ". Preference: " ++ (preference_words wish ++ codes ".\n"))) }
+{
+    let (_, words) = preference(wish);
+    put(
+        text,
+        telling,
+        &[Text(". Preference: "), Text(words), Text(".\n")],
+    )
 }
 
 // Puts the sentences on a player's colours.
@@ -103,10 +127,9 @@ fn put_wish_words(text: &mut Page, telling: &Telling<'_>, seat: u16) -> Result<(
     ensures { OnOk result (text.new
         ≡ text.old ++ wish_words telling.now.sheet (seat_at telling.now.facts seat)) }
 {
-    let wish = Text(preference(telling.field.preference(seat)).1);
     text.push_str("Colours so far: ")?;
-    put_colours_words(text, telling, telling.field.start_rank(seat))?;
-    put(text, telling, &[Text(". Preference: "), wish, Text(".\n")])
+    put_colours_words(text, telling.report, telling.field.start_rank(seat))?;
+    put_preference_behind(text, telling, telling.field.preference(seat))
 }
 
 // Puts the sentence on a player's floats in the last two rounds.
