@@ -11,7 +11,7 @@ use crate::pieces::Piece::{Player, Players, Points, Text};
 use crate::pieces::put;
 use crate::player_line::{ascending, colour, float, preference, yes};
 use crate::telling::Telling;
-use dutch_player::{Pref, colour_played};
+use dutch_player::{Field, Pref, colour_played};
 use std::alloc::AllocError;
 use trf16::{Colour, Report};
 
@@ -27,7 +27,7 @@ pub(crate) fn put_player_sentences(
         ++ player_sentences telling.now.sheet telling.now.facts (seat_at telling.now.facts seat)) }
 {
     put_score_words(text, telling, seat)?;
-    put_wish_words(text, telling, seat)?;
+    put_wish_words(text, telling.report, telling.field, seat)?;
     put_floats_words(text, telling, seat)?;
     put_met_words(text, telling, seat)?;
     put_rights_words(text, telling, seat)
@@ -104,32 +104,30 @@ fn put_colours_words(text: &mut Page, report: &Report<'_>, start: u16) -> Result
 }
 
 // Puts a preference behind a player's colours, up to the end of the line.
-fn put_preference_behind(
-    text: &mut Page,
-    telling: &Telling<'_>,
-    wish: Option<Pref>,
-) -> Result<(), AllocError>
+fn put_preference_behind(text: &mut Page, wish: Option<Pref>) -> Result<(), AllocError>
     ensures { OnOk result (text.new
         ≡ text.old ++ (codes ". Preference: " ++ (preference_words wish ++ codes ".\n"))) }
 {
     let (_, words) = preference(wish);
-    put(
-        text,
-        telling,
-        &[Text(". Preference: "), Text(words), Text(".\n")],
-    )
+    text.push_str(". Preference: ")?;
+    text.push_str(words)?;
+    text.push_str(".\n")
 }
 
 // Puts the sentences on a player's colours.
 #[tactic(auto, unfolding(crate::specs::PlayerTexts::wish_words))]
-fn put_wish_words(text: &mut Page, telling: &Telling<'_>, seat: u16) -> Result<(), AllocError>
-    requires { seat < length telling.now.facts.seats }
-    ensures { OnOk result (text.new
-        ≡ text.old ++ wish_words telling.now.sheet (seat_at telling.now.facts seat)) }
+fn put_wish_words(
+    text: &mut Page,
+    report: &Report<'_>,
+    field: &Field,
+    seat: u16,
+) -> Result<(), AllocError>
+    requires { seat < length field.now.seats }
+    ensures { OnOk result (text.new ≡ text.old ++ wish_words report.now (seat_at field.now seat)) }
 {
     text.push_str("Colours so far: ")?;
-    put_colours_words(text, telling.report, telling.field.start_rank(seat))?;
-    put_preference_behind(text, telling, telling.field.preference(seat))
+    put_colours_words(text, report, field.start_rank(seat))?;
+    put_preference_behind(text, field.preference(seat))
 }
 
 // Puts the sentence on a player's floats in the last two rounds.
