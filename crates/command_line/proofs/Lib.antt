@@ -1,3 +1,8 @@
+pub mod StageLemmas
+pub mod ObstacleTruth
+pub mod InsteadLemmas
+pub mod DecidedLemmas
+pub mod ReasonLemmas
 pub mod RunLemmas
 pub mod AskedLemmas
 pub mod CandidateLemmas

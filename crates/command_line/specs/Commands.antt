@@ -3,7 +3,7 @@ use Rattle.std.specs.Prelude.{◌≡◌, ℕ, List, Result}
 use Rattle.trf16.specs.Prelude.{Sheet, verdict}
 use Rattle.trf16.specs.declared.fault.Fault.{Fault}
 use Rattle.command_line.specs.CandidateAnswers.{AnswersCandidates}
-use Rattle.explained.specs.ExplainAnswers.{AnswersExplain}
+use Rattle.command_line.specs.ExplainAnswers.{AnswersExplain}
 use Rattle.command_line.specs.PairAnswers.{AnswersPair}
 use Rattle.command_line.specs.BoardsAnswers.{boards_answer}
 use Rattle.replies.specs.Prelude.{check_answer, format_answer, format_verdict, seen_before, standings_answer, Answer}

@@ -1,12 +1,11 @@
 // The command `candidates`: a bracket, its shape, and the candidates of that shape in the order of article D.
-ghost use Rattle.std.specs.Prelude.{◌≡◌, ◌≤◌, ◌++◌, IfOk, Ok, option_map, string_bytes};
+ghost use Rattle.std.specs.Prelude.{◌≡◌, ◌≤◌, ◌++◌, IfOk, Ok, string_bytes};
 ghost use Rattle.trf16.specs.Prelude.{verdict};
 ghost use Rattle.dutch_order.specs.Prelude.{Fits};
 ghost use Rattle.dutch_bracket.specs.Prelude.{IsOf, frame_of};
 ghost use Rattle.command_line.specs.CandidateAnswers.{AnswersCandidates, InField, Lists, AnswersFound, coming_of};
 ghost use Rattle.command_line.specs.Known.{CanBeListed};
 ghost use Rattle.round_lines.specs.Listings.{ending_text};
-ghost use Rattle.round_lines.specs.CandidateTexts.{bracket_text};
 ghost use Rattle.replies.specs.Prelude.{answer_of, not_of_bracket, not_reached, seen_before};
 
 use dutch_order::{Budget, Candidates, Cursor, Rule, Shape};

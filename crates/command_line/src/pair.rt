@@ -1,9 +1,7 @@
 // The command `pair`: the boards of the next round, or the report with that round.
-ghost use Rattle.std.specs.Prelude.{◌≡◌, ◌≤◌, ◌++◌, IfOk, Ok, OnOk, codes, length, string_bytes};
-ghost use Rattle.std.specs.List.{flat_map};
-ghost use Rattle.std.specs.Fmt.{decimal};
+ghost use Rattle.std.specs.Prelude.{◌≡◌, ◌≤◌, ◌++◌, IfOk, Ok, OnOk, string_bytes};
 ghost use Rattle.dutch_player.specs.Prelude.{facts_of};
-ghost use Rattle.trf16.specs.Prelude.{verdict, CanBePaired, HasOwnStarts, with_round, written};
+ghost use Rattle.trf16.specs.Prelude.{verdict, CanBePaired, HasOwnStarts, with_round};
 ghost use Rattle.command_line.specs.PairAnswers.{AnswersPair, PairsField, TellsBoards, TellsOutcome, TellsReport};
 ghost use Rattle.command_line.specs.PairAnswers.{board_text, boards_text};
 ghost use Rattle.command_line.specs.Known.{CanBeTold, HasFewRounds};

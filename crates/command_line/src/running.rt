@@ -4,13 +4,13 @@ ghost use Rattle.command_line.specs.Commands.{Answers};
 ghost use Rattle.command_line.specs.Known.{CanBeAnswered};
 ghost use Rattle.replies.specs.Prelude.{out_of_memory, read_fault, reading_of, most_read, answer_of};
 ghost use Rattle.trf16.specs.Prelude.{use_of};
-ghost use Rattle.command_line.specs.Run.{IsAnswer, IsOutOfMemory, IsReplyTo, IsRun};
+ghost use Rattle.command_line.specs.Run.{IsAnswer, IsReplyTo, IsRun};
 ghost use Rattle.requests.specs.Prelude.{meant};
 
 use crate::boards::boards;
 use crate::candidates::candidates;
+use crate::explain::explain;
 use crate::pair::pair;
-use explained::explain::explain;
 use replies::check::check;
 use replies::format::format;
 use replies::standings::standings;

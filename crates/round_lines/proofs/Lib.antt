@@ -2,3 +2,4 @@ pub mod ListingLemmas
 pub mod PlayerLemmas
 pub mod ObstacleLemmas
 pub mod Joined
+pub mod PieceLemmas

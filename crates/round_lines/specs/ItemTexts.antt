@@ -98,7 +98,9 @@ abbrev pub next_line : Quality → List ℕ
 next_line quality = codes "C.7 " ++ (decimal quality.next_pairs ++ (differences_text quality.next_psd ++ codes "\n"))
 
 unfoldable pub next_words : Quality → List ℕ
-next_words quality = item_words NextBracket (decimal quality.next_pairs ++ (codes ". Score differences there: " ++ points_text Words quality.next_psd))
+next_words quality =
+    said_words NextBracket ++ (codes ": " ++ (decimal quality.next_pairs
+    ++ (codes ". Score differences there: " ++ (points_text Words quality.next_psd ++ closing_words NextBracket))))
 
 -- always told in an ordinary bracket, behind which alone there is one
 abbrev pub next_text : Wording → BracketKind → Quality → List ℕ

@@ -1,8 +1,10 @@
--- What the contracts of round_lines name: the texts of brackets, candidates, items, values and players, listings and obstacles.
+-- What the contracts of round_lines name: the texts of rounds, brackets, candidates, items, values, boards and players, listings and obstacles.
 pub mod Tellings
 pub mod CandidateTexts
 pub mod Listings
 pub mod ItemTexts
+pub mod RoundTexts
+pub mod Pieces
 pub mod ValueTexts
 pub mod PlayerTexts
 pub mod Obstacles

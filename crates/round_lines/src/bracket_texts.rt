@@ -1,24 +1,29 @@
 // The first line of a bracket, as codes and as a sentence, and the last line of a listing of its candidates.
-ghost use Rattle.std.specs.Prelude.{◌≡◌, ◌++◌, IfOk, OnOk, codes, string_bytes};
-ghost use Rattle.std.specs.Fmt.{decimal};
+ghost use Rattle.std.specs.Prelude.{◌≡◌, ◌++◌, IfOk, OnOk, string_bytes};
 ghost use Rattle.round_lines.specs.Listings.{ending_text};
 ghost use Rattle.round_lines.specs.CandidateTexts.{bracket_text, bracket_words, kind_text, kind_words};
+ghost use Rattle.round_lines.specs.Tellings.{in_wording};
 
 use crate::listing::Ending;
-use dutch_bracket::BracketKind;
+use crate::page::Page;
+use crate::pieces::Piece::{Count, Number, Text};
+use crate::pieces::say;
+use crate::telling::Telling;
+use dutch_bracket::{BracketKind, Reached};
 use dutch_order::Shape;
 use replies::texts;
 use std::alloc::{AllocError, Global};
 
-/// What a bracket is for the round.
-fn kind(kind: BracketKind) -> &'static str
-    ensures { result.now ≡ kind_text kind }
+// What a bracket is for the round, and the same in a sentence, behind the bracket's number.
+fn kind(kind: BracketKind) -> (&'static str, &'static str)
+    ensures line { result.0.now ≡ kind_text kind }
+    ensures words { result.1.now ≡ kind_words kind }
 {
     match kind {
-        BracketKind::Ordinary => "ordinary",
-        BracketKind::Last => "last",
-        BracketKind::Penultimate => "penultimate",
-        BracketKind::Collapsed => "collapsed",
+        BracketKind::Ordinary => ("ordinary", "."),
+        BracketKind::Last => ("last", ", the last one."),
+        BracketKind::Penultimate => ("penultimate", ", the penultimate one."),
+        BracketKind::Collapsed => ("collapsed", ", the collapsed one."),
     }
 }
 
@@ -32,55 +37,55 @@ pub fn bracket(
 ) -> Result<String, AllocError>
     ensures { IfOk result (λ text. string_bytes text ≡ bracket_text number of_kind shape) }
 {
-    let (word, pairs, mdps) = (kind(of_kind), shape.pairs, shape.mdps);
+    let (word, pairs, mdps) = (kind(of_kind).0, shape.pairs, shape.mdps);
     format!(in alloc; "bracket {number} {word} pairs {pairs} mdps {mdps}\n")
 }
 
-// The same in a sentence, behind the bracket's number.
-fn kind_words(kind: BracketKind) -> &'static str
-    ensures { result.now ≡ kind_words kind }
-{
-    match kind {
-        BracketKind::Ordinary => ".",
-        BracketKind::Last => ", the last one.",
-        BracketKind::Penultimate => ", the penultimate one.",
-        BracketKind::Collapsed => ", the collapsed one.",
-    }
-}
-
-/// The same as a sentence.
-#[tactic(auto, unfolding(crate::specs::CandidateTexts::bracket_words))]
-pub fn bracket_words(
-    alloc: Global,
-    number: u16,
-    of_kind: BracketKind,
+/// Puts the same, as a line or as a sentence.
+///
+/// # Errors
+/// Memory was refused.
+#[tactic(auto, unfolding(crate::specs::CandidateTexts::bracket_text, crate::specs::CandidateTexts::bracket_words))]
+pub fn put_bracket(
+    text: &mut Page,
+    telling: &Telling<'_>,
+    reached: &Reached,
     shape: Shape,
-) -> Result<String, AllocError>
-    ensures { IfOk result (λ text. string_bytes text ≡ bracket_words number of_kind shape) }
+) -> Result<(), AllocError>
+    ensures { OnOk result (text.new ≡ text.old ++ in_wording telling.now.wording
+        (bracket_text reached.now.number reached.now.kind shape)
+        (bracket_words reached.now.number reached.now.kind shape)) }
 {
-    let mut text = bracket_front(alloc, number, of_kind)?;
-    put_shape_words(&mut text, shape)?;
-    Ok(text)
-}
-
-// The number of a bracket, and its kind.
-fn bracket_front(alloc: Global, number: u16, of_kind: BracketKind) -> Result<String, AllocError>
-    ensures { IfOk result (λ text. string_bytes text ≡ codes "Bracket " ++ (decimal number ++ kind_words of_kind)) }
-{
-    let mut text = format!(in alloc; "Bracket {number}")?;
-    text.push_str(kind_words(of_kind))?;
-    Ok(text)
-}
-
-// Puts its shape.
-fn put_shape_words(text: &mut String, shape: Shape) -> Result<(), AllocError>
-    ensures { OnOk result (string_bytes text.new ≡ string_bytes text.old ++ (codes " Pairs: " ++ (decimal shape.pairs
-        ++ (codes ". Moved-down players in them: " ++ (decimal shape.mdps ++ codes ".\n"))))) }
-{
-    let (pairs, mdps) = (shape.pairs, shape.mdps);
-    write!(text, " Pairs: {pairs}")?;
-    text.push_str(". Moved-down players in them: ")?;
-    write!(text, "{mdps}.\n")
+    let number = Number(reached.number());
+    let (line, words) = kind(reached.kind());
+    let (pairs, mdps) = (Count(shape.pairs), Count(shape.mdps));
+    let behind = Text(" Pairs: ");
+    let within = Text(". Moved-down players in them: ");
+    say(
+        text,
+        telling,
+        &[
+            Text("bracket "),
+            number,
+            Text(" "),
+            Text(line),
+            Text(" pairs "),
+            pairs,
+            Text(" mdps "),
+            mdps,
+            Text("\n"),
+        ],
+        &[
+            Text("Bracket "),
+            number,
+            Text(words),
+            behind,
+            pairs,
+            within,
+            mdps,
+            Text(".\n"),
+        ],
+    )
 }
 
 /// The last line of a listing.

@@ -1,21 +1,15 @@
 // The lines and sentences of items that count against a choice (C.04.3 C.6 to C.19).
-ghost use Rattle.std.specs.Prelude.{◌≡◌, ◌++◌, OnOk, codes};
-ghost use Rattle.std.specs.List.{flat_map};
-ghost use Rattle.std.specs.Fmt.{decimal};
-ghost use Rattle.requests.specs.declared.options.Wording.TheVariants.{Words};
+ghost use Rattle.std.specs.Prelude.{◌≡◌, ◌++◌, OnOk};
 ghost use Rattle.dutch_bracket.specs.Prelude.{players_counted, quality_in};
-ghost use Rattle.round_lines.specs.CandidateTexts.{rank_text};
-ghost use Rattle.replies.specs.Prelude.{halves_text};
-ghost use Rattle.round_lines.specs.ItemTexts.{article_text, closing_words, differences_text, list_text};
-ghost use Rattle.round_lines.specs.ItemTexts.{next_line, next_text, next_words, points_text, psd_line};
-ghost use Rattle.round_lines.specs.ItemTexts.{psd_text, psd_words, said_words, who_line, who_text, who_words};
+ghost use Rattle.round_lines.specs.ItemTexts.{article_text, list_text, next_line, next_text, next_words};
+ghost use Rattle.round_lines.specs.ItemTexts.{psd_text, said_words, who_text};
+ghost use Rattle.round_lines.specs.Tellings.{in_wording};
 
 use crate::page::Page;
-use crate::telling::{Telling, in_wording, put_seats, start_at};
+use crate::pieces::Piece::{Count, Differences, DifferencesWords, Ranks, Seats, Text};
+use crate::pieces::say;
+use crate::telling::Telling;
 use dutch_bracket::{BracketKind, Item, Quality};
-use dutch_player::Field;
-use replies::points::HalfPoints;
-use requests::Wording;
 use std::alloc::AllocError;
 
 /// The article of an item.
@@ -62,149 +56,87 @@ fn said(item: Item) -> &'static str
     }
 }
 
-// Puts what an item tells, in front of whom or what it tells it of.
-fn put_said(text: &mut Page, item: Item) -> Result<(), AllocError>
-    ensures { OnOk result (text.new ≡ text.old ++ (said_words item ++ codes ": ")) }
-{
-    text.push_str(said(item))?;
-    text.push_str(": ")
-}
-
-// Puts the article of an item at the end of its sentence.
-fn put_closing(text: &mut Page, item: Item) -> Result<(), AllocError>
-    ensures { OnOk result (text.new ≡ text.old ++ closing_words item) }
-{
-    let article = article(item);
-    write!(text, " ({article}).\n")
-}
-
 /// Puts a list of differences, always.
+///
+/// # Errors
+/// Memory was refused.
 pub fn put_psd(
     text: &mut Page,
-    wording: Wording,
+    telling: &Telling<'_>,
     item: Item,
     differences: &[u16],
 ) -> Result<(), AllocError>
-    ensures { OnOk result (text.new ≡ text.old ++ psd_text wording item differences.now) }
+    ensures { OnOk result (text.new ≡ text.old ++ psd_text telling.now.wording item differences.now) }
 {
-    match wording {
-        Wording::Plain => put_psd_line(text, item, differences),
-        Wording::Words => put_psd_words(text, item, differences),
-    }
-}
-
-// Puts the line of a list of differences.
-fn put_psd_line(text: &mut Page, item: Item, differences: &[u16]) -> Result<(), AllocError>
-    ensures { OnOk result (text.new ≡ text.old ++ psd_line item differences.now) }
-{
-    text.push_str(article(item))?;
-    put_differences(text, differences)?;
-    text.push_str("\n")
-}
-
-// Puts the sentence of a list of differences.
-fn put_psd_words(text: &mut Page, item: Item, differences: &[u16]) -> Result<(), AllocError>
-    ensures { OnOk result (text.new ≡ text.old ++ psd_words item differences.now) }
-{
-    put_said(text, item)?;
-    put_listed(text, Wording::Words, differences)?;
-    put_closing(text, item)
+    let (article, said) = (Text(article(item)), Text(said(item)));
+    let (line, words) = (Differences(differences), DifferencesWords(differences));
+    say(
+        text,
+        telling,
+        &[article, line, Text("\n")],
+        &[said, Text(": "), words, Text(" ("), article, Text(").\n")],
+    )
 }
 
 /// Puts a list of differences, if there are some.
+///
+/// # Errors
+/// Memory was refused.
 pub fn put_list(
     text: &mut Page,
-    wording: Wording,
+    telling: &Telling<'_>,
     item: Item,
     differences: &[u16],
 ) -> Result<(), AllocError>
-    ensures { OnOk result (text.new ≡ text.old ++ list_text wording item differences.now) }
+    ensures { OnOk result (text.new ≡ text.old ++ list_text telling.now.wording item differences.now) }
 {
     if differences.is_empty() {
         return Ok(());
     }
-    put_psd(text, wording, item, differences)
-}
-
-/// Puts differences as points, with commas between them.
-pub fn put_listed(text: &mut Page, wording: Wording, differences: &[u16]) -> Result<(), AllocError>
-    ensures { OnOk result (text.new ≡ text.old ++ points_text wording differences.now) }
-{
-    let [first, others @ ..] = differences else {
-        return text.push_str(in_wording(wording, "-", "none"));
-    };
-    let points = HalfPoints(u32::from(*first));
-    write!(text, "{points}")?;
-    put_points(text, in_wording(wording, ",", ", "), others)
-}
-
-// Puts differences as points, each behind a blank, or a dash for none.
-fn put_differences(text: &mut Page, differences: &[u16]) -> Result<(), AllocError>
-    ensures { OnOk result (text.new ≡ text.old ++ differences_text differences.now) }
-{
-    if differences.is_empty() {
-        return text.push_str(" -");
-    }
-    put_points(text, " ", differences)
-}
-
-// Puts half points as points, each behind a mark.
-fn put_points(text: &mut Page, mark: &str, all: &[u16]) -> Result<(), AllocError>
-    ensures { OnOk result (text.new
-        ≡ text.old ++ flat_map (λ half. mark.now ++ halves_text half) all.now) }
-{
-    for half in all {
-        let points = HalfPoints(u32::from(*half));
-        write!(text, "{mark}{points}")?;
-    }
-    Ok(())
+    put_psd(text, telling, item, differences)
 }
 
 /// Puts what the next bracket can be, of an ordinary bracket.
+///
+/// # Errors
+/// Memory was refused.
 pub fn put_next(
     text: &mut Page,
-    wording: Wording,
+    telling: &Telling<'_>,
     kind: BracketKind,
     quality: &Quality,
 ) -> Result<(), AllocError>
-    ensures { OnOk result (text.new ≡ text.old ++ next_text wording kind (quality_in quality.now)) }
+    ensures { OnOk result (text.new
+        ≡ text.old ++ next_text telling.now.wording kind (quality_in quality.now)) }
 {
-    match (kind, wording) {
-        (BracketKind::Ordinary, Wording::Plain) => put_next_line(text, quality),
-        (BracketKind::Ordinary, Wording::Words) => put_next_words(text, quality),
-        (BracketKind::Last | BracketKind::Penultimate | BracketKind::Collapsed, _) => Ok(()),
+    match kind {
+        BracketKind::Ordinary => put_next_bracket(text, telling, quality),
+        BracketKind::Last | BracketKind::Penultimate | BracketKind::Collapsed => Ok(()),
     }
 }
 
-// Puts the line of what the next bracket can be.
-fn put_next_line(text: &mut Page, quality: &Quality) -> Result<(), AllocError>
-    ensures { OnOk result (text.new ≡ text.old ++ next_line (quality_in quality.now)) }
-{
-    let pairs = quality.next_pairs();
-    write!(text, "C.7 {pairs}")?;
-    put_differences(text, quality.next_psd())?;
-    text.push_str("\n")
-}
-
-// Puts the sentence of what the next bracket can be.
+// Puts the pairs of the next bracket and its PSD.
 #[tactic(auto, unfolding(crate::specs::ItemTexts::next_words))]
-fn put_next_words(text: &mut Page, quality: &Quality) -> Result<(), AllocError>
-    ensures { OnOk result (text.new ≡ text.old ++ next_words (quality_in quality.now)) }
+fn put_next_bracket(
+    text: &mut Page,
+    telling: &Telling<'_>,
+    quality: &Quality,
+) -> Result<(), AllocError>
+    ensures { OnOk result (text.new ≡ text.old ++ in_wording telling.now.wording
+        (next_line (quality_in quality.now)) (next_words (quality_in quality.now))) }
 {
-    put_said(text, Item::NextBracket)?;
-    put_next_value(text, quality)?;
-    put_closing(text, Item::NextBracket)
-}
-
-// Puts the pairs and the PSD of the next bracket in words.
-fn put_next_value(text: &mut Page, quality: &Quality) -> Result<(), AllocError>
-    ensures { OnOk result (text.new ≡ text.old ++ (decimal (quality_in quality.now).next_pairs
-        ++ (codes ". Score differences there: " ++ points_text Words (quality_in quality.now).next_psd))) }
-{
-    let pairs = quality.next_pairs();
-    write!(text, "{pairs}")?;
-    text.push_str(". Score differences there: ")?;
-    put_listed(text, Wording::Words, quality.next_psd())
+    let item = Item::NextBracket;
+    let (article, said) = (Text(article(item)), Text(said(item)));
+    let (pairs, psd) = (Count(quality.next_pairs()), quality.next_psd());
+    let (line, words) = (Differences(psd), DifferencesWords(psd));
+    let there = Text(". Score differences there: ");
+    let (open, close) = (Text(" ("), Text(").\n"));
+    say(
+        text,
+        telling,
+        &[Text("C.7 "), pairs, line, Text("\n")],
+        &[said, Text(": "), pairs, there, words, open, article, close],
+    )
 }
 
 /// How many players an item counts; 0 for those that count none.
@@ -237,6 +169,10 @@ pub struct Counted<'a> {
 }
 
 /// Puts whom an item counts.
+///
+/// # Errors
+/// Memory was refused.
+#[tactic(auto, unfolding(crate::specs::ItemTexts::who_line, crate::specs::ItemTexts::who_words))]
 pub fn put_who(
     text: &mut Page,
     telling: &Telling<'_>,
@@ -246,53 +182,20 @@ pub fn put_who(
     ensures { OnOk result (text.new
         ≡ text.old ++ who_text telling.now item counted.entry.count counted.entry.seats.now) }
 {
-    match telling.wording {
-        Wording::Plain => put_who_line(text, telling.field, item, counted),
-        Wording::Words => put_who_words(text, telling, item, counted.seats),
-    }
-}
-
-// Puts the line of whom an item counts.
-#[tactic(auto, unfolding(crate::specs::ItemTexts::who_line))]
-fn put_who_line(
-    text: &mut Page,
-    field: &Field,
-    item: Item,
-    counted: Counted<'_>,
-) -> Result<(), AllocError>
-    ensures { OnOk result (text.new
-        ≡ text.old ++ who_line field.now item counted.entry.count counted.entry.seats.now) }
-{
-    let (article, count) = (article(item), counted.count);
-    write!(text, "{article} {count} players")?;
-    put_ranks(text, field, counted.seats)?;
-    text.push_str("\n")
-}
-
-// Puts the sentence of whom an item counts.
-#[tactic(auto, unfolding(crate::specs::ItemTexts::who_words))]
-fn put_who_words(
-    text: &mut Page,
-    telling: &Telling<'_>,
-    item: Item,
-    seats: &[u16],
-) -> Result<(), AllocError>
-    ensures { OnOk result (text.new
-        ≡ text.old ++ who_words telling.now item seats.now) }
-{
-    put_said(text, item)?;
-    put_seats(text, telling, seats)?;
-    put_closing(text, item)
-}
-
-// Puts the start ranks of seats.
-fn put_ranks(text: &mut Page, field: &Field, seats: &[u16]) -> Result<(), AllocError>
-    ensures { OnOk result (text.new
-        ≡ text.old ++ flat_map (λ seat. codes " " ++ rank_text field.now seat) seats.now) }
-{
-    for seat in seats {
-        let start = start_at(field, *seat);
-        write!(text, " {start}")?;
-    }
-    Ok(())
+    let (article, said) = (Text(article(item)), Text(said(item)));
+    let (count, ranks) = (Count(counted.count), Ranks(counted.seats));
+    let players = Seats(counted.seats);
+    say(
+        text,
+        telling,
+        &[
+            article,
+            Text(" "),
+            count,
+            Text(" players"),
+            ranks,
+            Text("\n"),
+        ],
+        &[said, Text(": "), players, Text(" ("), article, Text(").\n")],
+    )
 }

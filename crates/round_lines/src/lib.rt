@@ -9,15 +9,23 @@
 //! To mind: no round is paired here. A call that makes a text needs memory for it, and fails if that is refused.
 #![tactic(auto)]
 
+mod board_line;
 pub mod bracket_texts;
 pub mod item_texts;
 pub mod listing;
+mod lists;
+mod member_lines;
 mod obstacle;
 pub mod page;
+pub mod pieces;
 mod player_line;
 mod player_sentences;
+mod round_line;
 pub mod telling;
 pub mod value_texts;
 
+pub use board_line::put_board;
+pub use member_lines::put_members;
 pub use obstacle::{Asked, Obstacle, against_bye, against_meeting, put_obstacle};
 pub use player_line::{put_absent, put_player};
+pub use round_line::put_round;

@@ -1,10 +1,10 @@
 // The lines of candidates, as many as are asked for, one after the other.
-ghost use Rattle.std.specs.Prelude.{◌≡◌, ◌++◌, ◌∷◌, [], IfOk, OnOk, string_bytes, codes};
+ghost use Rattle.std.specs.Prelude.{◌≡◌, ◌++◌, IfOk, OnOk, string_bytes, codes};
 ghost use Rattle.std.specs.List.{flat_map};
 ghost use Rattle.std.specs.Fmt.{decimal};
 ghost use Rattle.dutch_order.specs.Prelude.{Spends};
 ghost use Rattle.dutch_bracket.specs.Prelude.{IsOf, frame_of};
-ghost use Rattle.round_lines.specs.Listings.{IsListing, StopsAtLimit, ending_text, status_of};
+ghost use Rattle.round_lines.specs.Listings.{IsListing, StopsAtLimit, status_of};
 ghost use Rattle.round_lines.specs.CandidateTexts.{down_text, candidate_text, line_text, pair_text, pairs_text};
 ghost use Rattle.round_lines.specs.CandidateTexts.{start_of};
 
@@ -15,7 +15,7 @@ use replies::Status;
 use std::alloc::{AllocError, Global};
 
 /// How a listing ended.
-#[derive(Debug, Clone, Copy, PartialEq, Eq)]
+#[derive(Clone, Copy)]
 pub enum Ending {
     /// No candidate is left.
     AtEnd,

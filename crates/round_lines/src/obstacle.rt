@@ -1,11 +1,13 @@
 // What stands against a meeting in the next round, or against the bye, whatever is chosen in a bracket (C.04.3 C.1 to
 // C.3).
 ghost use Rattle.std.specs.Prelude.{◌≡◌, ◌<◌, ◌++◌, OnOk, Some, length};
-ghost use Rattle.round_lines.specs.Obstacles.{absent_words, against_bye, against_meeting, first_meeting, has_played};
+ghost use Rattle.round_lines.specs.Obstacles.{against_bye, against_meeting, first_meeting, has_played};
 ghost use Rattle.round_lines.specs.Obstacles.{obstacle_text, obstacle_words};
 
 use crate::page::Page;
-use crate::telling::{Telling, put_one};
+use crate::pieces::Piece::{Player, Text};
+use crate::pieces::put;
+use crate::telling::Telling;
 use dutch_player::{Field, opponent_played};
 use requests::Wording;
 use std::alloc::AllocError;
@@ -13,7 +15,7 @@ use std::fmt;
 use trf16::Report;
 
 /// Why a player does not meet another one in the next round, or does not have the bye, whatever is chosen in a bracket.
-#[derive(Debug, Clone, Copy, PartialEq, Eq)]
+#[derive(Clone, Copy)]
 pub enum Obstacle {
     /// One of the two is absent.
     Absent,
@@ -141,26 +143,21 @@ fn put_obstacle_words(
     ensures { OnOk result (text.new
         ≡ text.old ++ obstacle_words telling.now.sheet asked.player asked.number obstacle) }
 {
+    let player = Player(asked.player);
     match obstacle {
-        Obstacle::Absent => put_absent_words(text, telling, asked),
+        Obstacle::Absent => {
+            if asked.number != 0 {
+                return text.push_str("One of them is absent.");
+            }
+            put(text, telling, &[player, Text(" is absent.")])
+        }
         Obstacle::Met { round } => write!(text, "They met in round {round} (C.1)."),
         Obstacle::Apart => text.push_str("An XXP line keeps them apart."),
         Obstacle::Colours => text.push_str("Both have to get the same colour (C.3)."),
         Obstacle::HadBye => {
-            put_one(text, telling.report, asked.player)?;
-            text.push_str(" has had the bye, or a point without a game (C.2).")
+            let why = Text(" has had the bye, or a point without a game (C.2).");
+            put(text, telling, &[player, why])
         }
         Obstacle::Even => text.push_str("The number of players present is even."),
     }
-}
-
-// Puts who is absent.
-fn put_absent_words(text: &mut Page, telling: &Telling<'_>, asked: Asked) -> Result<(), AllocError>
-    ensures { OnOk result (text.new ≡ text.old ++ absent_words telling.now.sheet asked.player asked.number) }
-{
-    if asked.number != 0 {
-        return text.push_str("One of them is absent.");
-    }
-    put_one(text, telling.report, asked.player)?;
-    text.push_str(" is absent.")
 }

@@ -7,7 +7,7 @@ ghost use Rattle.trf16.specs.Prelude.{rounds_played};
 ghost use Rattle.round_lines.specs.PlayerTexts.{absent_text, ascending, colour_text, colours_text, difference_text};
 ghost use Rattle.round_lines.specs.PlayerTexts.{float_text, floats_text, game_text, games_text, history_text};
 ghost use Rattle.round_lines.specs.PlayerTexts.{met_text, placed, player_line, player_text, preference_text};
-ghost use Rattle.round_lines.specs.PlayerTexts.{rights_text, score_text, strength_text, wish_text, yes_text};
+ghost use Rattle.round_lines.specs.PlayerTexts.{preference_words, rights_text, score_text, wish_text, yes_text};
 
 use crate::page::Page;
 use crate::player_sentences::put_player_sentences;
@@ -141,16 +141,6 @@ fn put_difference(text: &mut Page, games: i16) -> Result<(), AllocError>
     }
 }
 
-pub(crate) fn strength(kind: Strength) -> &'static str
-    ensures { result.now ≡ strength_text kind }
-{
-    match kind {
-        Strength::Absolute => "absolute",
-        Strength::Strong => "strong",
-        Strength::Mild => "mild",
-    }
-}
-
 pub(crate) fn colour(colour: Colour) -> &'static str
     ensures { result.now ≡ colour_text colour }
 {
@@ -160,15 +150,22 @@ pub(crate) fn colour(colour: Colour) -> &'static str
     }
 }
 
-// Puts a preference.
-fn put_preference(text: &mut Page, preference: Option<Pref>) -> Result<(), AllocError>
-    ensures { OnOk result (text.new ≡ text.old ++ preference_text preference) }
+// A preference, as it stands in a line and in a sentence.
+pub(crate) fn preference(preference: Option<Pref>) -> (&'static str, &'static str)
+    ensures line { result.0.now ≡ preference_text preference }
+    ensures words { result.1.now ≡ preference_words preference }
 {
     let Some(wish) = preference else {
-        return text.push_str("none");
+        return ("none", "none");
     };
-    let (strength, colour) = (strength(wish.strength), colour(wish.colour));
-    write!(text, "{strength} {colour}")
+    match (wish.colour, wish.strength) {
+        (Colour::White, Strength::Absolute) => ("absolute white", "white, absolute"),
+        (Colour::White, Strength::Strong) => ("strong white", "white, strong"),
+        (Colour::White, Strength::Mild) => ("mild white", "white, mild"),
+        (Colour::Black, Strength::Absolute) => ("absolute black", "black, absolute"),
+        (Colour::Black, Strength::Strong) => ("strong black", "black, strong"),
+        (Colour::Black, Strength::Mild) => ("mild black", "black, mild"),
+    }
 }
 
 // Puts what a player's colours come to.
@@ -180,7 +177,7 @@ fn put_wish(text: &mut Page, field: &Field, seat: u16) -> Result<(), AllocError>
     text.push_str(" difference ")?;
     put_difference(text, field.difference(seat))?;
     text.push_str(" prefers ")?;
-    put_preference(text, field.preference(seat))
+    text.push_str(preference(field.preference(seat)).0)
 }
 
 pub(crate) fn float(float: Option<Float>) -> &'static str

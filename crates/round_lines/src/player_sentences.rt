@@ -2,15 +2,16 @@
 ghost use Rattle.std.specs.Prelude.{◌≡◌, ◌<◌, ◌++◌, OnOk, codes, length};
 ghost use Rattle.dutch_player.specs.Prelude.{seat_at};
 ghost use Rattle.trf16.specs.Prelude.{rounds_played};
-ghost use Rattle.round_lines.specs.PlayerTexts.{colours_words, comma_behind, float_text, floats_words, game_behind};
+ghost use Rattle.round_lines.specs.PlayerTexts.{colours_words, comma_behind, floats_words, game_behind};
 ghost use Rattle.round_lines.specs.PlayerTexts.{game_words, games_words, met_words, player_sentences, preference_words};
-ghost use Rattle.round_lines.specs.PlayerTexts.{rights_words, score_words, wish_words, yes_text};
+ghost use Rattle.round_lines.specs.PlayerTexts.{rights_words, score_words, wish_words};
 
 use crate::page::Page;
-use crate::player_line::{ascending, colour, float, strength, yes};
-use crate::telling::{Telling, put_one, put_players};
-use dutch_player::{Field, Float, Pref, colour_played};
-use replies::points::HalfPoints;
+use crate::pieces::Piece::{Player, Players, Points, Text};
+use crate::pieces::put;
+use crate::player_line::{ascending, colour, float, preference, yes};
+use crate::telling::Telling;
+use dutch_player::{Field, Pref, colour_played};
 use std::alloc::AllocError;
 use trf16::{Colour, Report};
 
@@ -27,9 +28,9 @@ pub(crate) fn put_player_sentences(
 {
     put_score_words(text, telling, seat)?;
     put_wish_words(text, telling.report, telling.field, seat)?;
-    put_floats_words(text, telling.field, seat)?;
+    put_floats_words(text, telling, seat)?;
     put_met_words(text, telling, seat)?;
-    put_rights_words(text, telling.field, seat)
+    put_rights_words(text, telling, seat)
 }
 
 // Puts the sentence on a player's score.
@@ -39,9 +40,13 @@ fn put_score_words(text: &mut Page, telling: &Telling<'_>, seat: u16) -> Result<
     ensures { OnOk result (text.new
         ≡ text.old ++ score_words telling.now.sheet (seat_at telling.now.facts seat)) }
 {
-    let score = HalfPoints(u32::from(telling.field.score(seat)));
-    put_one(text, telling.report, telling.field.start_rank(seat))?;
-    write!(text, " has {score} points.\n")
+    let player = Player(telling.field.start_rank(seat));
+    let score = Points(telling.field.score(seat));
+    put(
+        text,
+        telling,
+        &[player, Text(" has "), score, Text(" points.\n")],
+    )
 }
 
 // The colour of a round's game, or that there was none.
@@ -98,24 +103,14 @@ fn put_colours_words(text: &mut Page, report: &Report<'_>, start: u16) -> Result
     put_games_words(text, report, start, rounds)
 }
 
-// Puts a preference in words.
-fn put_preference_words(text: &mut Page, preference: Option<Pref>) -> Result<(), AllocError>
-    ensures { OnOk result (text.new ≡ text.old ++ preference_words preference) }
-{
-    let Some(wish) = preference else {
-        return text.push_str("none");
-    };
-    let (colour, strength) = (colour(wish.colour), strength(wish.strength));
-    write!(text, "{colour}, {strength}")
-}
-
 // Puts a preference behind a player's colours, up to the end of the line.
-fn put_preference_behind(text: &mut Page, preference: Option<Pref>) -> Result<(), AllocError>
+fn put_preference_behind(text: &mut Page, wish: Option<Pref>) -> Result<(), AllocError>
     ensures { OnOk result (text.new
-        ≡ text.old ++ (codes ". Preference: " ++ (preference_words preference ++ codes ".\n"))) }
+        ≡ text.old ++ (codes ". Preference: " ++ (preference_words wish ++ codes ".\n"))) }
 {
+    let (_, words) = preference(wish);
     text.push_str(". Preference: ")?;
-    put_preference_words(text, preference)?;
+    text.push_str(words)?;
     text.push_str(".\n")
 }
 
@@ -135,23 +130,20 @@ fn put_wish_words(
     put_preference_behind(text, field.preference(seat))
 }
 
-// Puts a float behind what stands in front of it.
-fn put_float(text: &mut Page, front: &str, of_round: Option<Float>) -> Result<(), AllocError>
-    ensures { OnOk result (text.new ≡ text.old ++ (front.now ++ float_text of_round)) }
-{
-    text.push_str(front)?;
-    text.push_str(float(of_round))
-}
-
 // Puts the sentence on a player's floats in the last two rounds.
 #[tactic(auto, unfolding(crate::specs::PlayerTexts::floats_words))]
-fn put_floats_words(text: &mut Page, field: &Field, seat: u16) -> Result<(), AllocError>
-    requires { seat < length field.now.seats }
-    ensures { OnOk result (text.new ≡ text.old ++ floats_words (seat_at field.now seat)) }
+fn put_floats_words(text: &mut Page, telling: &Telling<'_>, seat: u16) -> Result<(), AllocError>
+    requires { seat < length telling.now.facts.seats }
+    ensures { OnOk result (text.new ≡ text.old ++ floats_words (seat_at telling.now.facts seat)) }
 {
-    put_float(text, "Floats: ", field.float(seat, 1))?;
-    put_float(text, " in the last round, ", field.float(seat, 2))?;
-    text.push_str(" in the round before.\n")
+    let latest = Text(float(telling.field.float(seat, 1)));
+    let earlier = Text(float(telling.field.float(seat, 2)));
+    let (last, before) = (" in the last round, ", " in the round before.\n");
+    put(
+        text,
+        telling,
+        &[Text("Floats: "), latest, Text(last), earlier, Text(before)],
+    )
 }
 
 // Puts the sentence on those whom a player has met.
@@ -162,26 +154,23 @@ fn put_met_words(text: &mut Page, telling: &Telling<'_>, seat: u16) -> Result<()
         ≡ text.old ++ met_words telling.now.sheet (seat_at telling.now.facts seat)) }
 {
     let met = ascending(text.allocator(), telling.field.opponents(seat))?;
-    text.push_str("Has met: ")?;
-    put_players(text, telling.report, met.as_slice())?;
-    text.push_str(".\n")
-}
-
-// Puts whether something holds behind what it is.
-fn put_yes(text: &mut Page, front: &str, holds: bool) -> Result<(), AllocError>
-    ensures { OnOk result (text.new ≡ text.old ++ (front.now ++ yes_text holds)) }
-{
-    text.push_str(front)?;
-    text.push_str(yes(holds))
+    let players = Players(met.as_slice());
+    put(text, telling, &[Text("Has met: "), players, Text(".\n")])
 }
 
 // Puts the sentences on whether a player is a topscorer, and whether they may have the bye.
 #[tactic(auto, unfolding(crate::specs::PlayerTexts::rights_words))]
-fn put_rights_words(text: &mut Page, field: &Field, seat: u16) -> Result<(), AllocError>
-    requires { seat < length field.now.seats }
-    ensures { OnOk result (text.new ≡ text.old ++ rights_words field.now (seat_at field.now seat)) }
+fn put_rights_words(text: &mut Page, telling: &Telling<'_>, seat: u16) -> Result<(), AllocError>
+    requires { seat < length telling.now.facts.seats }
+    ensures { OnOk result (text.new
+        ≡ text.old ++ rights_words telling.now.facts (seat_at telling.now.facts seat)) }
 {
-    put_yes(text, "Topscorer: ", field.topscorer(seat))?;
-    put_yes(text, ". May have the bye: ", field.may_bye(seat))?;
-    text.push_str(".\n")
+    let topscorer = Text(yes(telling.field.topscorer(seat)));
+    let bye = Text(yes(telling.field.may_bye(seat)));
+    let between = Text(". May have the bye: ");
+    put(
+        text,
+        telling,
+        &[Text("Topscorer: "), topscorer, between, bye, Text(".\n")],
+    )
 }

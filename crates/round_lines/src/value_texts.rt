@@ -1,12 +1,15 @@
 // The values of a quality's items as texts, beside those of another one (C.04.3 C.6 to C.19).
 ghost use Rattle.std.specs.Prelude.{◌≡◌, ◌++◌, OnOk, Some};
 ghost use Rattle.dutch_bracket.specs.Prelude.{first_difference, quality_in};
-ghost use Rattle.round_lines.specs.ItemTexts.{article_text};
 ghost use Rattle.round_lines.specs.ValueTexts.{against_line, against_words, candidate_text, meaning_words, next_meaning};
 ghost use Rattle.round_lines.specs.ValueTexts.{next_value, value_text, worse_words};
 
-use crate::item_texts::{article, players_counted, put_listed};
+use crate::item_texts::{article, players_counted};
+use crate::lists::put_listed;
 use crate::page::Page;
+use crate::pieces::Piece::Text;
+use crate::pieces::put;
+use crate::telling::Telling;
 use dutch_bracket::{Item, Quality};
 use dutch_order::Candidate;
 use requests::Wording;
@@ -107,39 +110,36 @@ fn put_against_line(text: &mut Page, of: Beside<'_>, item: Option<Item>) -> Resu
 }
 
 // Puts the item in which a quality is worse, and what it compares, in words.
-fn put_worse(text: &mut Page, of: Beside<'_>, item: Item) -> Result<(), AllocError>
+fn put_worse(
+    text: &mut Page,
+    telling: &Telling<'_>,
+    of: Beside<'_>,
+    item: Item,
+) -> Result<(), AllocError>
     ensures { OnOk result (text.new
         ≡ text.old ++ worse_words item (quality_in of.entry.0.now) (quality_in of.entry.1.now)) }
 {
-    put_article(text, "is worse at ", item)?;
-    put_meaning(text, " (", of, item)?;
-    text.push_str("): ")
-}
-
-// Puts the article of an item behind what stands in front of it.
-fn put_article(text: &mut Page, front: &str, item: Item) -> Result<(), AllocError>
-    ensures { OnOk result (text.new ≡ text.old ++ (front.now ++ article_text item)) }
-{
-    text.push_str(front)?;
-    text.push_str(article(item))
-}
-
-// Puts what an item compares behind what stands in front of it.
-fn put_meaning(text: &mut Page, front: &str, of: Beside<'_>, item: Item) -> Result<(), AllocError>
-    ensures { OnOk result (text.new ≡ text.old
-        ++ (front.now ++ meaning_words item (quality_in of.entry.0.now) (quality_in of.entry.1.now))) }
-{
-    text.push_str(front)?;
-    text.push_str(meaning(item, of.0, of.1))
+    let (article, meaning) = (Text(article(item)), Text(meaning(item, of.0, of.1)));
+    let front = Text("is worse at ");
+    put(
+        text,
+        telling,
+        &[front, article, Text(" ("), meaning, Text("): ")],
+    )
 }
 
 // Puts the same as `put_against_line`, in words.
-fn put_against_words(text: &mut Page, of: Beside<'_>, item: Option<Item>) -> Result<(), AllocError>
+fn put_against_words(
+    text: &mut Page,
+    telling: &Telling<'_>,
+    of: Beside<'_>,
+    item: Option<Item>,
+) -> Result<(), AllocError>
     ensures { OnOk result (text.new
         ≡ text.old ++ against_words (quality_in of.entry.0.now) (quality_in of.entry.1.now) item) }
 {
     match item {
-        Some(item) => put_worse_by(text, of, item),
+        Some(item) => put_worse_by(text, telling, of, item),
         None => {
             text.push_str("is as good, and stands behind the chosen one in the order of article D.")
         }
@@ -147,11 +147,16 @@ fn put_against_words(text: &mut Page, of: Beside<'_>, item: Option<Item>) -> Res
 }
 
 // Puts the item in which a quality is worse, and its value in both, in words.
-fn put_worse_by(text: &mut Page, of: Beside<'_>, item: Item) -> Result<(), AllocError>
+fn put_worse_by(
+    text: &mut Page,
+    telling: &Telling<'_>,
+    of: Beside<'_>,
+    item: Item,
+) -> Result<(), AllocError>
     ensures { OnOk result (text.new
         ≡ text.old ++ against_words (quality_in of.entry.0.now) (quality_in of.entry.1.now) (Some item)) }
 {
-    put_worse(text, of, item)?;
+    put_worse(text, telling, of, item)?;
     put_value(text, Wording::Words, item, of)?;
     text.push_str(", where the chosen one has ")?;
     put_value(text, Wording::Words, item, (of.1, of.0))?;
@@ -165,19 +170,19 @@ fn put_worse_by(text: &mut Page, of: Beside<'_>, item: Item) -> Result<(), Alloc
 /// Memory was refused.
 pub fn put_candidate(
     text: &mut Page,
-    wording: Wording,
+    telling: &Telling<'_>,
     candidate: &Candidate,
     of: Beside<'_>,
 ) -> Result<(), AllocError>
     ensures { OnOk result (text.new ≡ text.old
-        ++ candidate_text wording candidate.now.lists (quality_in of.entry.0.now) (quality_in of.entry.1.now)) }
+        ++ candidate_text telling.now.wording candidate.now.lists (quality_in of.entry.0.now) (quality_in of.entry.1.now)) }
 {
     let item = of.0.first_difference(of.1);
-    match wording {
+    match telling.wording {
         Wording::Plain => {
             text.push_str(candidate.cursor().print().as_str())?;
             put_against_line(text, of, item)
         }
-        Wording::Words => put_against_words(text, of, item),
+        Wording::Words => put_against_words(text, telling, of, item),
     }
 }

@@ -1,0 +1,108 @@
+-- What `explain` answers: the round, bracket by bracket, or what of it one player is told.
+use Rattle.std.specs.Prelude.{◌≡◌, ℕ, IfSome, List, [], ◌++◌, Option, Some, None, Result, Ok, Err}
+use Rattle.dutch_pair.specs.Prelude.{Barrier, Blocks, AreStages}
+use Rattle.dutch_pair.specs.declared.round.AllStages.{AllStages}
+use Rattle.dutch_pair.specs.declared.round.AllStages.TheVariants.{Paired, NoPairing, Undecided}
+use Rattle.dutch_player.specs.Prelude.{Facts, facts_of, seat_with}
+use Rattle.dutch_player.specs.declared.fault.FieldFault.{FieldFault}
+use Rattle.trf16.specs.Prelude.{Sheet}
+use Rattle.command_line.specs.BarrierTexts.{no_pairing_text, reason_text}
+use Rattle.command_line.specs.ExplainTexts.{round_text, stages_text}
+use Rattle.command_line.specs.InsteadAnswers.{AnswersInstead, PairedRound}
+use Rattle.command_line.specs.InsteadTexts.{undecided_in}
+use Rattle.round_lines.specs.PlayerTexts.{absent_text, player_text}
+use Rattle.round_lines.specs.Tellings.{TellingFacts}
+use Rattle.replies.specs.Prelude.{question_fault, Answer, behind, done, field_refusal, no_pairing, plain, question_refusal, unseen_answer}
+use Rattle.replies.specs.declared.views.Unseen.{Unseen}
+use Rattle.requests.specs.declared.options.ExplainOptions.{ExplainOptions}
+use Rattle.requests.specs.declared.options.Question.{Question}
+use Rattle.replies.specs.declared.question.QuestionFault.{QuestionFault}
+
+-- ---- a round that is paired
+
+-- the line of a round
+abbrev pub first_text : PairedRound → List ℕ
+first_text round = round_text round.telling round.bye
+
+-- what is told of a present player: their line, and the brackets in which they stand
+abbrev pub present_text : PairedRound → ℕ → List ℕ
+present_text round seat = player_text round.telling seat ++ stages_text round.telling (Some seat) round.stages
+
+-- what is told of a player, by their start rank and their seat; without a seat they are absent
+abbrev pub about_text : PairedRound → ℕ → Option ℕ → List ℕ
+about_text round player None = absent_text round.telling player
+about_text round player (Some seat) = present_text round seat
+
+-- the round, and what is told of a player
+abbrev pub front_text : PairedRound → ℕ → List ℕ
+front_text round player = first_text round ++ about_text round player (seat_with round.telling.facts player)
+
+-- behind that it is told why they do not meet another one, or do not have the bye
+pub record IsToldBehind (round : PairedRound) (steps player number : ℕ) (answer : Answer) : Type 0 where
+  pub line : Answer
+  pub is : AnswersInstead round player number steps line
+  pub tells : answer ≡ behind (front_text round player) line
+
+-- what is answered to a question on a player, and on who is named instead, if one is
+abbrev pub AnswersQuestion : PairedRound → ℕ → ℕ → Option ℕ → Answer → Type 0
+AnswersQuestion round steps player None answer = answer ≡ done (front_text round player)
+AnswersQuestion round steps player (Some number) answer = IsToldBehind round steps player number answer
+
+-- what is told of a round that is paired: all its brackets, or what is asked of a player
+abbrev pub TellsPaired : Option Question → ℕ → PairedRound → Answer → Type 0
+TellsPaired None steps round answer = answer ≡ done (first_text round ++ stages_text round.telling None round.stages)
+TellsPaired (Some question) steps round answer = AnswersQuestion round steps question.player question.instead answer
+
+-- ---- no pairing
+
+-- the line of a player, by their start rank and their seat; without a seat they are absent
+abbrev pub line_text : TellingFacts → ℕ → Option ℕ → List ℕ
+line_text telling player None = absent_text telling player
+line_text telling player (Some seat) = player_text telling seat
+
+-- the line of the player who is asked about, if one is
+abbrev pub asked_text : TellingFacts → Option Question → List ℕ
+asked_text telling None = []
+asked_text telling (Some question) = line_text telling question.player (seat_with telling.facts question.player)
+
+-- that there is no pairing, why, and the line of the player who is asked about
+abbrev pub no_pairing_with : TellingFacts → Option Question → List ℕ → Answer
+no_pairing_with telling question why =
+    plain no_pairing.status (no_pairing_text telling.wording ++ (why ++ asked_text telling question))
+
+-- A.9: no pairing, and why: a barrier that blocks the round, if one was found
+pub record TellsWhy (telling : TellingFacts) (question : Option Question) (answer : Answer) : Type 0 where
+  pub found : Option Barrier
+  pub blocks : IfSome found (Blocks telling.facts)
+  pub tells : answer ≡ no_pairing_with telling question (reason_text telling found)
+
+-- ---- a round
+
+-- what is told of a round
+abbrev pub TellsRound : ExplainOptions → TellingFacts → AllStages → Answer → Type 0
+TellsRound options telling (Paired stages bye) answer =
+    TellsPaired options.question options.steps (record { telling = telling; stages = stages.items; bye = bye.items }) answer
+TellsRound options telling NoPairing answer = TellsWhy telling options.question answer
+TellsRound options telling (Undecided number used) answer = answer ≡ undecided_in telling.wording number used
+
+-- a field is paired, and its round is told
+pub record IsExplained (options : ExplainOptions) (telling : TellingFacts) (answer : Answer) : Type 0 where
+  pub stages : AllStages
+  pub are : AreStages telling.facts options.steps stages
+  pub tells : TellsRound options telling stages answer
+
+-- the same, where nothing is wrong with the question; else that is told
+abbrev pub ExplainsAsked : ExplainOptions → TellingFacts → Option QuestionFault → Answer → Type 0
+ExplainsAsked options telling None answer = IsExplained options telling answer
+ExplainsAsked options telling (Some fault) answer = answer ≡ question_refusal fault
+
+-- what is answered to a field, or why the round cannot be paired
+abbrev pub ExplainsField : ExplainOptions → Sheet → Result Facts FieldFault → Answer → Type 0
+ExplainsField options sheet (Ok facts) answer =
+    ExplainsAsked options (record { sheet = sheet; facts = facts; wording = options.wording }) (question_fault sheet options.question) answer
+ExplainsField options sheet (Err fault) answer = answer ≡ field_refusal fault
+
+-- `explain`: what is answered to a report, or why there is none
+abbrev pub AnswersExplain : ExplainOptions → Result Sheet Unseen → Answer → Type 0
+AnswersExplain options (Ok sheet) answer = ExplainsField options sheet (facts_of sheet options.rounds options.initial) answer
+AnswersExplain options (Err why) answer = answer ≡ unseen_answer why

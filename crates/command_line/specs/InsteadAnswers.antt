@@ -1,0 +1,112 @@
+-- What is answered to a player who asks for another opponent, or for the bye: what stands against it first.
+use Rattle.std.specs.Prelude.{◌≡◌, ℕ, ◌<◌, Bool, true, false, ◌&&◌, ◌==◌, if◌then◌else◌, List, [], ◌∷◌, length, Option, Some, None, option_map}
+use Rattle.std.specs.List.{list_any, position_from}
+use Rattle.std.specs.Option.{option_map_or}
+use Rattle.dutch_player.specs.Prelude.{Facts, seat_with}
+use Rattle.dutch_pair.specs.Prelude.{above_lower, IsInstead}
+use Rattle.dutch_choice.specs.Prelude.{grants}
+use Rattle.dutch_pair.specs.declared.instead.Instead.{Instead}
+use Rattle.dutch_pair.specs.declared.stage.Stage.{Stage}
+use Rattle.dutch_choice.specs.declared.wish.Wish.{Wish}
+use Rattle.dutch_choice.specs.declared.wish.Wish.TheVariants.{Pair, LeftOver}
+use Rattle.command_line.specs.InsteadTexts.{granted_text, instead_text, search_answer}
+use Rattle.round_lines.specs.Tellings.{TellingFacts}
+use Rattle.round_lines.specs.Obstacles.{against_bye, against_meeting, obstacle_text}
+use Rattle.replies.specs.Prelude.{Answer, done}
+use Rattle.command_line.specs.declared.instead.Rival.{Rival}
+use Rattle.command_line.specs.declared.instead.Rival.TheVariants.{Bye, Seat}
+use Rattle.round_lines.specs.declared.obstacle.Obstacle.{Obstacle}
+use Rattle.round_lines.specs.declared.obstacle.Obstacle.TheVariants.{Absent}
+
+-- a round that is paired: its report and its field, the brackets that it reached, and the seat that has the bye, if one has
+pub record PairedRound : Type 0 where
+  pub telling : TellingFacts
+  pub stages : List Stage
+  pub bye : List ℕ
+
+-- ---- the bracket in which it was decided
+
+-- a seat stands in a bracket
+abbrev pub stands_in : ℕ → Stage → Bool
+stands_in seat stage = list_any (λ other. other == seat) stage.reached.seats
+
+-- a seat stands in one of some brackets
+abbrev pub stands_in_one : List Stage → ℕ → Bool
+stands_in_one stages seat = list_any (stands_in seat) stages
+
+-- who is asked for stands in one of the brackets that follow; the bye is given behind all of them
+abbrev pub goes_on : List Stage → Rival → Bool
+goes_on stages Bye = true
+goes_on stages (Seat seat) = stands_in_one stages seat
+
+-- the number of a seat among those of a bracket, which counts from 1; 0 for one that is not among them
+abbrev pub number_among : List ℕ → ℕ → ℕ
+number_among seats seat = option_map_or (λ number. number) (position_from (λ other. other == seat) 1 seats) 0
+
+-- the number of a seat in a bracket
+abbrev pub number_in : Stage → ℕ → ℕ
+number_in stage seat = number_among stage.reached.seats seat
+
+-- what is wished in a bracket behind which one of the two does not stand: that they meet, where it is the last bracket of both; else that the
+-- one who was paired in it is left over
+abbrev pub wish_in : List Stage → Stage → ℕ → Rival → Wish
+wish_in behind stage player Bye = LeftOver (number_in stage player)
+wish_in behind stage player (Seat other) =
+    if stands_in_one behind other then LeftOver (number_in stage player)
+    else (if stands_in_one behind player then LeftOver (number_in stage other) else Pair (number_in stage player) (number_in stage other))
+
+-- the first bracket behind which one of the two does not stand, and what is wished in it
+abbrev pub decided_in : List Stage → ℕ → Rival → Option (Stage × Wish)
+decided_in [] player rival = None
+decided_in (stage ∷ behind) player rival =
+    if stands_in_one behind player && goes_on behind rival then decided_in behind player rival else Some (stage, wish_in behind stage player rival)
+
+-- ---- the answer
+
+-- the bye for 0; else the seat of a start rank
+abbrev pub rival_of : Facts → ℕ → Option Rival
+rival_of facts number = if number == 0 then Some Bye else option_map (λ seat. Seat seat) (seat_with facts number)
+
+-- who is asked for is one of the field
+abbrev pub IsRival : Facts → Rival → Type 0
+IsRival facts Bye = Unit {0}
+IsRival facts (Seat seat) = seat < length facts.seats
+
+-- what stands against it, whatever is chosen in a bracket
+abbrev pub obstacle_of : PairedRound → ℕ → Rival → Option Obstacle
+obstacle_of round player Bye = against_bye round.telling.facts round.bye player
+obstacle_of round player (Seat other) = against_meeting round.telling.sheet round.telling.facts player other
+
+module _ (telling : TellingFacts) (steps player number : ℕ) where
+  -- a candidate that grants a wish is searched for in a bracket, in so many steps, and what is found is told
+  pub record IsSearched (stage : Stage) (wish : Wish) (answer : Answer) : Type 0 where
+    pub found : Instead
+    pub is : IsInstead (above_lower telling.facts stage.reached) stage.shape wish steps found
+    pub tells : answer ≡ search_answer telling player number stage found
+
+  -- what is chosen in a bracket grants the wish; else a candidate that does is searched for
+  abbrev pub AnswersWish : Stage → Wish → Bool → Answer → Type 0
+  AnswersWish stage wish true answer = answer ≡ done (granted_text telling player number)
+  AnswersWish stage wish false answer = IsSearched stage wish answer
+
+  -- the same of the bracket in which it was decided; where there is no bracket nothing is told
+  abbrev pub AnswersDecided : Option (Stage × Wish) → Answer → Type 0
+  AnswersDecided None answer = answer ≡ done []
+  AnswersDecided (Some decided) answer = AnswersWish decided.0 decided.1 (grants decided.1 decided.0.candidate.lists) answer
+
+  -- an obstacle, or else what the brackets say
+  abbrev pub AnswersPresent : Option Obstacle → Option (Stage × Wish) → Answer → Type 0
+  AnswersPresent (Some obstacle) decided answer = answer ≡ done (instead_text telling player number (obstacle_text telling player number obstacle))
+  AnswersPresent None decided answer = AnswersDecided decided answer
+
+-- what is answered where the two are present, or else that one of them is absent
+abbrev pub AnswersSeats : PairedRound → ℕ → ℕ → ℕ → Option ℕ → Option Rival → Answer → Type 0
+AnswersSeats round steps player number (Some seat) (Some rival) answer =
+    AnswersPresent round.telling steps player number (obstacle_of round seat rival) (decided_in round.stages seat rival) answer
+AnswersSeats round steps player number seat rival answer =
+    answer ≡ done (instead_text round.telling player number (obstacle_text round.telling player number Absent))
+
+-- what is answered to a player, by start rank, who asks for another one, or for the bye by 0
+abbrev pub AnswersInstead : PairedRound → ℕ → ℕ → ℕ → Answer → Type 0
+AnswersInstead round player number steps answer =
+    AnswersSeats round steps player number (seat_with round.telling.facts player) (rival_of round.telling.facts number) answer

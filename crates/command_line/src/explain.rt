@@ -1,0 +1,169 @@
+// The command `explain`: why the next round is paired as it is, bracket by bracket or for one player.
+ghost use Rattle.std.specs.Prelude.{◌≡◌, ◌<◌, ◌≤◌, ◌++◌, IfOk, Ok, OnOk, length};
+ghost use Rattle.std.specs.List.{AllByRecursion};
+ghost use Rattle.dutch_pair.specs.Prelude.{IsStage};
+ghost use Rattle.trf16.specs.Prelude.{verdict};
+ghost use Rattle.dutch_bracket.specs.Prelude.{AreSeats};
+ghost use Rattle.dutch_player.specs.Prelude.{seat_with};
+ghost use Rattle.command_line.specs.ExplainAnswers.{AnswersExplain, ExplainsAsked, IsExplained, IsToldBehind};
+ghost use Rattle.command_line.specs.ExplainAnswers.{TellsPaired, about_text, front_text, present_text};
+ghost use Rattle.replies.specs.Prelude.{answer_of, question_fault, seen_before};
+
+use crate::bracket_lines::put_stages;
+use crate::instead::{Paired, Question, instead};
+use crate::not_paired::{no_pairing_because, undecided};
+use dutch_pair::{AllStages, stages};
+use dutch_player::{Field, FieldFault};
+use replies::refusal::{cannot_be_asked, cannot_be_paired};
+use replies::views::{not_seen, read_before};
+use replies::{Reply, Status, question_fault};
+use requests::ExplainOptions;
+use round_lines::page::Page;
+use round_lines::telling::Telling;
+use round_lines::{Asked, put_absent, put_player, put_round};
+use std::alloc::{AllocError, Global};
+use trf16::Report;
+
+/// What `explain` says of the bytes of a report in which the pairing-allocated bye gives `bye` half points.
+pub fn explain(
+    alloc: Global,
+    options: ExplainOptions,
+    bytes: &[u8],
+    bye: u16,
+) -> Result<Reply, AllocError>
+    requires { bye ≤ 2 }
+    ensures { IfOk result
+        (λ reply. AnswersExplain options (seen_before options.round (verdict bytes.now bye)) (answer_of reply)) }
+{
+    match read_before(alloc, bytes, bye, options.round)? {
+        Ok(report) => of_report(alloc, options, &report),
+        Err(why) => not_seen(alloc, why),
+    }
+}
+
+// The same of an accepted report.
+fn of_report(
+    alloc: Global,
+    options: ExplainOptions,
+    report: &Report<'_>,
+) -> Result<Reply, AllocError>
+    ensures { IfOk result (λ reply. AnswersExplain options (Ok report.now) (answer_of reply)) }
+{
+    match Field::new(alloc, report, options.rounds, options.initial) {
+        Ok(field) => {
+            let telling = Telling {
+                report,
+                field: &field,
+                wording: options.wording,
+            };
+            of_field(alloc, options, &telling)
+        }
+        Err(FieldFault::OutOfMemory) => Err(AllocError),
+        Err(fault) => cannot_be_paired(alloc, fault),
+    }
+}
+
+// The same of those whom the next round is paired from.
+fn of_field(
+    alloc: Global,
+    options: ExplainOptions,
+    telling: &Telling<'_>,
+) -> Result<Reply, AllocError>
+    ensures { IfOk result (λ reply. ExplainsAsked options telling.now
+        (question_fault telling.now.sheet options.question) (answer_of reply)) }
+{
+    match question_fault(telling.report, options.question) {
+        Some(fault) => cannot_be_asked(alloc, fault),
+        None => of_round(alloc, options, telling),
+    }
+}
+
+// The same if nothing is wrong with the question.
+fn of_round(
+    alloc: Global,
+    options: ExplainOptions,
+    telling: &Telling<'_>,
+) -> Result<Reply, AllocError>
+    ensures { IfOk result (λ reply. IsExplained options telling.now (answer_of reply)) }
+{
+    match stages(alloc, telling.field, options.steps)? {
+        AllStages::Paired { stages, bye } => {
+            let round = Paired {
+                telling,
+                stages: &stages,
+                bye: &bye,
+            };
+            tell_paired(alloc, options, &round)
+        }
+        AllStages::NoPairing => {
+            no_pairing_because(alloc, telling, options.question, options.steps)
+        }
+        AllStages::Undecided { bracket, used } => undecided(alloc, telling.wording, bracket, used),
+    }
+}
+
+// The same of a round that is paired.
+fn tell_paired(
+    alloc: Global,
+    options: ExplainOptions,
+    round: &Paired<'_>,
+) -> Result<Reply, AllocError>
+    requires bye { AreSeats round.now.telling.facts round.now.bye }
+    requires stages { AllByRecursion (IsStage round.now.telling.facts) round.now.stages }
+    ensures { IfOk result (λ reply. TellsPaired options.question options.steps round.now (answer_of reply)) }
+{
+    let mut text = Page::new(alloc);
+    put_round(&mut text, round.telling, round.bye)?;
+    let Some(question) = options.question else {
+        put_stages(&mut text, round.telling, round.stages, None)?;
+        return Ok(Reply::bytes(Status::Done, text.into_bytes()));
+    };
+    let player = question.player;
+    put_about(&mut text, round, player)?;
+    match question.instead {
+        Some(number) => {
+            let asked = Asked { player, number };
+            let steps = options.steps;
+            with_instead(alloc, text, round, Question { asked, steps })
+        }
+        None => Ok(Reply::bytes(Status::Done, text.into_bytes())),
+    }
+}
+
+// A text, and behind it why the player does not meet another one.
+fn with_instead(
+    alloc: Global,
+    text: Page,
+    round: &Paired<'_>,
+    question: Question,
+) -> Result<Reply, AllocError>
+    requires front { text ≡ front_text round.now question.asked.player }
+    requires stages { AllByRecursion (IsStage round.now.telling.facts) round.now.stages }
+    ensures { IfOk result (λ reply. IsToldBehind round.now question.steps question.asked.player question.asked.number
+        (answer_of reply)) }
+{
+    instead(alloc, round, question)?.behind(text.into_bytes())
+}
+
+// Puts what is told of a player: their line and their brackets, or that they are absent.
+fn put_about(text: &mut Page, round: &Paired<'_>, player: u16) -> Result<(), AllocError>
+    requires { AllByRecursion (IsStage round.now.telling.facts) round.now.stages }
+    ensures { OnOk result (text.new
+        ≡ text.old ++ about_text round.now player (seat_with round.now.telling.facts player)) }
+{
+    let telling = round.telling;
+    match telling.field.seat_with(player) {
+        Some(seat) => put_present(text, round, seat),
+        None => put_absent(text, telling, player),
+    }
+}
+
+// Puts the line of a present player and their brackets.
+fn put_present(text: &mut Page, round: &Paired<'_>, seat: u16) -> Result<(), AllocError>
+    requires seat { seat < length round.now.telling.facts.seats }
+    requires stages { AllByRecursion (IsStage round.now.telling.facts) round.now.stages }
+    ensures { OnOk result (text.new ≡ text.old ++ present_text round.now seat) }
+{
+    put_player(text, round.telling, seat)?;
+    put_stages(text, round.telling, round.stages, Some(seat))
+}

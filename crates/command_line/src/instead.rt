@@ -1,0 +1,317 @@
+// Why a player does not meet another one in the next round, or does not have the bye: what stands against it first.
+ghost use Rattle.std.specs.Prelude.{◌≡◌, ◌<◌, ◌≤◌, IfOk, IfSome, MatchOption, None, Some, length};
+ghost use Rattle.std.specs.List.{AllByRecursion};
+ghost use Rattle.dutch_order.specs.declared.numbers.TheConstants.{LIMIT};
+ghost use Rattle.dutch_pair.specs.Prelude.{IsStage};
+ghost use Rattle.dutch_choice.specs.Prelude.{grants};
+ghost use Rattle.command_line.specs.InsteadAnswers.{AnswersInstead, AnswersPresent, AnswersWish, IsRival, IsSearched};
+ghost use Rattle.command_line.specs.InsteadAnswers.{decided_in};
+ghost use Rattle.command_line.specs.InsteadAnswers.{goes_on, number_among, number_in, obstacle_of, rival_of};
+ghost use Rattle.command_line.specs.InsteadAnswers.{stands_in, stands_in_one, wish_in};
+ghost use Rattle.command_line.specs.InsteadTexts.{in_bracket, instead_text, search_answer};
+ghost use Rattle.round_lines.specs.Obstacles.{obstacle_text};
+ghost use Rattle.replies.specs.Prelude.{answer_of, done};
+
+use crate::instead_lines::{put_found, put_front, put_granted};
+use crate::not_paired::undecided;
+use dutch_pair::{Instead, Stage, Wish, best_instead};
+use dutch_player::Field;
+use replies::{Reply, Status};
+use round_lines::page::Page;
+use round_lines::telling::Telling;
+use round_lines::{Asked, Obstacle, against_bye, against_meeting, put_obstacle};
+use std::alloc::{AllocError, Global};
+use std::marker::Model;
+
+/// Whom a player asks for instead.
+#[derive(Clone, Copy)]
+pub enum Rival {
+    /// Nobody: the player asks for the bye.
+    Bye,
+    /// The player of a seat.
+    Seat(u16),
+}
+
+/// A round that is paired: how it is told, the brackets that it reached, and the seat that has the bye, if one has.
+#[derive(Drop)]
+pub struct Paired<'a> {
+    pub telling: &'a Telling<'a>,
+    pub stages: &'a [Stage],
+    pub bye: &'a [u16],
+}
+
+impl<'a> Model for Paired<'a> {
+    ghost use Rattle.command_line.specs.InsteadAnswers.{PairedRound};
+
+    ghost Value = { PairedRound };
+
+    ghost view = { λ r. record { telling = r.telling.now; stages = r.stages.now; bye = r.bye.now } };
+}
+
+/// What is asked: by whom and for whom, by their start ranks, for the bye by 0; and in how many steps a candidate may
+/// be searched for.
+#[derive(Clone, Copy)]
+pub struct Question {
+    pub asked: Asked,
+    pub steps: u64,
+}
+
+/// What is answered to a player who asks for another one instead, or for the bye: the first of these that stands
+/// against it: one of the two is absent; C.1; a line `XXP`; C.3; for the bye C.2, or that nobody has it; then what is
+/// chosen in the first bracket behind which one of them does not stand, and the best of its candidates that would grant
+/// it.
+///
+/// # Errors
+/// Memory was refused.
+pub fn instead(alloc: Global, round: &Paired<'_>, question: Question) -> Result<Reply, AllocError>
+    requires { AllByRecursion (IsStage round.now.telling.facts) round.now.stages }
+    ensures { IfOk result (λ reply. AnswersInstead round.now question.asked.player question.asked.number
+        question.steps (answer_of reply)) }
+{
+    let (telling, asked) = (round.telling, question.asked);
+    let Some(player) = telling.field.seat_with(asked.player) else {
+        return stands_against(alloc, telling, asked, Obstacle::Absent);
+    };
+    let Some(rival) = rival_of(telling.field, asked.number) else {
+        return stands_against(alloc, telling, asked, Obstacle::Absent);
+    };
+    of_meeting(alloc, round, Meeting { player, rival }, question)
+}
+
+// The same where both are present.
+fn of_meeting(
+    alloc: Global,
+    round: &Paired<'_>,
+    meeting: Meeting,
+    question: Question,
+) -> Result<Reply, AllocError>
+    requires player { meeting.player < length round.now.telling.facts.seats }
+    requires rival { IsRival round.now.telling.facts meeting.rival }
+    requires stages { AllByRecursion (IsStage round.now.telling.facts) round.now.stages }
+    ensures { IfOk result (λ reply. AnswersPresent round.now.telling question.steps question.asked.player
+        question.asked.number (obstacle_of round.now meeting.player meeting.rival)
+        (decided_in round.now.stages meeting.player meeting.rival) (answer_of reply)) }
+{
+    let telling = round.telling;
+    if let Some(obstacle) = obstacle_of(round, meeting) {
+        return stands_against(alloc, telling, question.asked, obstacle);
+    }
+    match decided_in(telling.field, round.stages, meeting) {
+        Some(decided) => by_wish(alloc, telling, decided, question),
+        None => Ok(Reply::made(Status::Done, String::new(alloc))),
+    }
+}
+
+// A meeting that is asked for: the seat of who asks, and for whom.
+#[derive(Clone, Copy)]
+struct Meeting {
+    player: u16,
+    rival: Rival,
+}
+
+// The bye for 0; otherwise the seat of a start rank.
+fn rival_of(field: &Field, number: u16) -> Option<Rival>
+    ensures value { result ≡ rival_of field.now number }
+    ensures within { IfSome result (IsRival field.now) }
+{
+    if number == 0 {
+        return Some(Rival::Bye);
+    }
+    match field.seat_with(number) {
+        Some(seat) => Some(Rival::Seat(seat)),
+        None => None,
+    }
+}
+
+// What stands against it, whatever is chosen in a bracket.
+fn obstacle_of(round: &Paired<'_>, meeting: Meeting) -> Option<Obstacle>
+    requires player { meeting.player < length round.now.telling.facts.seats }
+    requires rival { IsRival round.now.telling.facts meeting.rival }
+    ensures { result ≡ obstacle_of round.now meeting.player meeting.rival }
+{
+    let telling = round.telling;
+    match meeting.rival {
+        Rival::Bye => against_bye(telling.field, round.bye, meeting.player),
+        Rival::Seat(other) => {
+            against_meeting(telling.report, telling.field, meeting.player, other)
+        }
+    }
+}
+
+// The line on what stands against it.
+fn stands_against(
+    alloc: Global,
+    telling: &Telling<'_>,
+    asked: Asked,
+    obstacle: Obstacle,
+) -> Result<Reply, AllocError>
+    ensures { IfOk result (λ reply. answer_of reply ≡ done (instead_text telling.now asked.player asked.number
+        (obstacle_text telling.now asked.player asked.number obstacle))) }
+{
+    let mut text = Page::new(alloc);
+    put_front(&mut text, telling, asked)?;
+    put_obstacle(&mut text, telling, asked, obstacle)?;
+    text.push_str("\n")?;
+    Ok(Reply::bytes(Status::Done, text.into_bytes()))
+}
+
+// Whether a seat stands in a bracket.
+fn stands_in(stage: &Stage, seat: u16) -> bool
+    ensures { result ≡ stands_in seat stage.now }
+{
+    stage.reached().seats().contains(&seat)
+}
+
+// Whether a seat stands in one of some brackets.
+fn stands_in_one(stages: &[Stage], seat: u16) -> bool
+    ensures { result ≡ stands_in_one stages.now seat }
+{
+    stages.iter().any(|stage| stands_in(stage, seat))
+}
+
+// Whether who is asked for stands in one of the brackets that follow; the bye is given behind all of them.
+fn goes_on(stages: &[Stage], rival: Rival) -> bool
+    ensures { result ≡ goes_on stages.now rival }
+{
+    match rival {
+        Rival::Bye => true,
+        Rival::Seat(seat) => stands_in_one(stages, seat),
+    }
+}
+
+// The number of a seat among those of a bracket, from 1; 0 if it does not stand there.
+#[tactic(auto, using(crate::proofs::InsteadLemmas::passed, crate::proofs::InsteadLemmas::found, crate::proofs::InsteadLemmas::none))]
+fn number_among(seats: &[u16], seat: u16) -> u16
+    requires { length seats.now ≤ LIMIT }
+    ensures { result ≡ number_among seats.now seat }
+{
+    for (i, other) in seats.iter().enumerate() {
+        if *other == seat {
+            return i as u16 + 1;
+        }
+    }
+    0
+}
+
+// The number of a seat in a bracket.
+#[tactic(auto, using(crate::proofs::InsteadLemmas::few_seats))]
+fn number_in(field: &Field, stage: &Stage, seat: u16) -> u16
+    requires { IsStage field.now stage.now }
+    ensures { result ≡ number_in stage.now seat }
+{
+    number_among(stage.reached().seats(), seat)
+}
+
+// What is wished in a bracket behind which one of the two does not stand: that they meet, if it is the last bracket of
+// both; otherwise that the one who was paired in it is left over.
+fn wish_in(field: &Field, behind: &[Stage], stage: &Stage, meeting: Meeting) -> Wish
+    requires { IsStage field.now stage.now }
+    ensures { result ≡ wish_in behind.now stage.now meeting.player meeting.rival }
+{
+    let player = meeting.player;
+    let Rival::Seat(other) = meeting.rival else {
+        return Wish::LeftOver(number_in(field, stage, player));
+    };
+    if stands_in_one(behind, other) {
+        return Wish::LeftOver(number_in(field, stage, player));
+    }
+    if stands_in_one(behind, player) {
+        return Wish::LeftOver(number_in(field, stage, other));
+    }
+    Wish::Pair(
+        number_in(field, stage, player),
+        number_in(field, stage, other),
+    )
+}
+
+// The first bracket behind which one of the two does not stand, and what is wished in it.
+fn decided_in<'a>(field: &Field, stages: &'a [Stage], meeting: Meeting) -> Option<(&'a Stage, Wish)>
+    requires { AllByRecursion (IsStage field.now) stages.now }
+    ensures decided { MatchOption result (decided_in stages.now meeting.player meeting.rival ≡ None)
+        (λ decided. decided_in stages.now meeting.player meeting.rival ≡ Some (decided.0.now, decided.1)) }
+    ensures stage { IfSome result (λ decided. IsStage field.now decided.0.now) }
+{
+    let [stage, behind @ ..] = stages else {
+        return None;
+    };
+    if stands_in_one(behind, meeting.player) && goes_on(behind, meeting.rival) {
+        return decided_in(field, behind, meeting);
+    }
+    Some((stage, wish_in(field, behind, stage, meeting)))
+}
+
+// What is answered to a wish in a bracket: that what is chosen there grants it, or what a search for a candidate that
+// does finds.
+fn by_wish(
+    alloc: Global,
+    telling: &Telling<'_>,
+    decided: (&Stage, Wish),
+    question: Question,
+) -> Result<Reply, AllocError>
+    requires { IsStage telling.now.facts decided.0.now }
+    ensures { IfOk result (λ reply. AnswersWish telling.now question.steps question.asked.player question.asked.number
+        decided.entry.0.now decided.entry.1 (grants decided.entry.1 decided.entry.0.now.candidate.lists)
+        (answer_of reply)) }
+{
+    if decided.1.is_granted(decided.0.candidate()) {
+        let mut text = Page::new(alloc);
+        put_granted(&mut text, telling, question.asked)?;
+        return Ok(Reply::bytes(Status::Done, text.into_bytes()));
+    }
+    by_search(alloc, telling, decided, question)
+}
+
+// What a search for a candidate that grants a wish in a bracket finds.
+#[tactic(auto, using(crate::proofs::InsteadLemmas::searched))]
+fn by_search(
+    alloc: Global,
+    telling: &Telling<'_>,
+    decided: (&Stage, Wish),
+    question: Question,
+) -> Result<Reply, AllocError>
+    requires { IsStage telling.now.facts decided.0.now }
+    ensures { IfOk result (λ reply. IsSearched telling.now question.steps question.asked.player question.asked.number
+        decided.entry.0.now decided.entry.1 (answer_of reply)) }
+{
+    let (stage, wish) = decided;
+    let found = best_instead(alloc, telling.field, stage, wish, question.steps)?;
+    tell(alloc, telling, question.asked, (stage, &found))
+}
+
+// What is told of what a search in a bracket found.
+fn tell(
+    alloc: Global,
+    telling: &Telling<'_>,
+    asked: Asked,
+    searched: (&Stage, &Instead),
+) -> Result<Reply, AllocError>
+    ensures { IfOk result (λ reply. answer_of reply
+        ≡ search_answer telling.now asked.player asked.number searched.entry.0.now searched.entry.1.now) }
+{
+    match searched.1 {
+        Instead::Undecided { used } => {
+            undecided(alloc, telling.wording, searched.0.reached().number(), *used)
+        }
+        Instead::Best { .. }
+        | Instead::NoneEligible
+        | Instead::FewerMovedDown
+        | Instead::NoneLegal => in_bracket(alloc, telling, asked, searched),
+    }
+}
+
+// The line on what a search in a bracket found.
+fn in_bracket(
+    alloc: Global,
+    telling: &Telling<'_>,
+    asked: Asked,
+    searched: (&Stage, &Instead),
+) -> Result<Reply, AllocError>
+    ensures { IfOk result (λ reply. answer_of reply
+        ≡ done (in_bracket telling.now asked.player asked.number searched.entry.0.now searched.entry.1.now)) }
+{
+    let mut text = Page::new(alloc);
+    put_front(&mut text, telling, asked)?;
+    put_found(&mut text, telling, searched)?;
+    text.push_str("\n")?;
+    Ok(Reply::bytes(Status::Done, text.into_bytes()))
+}

@@ -1,0 +1,72 @@
+// Laws on what is told to a player who asks for another opponent, or for the bye: each reason is true.
+ghost use Rattle.std.specs.Prelude.{◌≡◌, ◌<◌, ℕ, true, List, Some, is_some, length, map};
+ghost use Rattle.dutch_player.specs.Prelude.{Facts};
+ghost use Rattle.trf16.specs.Prelude.{Sheet};
+ghost use Rattle.dutch_pair.specs.Prelude.{above_lower, IsStage, IsInstead, Pairing, round, visit};
+ghost use Rattle.dutch_pair.specs.declared.instead.Instead.TheVariants.{FewerMovedDown, NoneEligible, NoneLegal};
+ghost use Rattle.dutch_pair.specs.declared.stage.Stage.{Stage};
+ghost use Rattle.dutch_choice.specs.declared.wish.Wish.{Wish};
+ghost use Rattle.command_line.specs.InsteadAnswers.{decided_in, IsRival};
+ghost use Rattle.command_line.specs.declared.instead.Rival.{Rival};
+ghost use Rattle.command_line.specs.InsteadLaws.{IsDecidedIn, NoneCanBeChosen, NoneWithAsManyMovedDown};
+ghost use Rattle.command_line.specs.InsteadLaws.{NoneWithAsManyPairs, StandsAgainstBye, StandsAgainstMeeting};
+ghost use Rattle.round_lines.specs.Obstacles.{against_bye, against_meeting};
+ghost use Rattle.round_lines.specs.declared.obstacle.Obstacle.{Obstacle};
+
+/// What is told against a meeting of two players stands: they have played in that round, and in none before it (C.1); a
+/// line `XXP` names both; or both have absolute preferences for one colour, and neither is a topscorer (C.3).
+#[tactic(auto, using(crate::proofs::ObstacleTruth::stands_against_meeting))]
+pub fn what_is_told_against_a_meeting_stands()
+    ensures { (sheet : Sheet) (facts : Facts) (one other : ℕ) (obstacle : Obstacle)
+        → against_meeting sheet facts one other ≡ Some obstacle
+        → StandsAgainstMeeting sheet facts one other obstacle }
+{}
+
+/// What is told against the bye of a player is true: they may not have it (C.2), or nobody has it.
+#[tactic(auto, using(crate::proofs::ObstacleTruth::stands_against_bye))]
+pub fn what_is_told_against_a_bye_stands()
+    ensures { (facts : Facts) (bye : List ℕ) (seat : ℕ) (obstacle : Obstacle)
+        → against_bye facts bye seat ≡ Some obstacle
+        → StandsAgainstBye facts bye seat obstacle }
+{}
+
+/// In the brackets of a round that is paired it is decided on each present player and whom they ask for, and that in the
+/// first of the last brackets of the two: one of them stands in it and in none behind it, and each of them stands in it
+/// or in one behind it. A player who asks for the bye is decided on in their own last bracket.
+#[tactic(auto, using(crate::proofs::DecidedLemmas::is_decided_somewhere, crate::proofs::DecidedLemmas::is_decided_first))]
+pub fn it_is_decided_in_the_first_of_the_last_brackets()
+    ensures somewhere { (facts : Facts) (pairing : Pairing) (stages : List Stage) (player : ℕ) (rival : Rival)
+        → (round facts).pairing ≡ Some pairing → map visit stages ≡ (round facts).reached
+        → player < length facts.seats → IsRival facts rival → is_some (decided_in stages player rival) ≡ true }
+    ensures first { (facts : Facts) (pairing : Pairing) (stages : List Stage) (player : ℕ) (rival : Rival) (stage : Stage)
+        (wish : Wish) → (round facts).pairing ≡ Some pairing → map visit stages ≡ (round facts).reached
+        → player < length facts.seats → IsRival facts rival
+        → decided_in stages player rival ≡ Some (stage, wish) → IsDecidedIn stages player rival stage wish }
+{}
+
+/// Where C.4 is told, a legal candidate grants the wish with as many pairs as the bracket has to make, and no fewer
+/// moved-down players in them; but none of these that can be chosen does.
+#[tactic(auto, using(crate::proofs::ReasonLemmas::none_can_be_chosen))]
+pub fn where_c4_is_told_none_can_be_chosen()
+    ensures { (facts : Facts) (stage : Stage) (wish : Wish) (limit : ℕ) → IsStage facts stage
+        → IsInstead (above_lower facts stage.reached) stage.shape wish limit NoneEligible
+        → NoneCanBeChosen facts stage wish }
+{}
+
+/// Where B.1 is told, a legal candidate grants the wish with as many pairs as the bracket has to make, and fewer
+/// moved-down players in them; but none with as many of these does.
+#[tactic(auto, using(crate::proofs::ReasonLemmas::none_with_as_many_moved_down))]
+pub fn where_b1_is_told_fewer_moved_down_would_be_paired()
+    ensures { (facts : Facts) (stage : Stage) (wish : Wish) (limit : ℕ) → IsStage facts stage
+        → IsInstead (above_lower facts stage.reached) stage.shape wish limit FewerMovedDown
+        → NoneWithAsManyMovedDown facts stage wish }
+{}
+
+/// Where C.5 is told, no legal candidate grants the wish with as many pairs as the bracket has to make, whatever
+/// moved-down players are in them.
+#[tactic(auto, using(crate::proofs::ReasonLemmas::none_with_as_many_pairs))]
+pub fn where_c5_is_told_none_has_as_many_pairs()
+    ensures { (facts : Facts) (stage : Stage) (wish : Wish) (limit : ℕ) → IsStage facts stage
+        → IsInstead (above_lower facts stage.reached) stage.shape wish limit NoneLegal
+        → NoneWithAsManyPairs facts stage wish }
+{}

@@ -1,6 +1,0 @@
--- The law is the lemma.
-use Rattle.explained.proofs.ReasonLemmas.{none_can_be_chosen}
-use Rattle.explained.proofs.laws.where_c4_is_told_none_can_be_chosen.Goals as goal
-
-pub returns : goal.returns
-returns c = none_can_be_chosen
