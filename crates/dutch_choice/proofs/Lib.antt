@@ -1,14 +1,9 @@
-pub mod PassesTwice
 pub mod AimLemmas
 pub mod WishLemmas
 pub mod BestGranting
-pub mod FloorGiven
-pub mod PremiseOfWish
 pub mod AllPaired
 pub mod RuledOutLemmas
 pub mod BestLemmas
 pub mod ChoiceLemmas
 pub mod KeptValues
 pub mod SkippedLemmas
-pub mod FloorOfBeginning
-pub mod BarsBehind
