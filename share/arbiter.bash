@@ -1,6 +1,7 @@
 # Completions of arbiter for bash.
 _arbiter() {
     local word=${COMP_WORDS[COMP_CWORD]} before=${COMP_WORDS[COMP_CWORD - 1]} words= front=
+    local commands="check format pair boards candidates explain standings help"
     COMPREPLY=()
     case $before in
         '<' | '>' | '>>') compopt -o default; return ;;
@@ -10,7 +11,8 @@ _arbiter() {
         --by) words="direct buchholz sb" front=${word%"${word##*,}"} ;;
         *)
             case ${COMP_CWORD},${COMP_WORDS[1]} in
-                1,*) words="check format pair boards candidates explain standings --help --version" ;;
+                1,*) words="$commands --help --version" ;;
+                2,help) words=$commands ;;
                 *,check) words="--notes --bye --help" ;;
                 *,format) words="--round --points --renumber --bye --help" ;;
                 *,pair) words="--round --rounds --initial --steps --report --names --bye --help" ;;

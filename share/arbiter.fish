@@ -7,6 +7,8 @@ complete -c arbiter -n __fish_use_subcommand -a boards -d 'Print the boards of a
 complete -c arbiter -n __fish_use_subcommand -a candidates -d 'List the legal candidates of a bracket'
 complete -c arbiter -n __fish_use_subcommand -a explain -d 'Tell why the next round is paired as it is'
 complete -c arbiter -n __fish_use_subcommand -a standings -d 'Rank the players'
+complete -c arbiter -n __fish_use_subcommand -a help -d 'Print the help of a command'
+complete -c arbiter -n '__fish_seen_subcommand_from help' -a 'check format pair boards candidates explain standings'
 complete -c arbiter -l help -s h -d 'Print help'
 complete -c arbiter -n __fish_use_subcommand -l version -s V -d 'Print the version'
 complete -c arbiter -n '__fish_seen_subcommand_from format pair candidates explain standings' -l round -x -d 'The report as it stood before this round'

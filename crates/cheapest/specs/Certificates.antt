@@ -1,8 +1,8 @@
 -- What is sure of a certificate.
 use Rattle.std.specs.Prelude.{◌≡◌, ℕ, length, All}
-use Rattle.cheapest.specs.declared.certificate.Certificate.{Certificate}
+use Rattle.dual.specs.declared.table.Table.{Table}
 
 -- a certificate has a potential for each vertex, and each of its sets a mark for each
-pub record HasPlaces (size : ℕ) (certificate : Certificate) : Type 0 where
+pub record HasPlaces (size : ℕ) (certificate : Table) : Type 0 where
   pub potentials : length certificate.potentials.items ≡ size
   pub marks : All (λ set. length set.marks.items ≡ size) certificate.sets.items

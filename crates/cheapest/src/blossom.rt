@@ -1,10 +1,10 @@
 // The folding of a blossom: two outer vertices are joined, so that the ways from both to the root close a circle of odd
 // length. All its nodes lie in one blossom from then on, which is outer.
 use crate::forest::{Forest, Mark};
-use wide::Wide;
+use dual::Wide;
 
 // The two pairs of vertices that lead from an outer node up to the next one.
-#[derive(Debug, Clone, Copy)]
+#[derive(Clone, Copy)]
 struct Way {
     // from its base to the partner of that one, in an inner node
     matched: (u16, u16),

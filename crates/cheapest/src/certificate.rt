@@ -6,25 +6,8 @@ ghost use Rattle.cheapest.specs.declared.fault.Fault.TheVariants.{Stopped};
 use crate::fault::Fault;
 use crate::forest::Forest;
 use crate::steps::{rest, sum};
+use dual::{MarkedSet, Table, Wide};
 use std::alloc::{AllocError, Global};
-use wide::Wide;
-
-/// A set of vertices by a mark for each, and the price of each pair inside it.
-#[derive(Debug, Drop)]
-pub struct PricedSet {
-    pub marks: Vec<bool>,
-    pub price: Wide,
-}
-
-/// A potential for each vertex, what a pair and a vertex left over are given on top of their cost, and priced sets. All
-/// numbers are of costs that count twice.
-#[derive(Debug, Drop)]
-pub struct Certificate {
-    pub potentials: Vec<Wide>,
-    pub given: Wide,
-    pub given_left: Wide,
-    pub sets: Vec<PricedSet>,
-}
 
 impl Forest {
     // Whether a vertex is in a blossom.
@@ -54,7 +37,7 @@ impl Forest {
     }
 
     // The blossoms that have a price.
-    fn priced_sets(&self, alloc: Global, size: u16) -> Result<Vec<PricedSet>, AllocError>
+    fn priced_sets(&self, alloc: Global, size: u16) -> Result<Vec<MarkedSet>, AllocError>
         ensures { IfOk result (λ sets. All (λ set. length set.marks.items ≡ size) sets.items) }
     {
         let mut sets = Vec::new(alloc);
@@ -62,7 +45,7 @@ impl Forest {
             let price = self.label(blossom);
             if self.live.at(usize::from(blossom)) && !price.is_zero() {
                 let marks = self.marks_of(alloc, size, blossom)?;
-                sets.push(PricedSet { marks, price })?;
+                sets.push(MarkedSet { marks, price })?;
             }
         }
         Ok(sets)
@@ -94,16 +77,18 @@ impl Forest {
     }
 
     /// The certificate that the labels are. Potentials below 0 are had by giving more.
-    pub(crate) fn certificate(&self, alloc: Global, size: u16) -> Result<Certificate, Fault>
+    pub(crate) fn certificate(&self, alloc: Global, size: u16) -> Result<Table, Fault>
         ensures places { IfOk result (HasPlaces size) }
         ensures going { IfErr result (λ fault. fault ≡ Stopped → ⊥) }
     {
         let given_left = self.most_above();
-        Ok(Certificate {
+        let given = sum(given_left, given_left)?;
+        let sets = self.priced_sets(alloc, size)?;
+        Ok(Table {
             potentials: self.potentials(alloc, size, given_left)?,
-            given: sum(given_left, given_left)?,
+            given,
             given_left,
-            sets: self.priced_sets(alloc, size)?,
+            sets,
         })
     }
 }

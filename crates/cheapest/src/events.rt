@@ -5,10 +5,10 @@ ghost use Rattle.cheapest.specs.declared.fault.Fault.TheVariants.{TooGreat};
 use crate::fault::Fault;
 use crate::forest::{Forest, Mark};
 use crate::steps::{rest, sum};
-use wide::Wide;
+use dual::Wide;
 
 /// What can be done with labels that have come down so far.
-#[derive(Debug, Clone, Copy)]
+#[derive(Clone, Copy)]
 pub(crate) enum Deed {
     /// The pair of an outer vertex and another one can be taken.
     Join(u16, u16),
@@ -19,7 +19,7 @@ pub(crate) enum Deed {
 }
 
 /// A deed, and by how much the labels have to change before it can be done.
-#[derive(Debug, Clone, Copy)]
+#[derive(Clone, Copy)]
 pub(crate) struct Event {
     pub(crate) by: Wide,
     pub(crate) deed: Deed,

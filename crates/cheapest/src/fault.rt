@@ -3,19 +3,15 @@ ghost use Rattle.std.specs.Prelude.{◌≡◌};
 ghost use Rattle.cheapest.specs.declared.fault.Fault.TheVariants.{OutOfMemory};
 
 use std::alloc::{AllocError, AllocFailed};
-use thiserror::Error;
 
 /// Why a search gives nothing.
-#[derive(Debug, Clone, Copy, PartialEq, Eq, Error)]
+#[derive(Debug, Clone, Copy)]
 pub enum Fault {
     /// Memory was refused.
-    #[error("out of memory")]
     OutOfMemory,
     /// No step was left.
-    #[error("no step left")]
     Stopped,
     /// There are more than 32,767 vertices, or a sum of costs does not fit.
-    #[error("too great")]
     TooGreat,
 }
 

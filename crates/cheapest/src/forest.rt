@@ -7,11 +7,11 @@
 // pair's gain is above the labels that count for it, and pairs of the matching have just as much.
 use crate::gains::Gains;
 use crate::places::Places;
+use dual::Wide;
 use std::alloc::{AllocError, Global};
-use wide::Wide;
 
 /// What the search that goes on knows of an outermost node.
-#[derive(Debug, Clone, Copy, PartialEq, Eq)]
+#[derive(Clone, Copy, PartialEq, Eq)]
 pub(crate) enum Mark {
     /// Not reached.
     Free,
@@ -52,33 +52,46 @@ pub(crate) struct Forest {
 }
 
 impl Forest {
-    /// No vertex is paired or reached, and all labels are 0.
-    pub(crate) fn new(
-        alloc: Global,
-        gains: Gains,
-        size: u16,
-        nodes: u16,
-    ) -> Result<Forest, AllocError> {
-        let count = usize::from(nodes);
-        Ok(Forest {
+    /// A forest whose lists have no places yet.
+    pub(crate) fn new(alloc: Global, size: u16, nodes: u16) -> Forest {
+        Forest {
             size,
             nodes,
-            gains,
-            labels: Places::new(alloc, count, Wide::zero())?,
-            partner: Places::new(alloc, count, None)?,
-            base: Places::new(alloc, count, None)?,
-            outer: Places::new(alloc, count, None)?,
-            parent: Places::new(alloc, count, None)?,
-            next: Places::new(alloc, count, None)?,
-            reached: Places::new(alloc, count, None)?,
-            nearest: Places::new(alloc, count, None)?,
-            marks: Places::new(alloc, count, Mark::Free)?,
-            scanned: Places::new(alloc, count, false)?,
-            left_to_others: Places::new(alloc, count, false)?,
-            counts: Places::new(alloc, count, 0)?,
-            live: Places::new(alloc, count, false)?,
-            on_way: Places::new(alloc, count, false)?,
-        })
+            gains: Gains::new(alloc, size),
+            labels: Places::new(alloc, Wide::zero()),
+            partner: Places::new(alloc, None),
+            base: Places::new(alloc, None),
+            outer: Places::new(alloc, None),
+            parent: Places::new(alloc, None),
+            next: Places::new(alloc, None),
+            reached: Places::new(alloc, None),
+            nearest: Places::new(alloc, None),
+            marks: Places::new(alloc, Mark::Free),
+            scanned: Places::new(alloc, false),
+            left_to_others: Places::new(alloc, false),
+            counts: Places::new(alloc, 0),
+            live: Places::new(alloc, false),
+            on_way: Places::new(alloc, false),
+        }
+    }
+
+    /// Makes the places of all nodes: no vertex is paired or reached, and all labels are 0.
+    pub(crate) fn make_places(&mut self) -> Result<(), AllocError> {
+        let count = usize::from(self.nodes);
+        self.labels.grow(count)?;
+        self.partner.grow(count)?;
+        self.base.grow(count)?;
+        self.outer.grow(count)?;
+        self.parent.grow(count)?;
+        self.next.grow(count)?;
+        self.reached.grow(count)?;
+        self.nearest.grow(count)?;
+        self.marks.grow(count)?;
+        self.scanned.grow(count)?;
+        self.left_to_others.grow(count)?;
+        self.counts.grow(count)?;
+        self.live.grow(count)?;
+        self.on_way.grow(count)
     }
 
     /// The outermost node that a vertex is in.

@@ -3,20 +3,44 @@ ghost use Rattle.std.specs.Prelude.{◌≡◌, ◌≤◌, IfOk};
 ghost use Rattle.matching.specs.Matchings.{IsMatching};
 ghost use Rattle.cheapest.specs.Certificates.{HasPlaces};
 
-use crate::certificate::Certificate;
 use crate::fault::Fault;
 use crate::forest::Forest;
-use crate::gains::Gains;
 use crate::graph::Costs;
 use crate::pairs::partners;
+use dual::Table;
 use std::alloc::Global;
 
 /// A matching, and a certificate that is meant to show that none is cheaper.
-#[derive(Debug, Drop)]
+#[derive(Drop)]
 pub struct Found {
     /// The partner of each vertex, if it has one.
     pub partners: Vec<Option<u16>>,
-    pub certificate: Certificate,
+    /// A potential for each vertex, what a pair and a vertex left over are given on top of their cost, and priced sets:
+    /// all of costs that count twice.
+    pub certificate: Table,
+}
+
+impl Forest {
+    // Searches, and hands out what is found. The forest is only lent, so that no way out has all its lists to drop.
+    fn find<C: Costs>(&mut self, alloc: Global, costs: &C, left: &mut u64) -> Result<Found, Fault>
+        ensures matching { IfOk result
+            (λ found. IsMatching (C.vertices costs.now) (C.joined costs.now) found.partners.items) }
+        ensures places { IfOk result (λ found. HasPlaces (C.vertices costs.now) found.certificate) }
+        ensures falls { left.new ≤ left.old }
+        ensures stopped { result ≡ Err Fault.Stopped → left.new ≡ 0 }
+    {
+        self.make_places()?;
+        self.gains.weigh_all(costs, left)?;
+        self.begin(left)?;
+        self.settle_all(left)?;
+        let certificate = self.certificate(alloc, costs.size())?;
+        self.unfold_all();
+        let partners = partners(alloc, costs, self)?;
+        Ok(Found {
+            partners,
+            certificate,
+        })
+    }
 }
 
 /// Finds a matching of a graph with costs, with a certificate. Each vertex that is asked about takes one of the steps
@@ -30,14 +54,6 @@ pub fn cheapest<C: Costs>(alloc: Global, costs: &C, left: &mut u64) -> Result<Fo
 {
     let size = costs.size();
     let nodes = size.checked_mul(2).ok_or(Fault::TooGreat)?;
-    let gains = Gains::new(alloc, costs, left)?;
-    let mut forest = Forest::new(alloc, gains, size, nodes)?;
-    forest.begin(left)?;
-    forest.settle_all(left)?;
-    let certificate = forest.certificate(alloc, size)?;
-    forest.unfold_all();
-    Ok(Found {
-        partners: partners(alloc, costs, &forest)?,
-        certificate,
-    })
+    let mut forest = Forest::new(alloc, size, nodes);
+    forest.find(alloc, costs, left)
 }

@@ -7,8 +7,8 @@ use crate::fault::Fault;
 use crate::graph::Costs;
 use crate::places::Places;
 use crate::steps::{rest, sum, take_step};
-use std::alloc::{AllocError, Global};
-use wide::Wide;
+use dual::Wide;
+use std::alloc::Global;
 
 /// What each pair gains; 0 for two that are not joined.
 #[derive(Drop)]
@@ -58,21 +58,28 @@ fn more_than_any<C: Costs>(costs: &C) -> Result<Wide, Fault>
 }
 
 impl Gains {
-    /// The gains of all pairs, with a step for each pair that is asked about.
-    pub(crate) fn new<C: Costs>(alloc: Global, costs: &C, left: &mut u64) -> Result<Gains, Fault>
+    /// No gains yet, of so many vertices.
+    pub(crate) fn new(alloc: Global, size: u16) -> Gains {
+        Gains {
+            size,
+            gains: Places::new(alloc, Wide::zero()),
+            left: Places::new(alloc, Wide::zero()),
+        }
+    }
+
+    /// Finds the gains of all pairs, with a step for each pair that is asked about.
+    pub(crate) fn weigh_all<C: Costs>(&mut self, costs: &C, left: &mut u64) -> Result<(), Fault>
         ensures falls { left.new ≤ left.old }
         ensures stopped { IfErr result (λ fault. fault ≡ Stopped → left.new ≡ 0) }
     {
-        let size = costs.size();
-        let count = usize::from(size);
-        let mut gains = Gains {
-            size,
-            gains: Places::new(alloc, count * count, Wide::zero())?,
-            left: Places::new(alloc, count, Wide::zero())?,
-        };
-        gains.weigh_left_over(costs)?;
-        gains.weigh_pairs(costs, left)?;
-        Ok(gains)
+        let count = usize::from(costs.size());
+        self.left.grow(count)?;
+        self.gains.grow(count * count)?;
+        self.weigh_left_over(costs)?;
+        for a in 0..costs.size() {
+            self.weigh(costs, a, left)?;
+        }
+        Ok(())
     }
 
     // Where the gain of a pair stands.
@@ -96,16 +103,6 @@ impl Gains {
         for v in 0..costs.size() {
             let cost = costs.left_cost(v).unwrap_or(most);
             self.left.put(usize::from(v), sum(cost, cost)?);
-        }
-        Ok(())
-    }
-
-    fn weigh_pairs<C: Costs>(&mut self, costs: &C, left: &mut u64) -> Result<(), Fault>
-        ensures falls { left.new ≤ left.old }
-        ensures stopped { IfErr result (λ fault. fault ≡ Stopped → left.new ≡ 0) }
-    {
-        for a in 0..costs.size() {
-            self.weigh(costs, a, left)?;
         }
         Ok(())
     }

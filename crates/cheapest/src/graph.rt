@@ -1,7 +1,7 @@
 // What is matched: vertices, which of them are joined, and what that costs.
 ghost use Rattle.std.specs.Prelude.{◌≡◌, ◌<◌, ℕ, Bool, is_some};
 
-use wide::Wide;
+use dual::Wide;
 
 /// Vertices from 0 on. Some of them are joined, at a cost, and each that is left over costs something too.
 pub trait Costs {

@@ -31,7 +31,6 @@ mod search;
 mod start;
 mod steps;
 
-pub use certificate::{Certificate, PricedSet};
 pub use fault::Fault;
 pub use found::{Found, cheapest};
 pub use graph::Costs;

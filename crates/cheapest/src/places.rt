@@ -9,13 +9,21 @@ pub(crate) struct Places<T: Copy + Drop> {
 }
 
 impl<T: Copy + Drop> Places<T> {
-    /// So many places, all blank.
-    pub(crate) fn new(alloc: Global, size: usize, blank: T) -> Result<Places<T>, AllocError> {
-        let mut items = Vec::with_capacity(alloc, size)?;
-        for _ in 0..size {
-            items.push(blank)?;
+    /// No place yet: all there is, is blank.
+    pub(crate) fn new(alloc: Global, blank: T) -> Places<T> {
+        Places {
+            items: Vec::new(alloc),
+            blank,
         }
-        Ok(Places { items, blank })
+    }
+
+    /// Makes so many places more, all blank.
+    pub(crate) fn grow(&mut self, count: usize) -> Result<(), AllocError> {
+        self.items.reserve_exact(count)?;
+        for _ in 0..count {
+            self.items.push(self.blank)?;
+        }
+        Ok(())
     }
 
     /// The value at a place.

@@ -6,7 +6,7 @@ ghost use Rattle.cheapest.specs.declared.fault.Fault.TheVariants.{Stopped, TooGr
 use crate::fault::Fault;
 use crate::forest::{Forest, Mark};
 use crate::steps::{rest, sum, take_step};
-use wide::Wide;
+use dual::Wide;
 
 impl Forest {
     /// What the labels of two vertices that are in no common blossom have beyond the gain of the pair.

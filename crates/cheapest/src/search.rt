@@ -85,21 +85,17 @@ impl Forest {
         Ok(self.act(event.deed))
     }
 
-    // Forgets the tree of the last search.
-    fn forget_tree(&mut self) {
+    // Searches from a vertex that is alone, and forgets the tree of the search before. Each node is grown, folded and
+    // expanded once at most.
+    fn settle(&mut self, root: u16, left: &mut u64) -> Result<(), Fault>
+        ensures falls { left.new ≤ left.old }
+        ensures stopped { IfErr result (λ fault. fault ≡ Stopped → left.new ≡ 0) }
+    {
         self.marks.clear();
         self.scanned.clear();
         self.left_to_others.clear();
         self.nearest.clear();
         self.reached.clear();
-    }
-
-    // Searches from a vertex that is alone. Each node is grown, folded and expanded once at most.
-    fn settle(&mut self, root: u16, left: &mut u64) -> Result<(), Fault>
-        ensures falls { left.new ≤ left.old }
-        ensures stopped { IfErr result (λ fault. fault ≡ Stopped → left.new ≡ 0) }
-    {
-        self.forget_tree();
         self.mark(self.outer_of(root), Mark::Outer);
         for _ in 0..3 * u32::from(self.nodes) {
             if self.go_on(left)? {

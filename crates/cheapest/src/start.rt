@@ -6,10 +6,10 @@ ghost use Rattle.cheapest.specs.declared.fault.Fault.TheVariants.{Stopped};
 use crate::fault::Fault;
 use crate::forest::Forest;
 use crate::steps::{rest, take_step};
-use wide::Wide;
+use dual::Wide;
 
 // A vertex, and what the labels have beyond the gain of the pair with it.
-#[derive(Debug, Clone, Copy)]
+#[derive(Clone, Copy)]
 struct Neighbour {
     vertex: u16,
     slack: Wide,

@@ -4,7 +4,7 @@ ghost use Rattle.std.specs.Result.{MatchResult};
 ghost use Rattle.cheapest.specs.declared.fault.Fault.TheVariants.{Stopped, TooGreat};
 
 use crate::fault::Fault;
-use wide::Wide;
+use dual::Wide;
 
 /// Takes a step, if one is left.
 pub(crate) fn take_step(left: &mut u64) -> Result<(), Fault>

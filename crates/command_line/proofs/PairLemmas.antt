@@ -5,7 +5,7 @@ use Rattle.std.specs.List.{IsDistinct}
 use Rattle.std.specs.Option.{ok_or}
 use Rattle.trf16.specs.Prelude.{CanBePaired, Entry, HasOwnStarts, Sheet, before_round, entry_back, rounds_played, starts_of, taken_back, verdict}
 use Rattle.trf16.specs.declared.fault.Fault.{Fault}
-use Rattle.trf16.proofs.StartRanks.{own_starts}
+use Rattle.trf16_writer.proofs.StartRanks.{own_starts}
 use Rattle.replies.specs.Prelude.{seen_before}
 use Rattle.replies.specs.declared.views.Unseen.TheVariants.{NotReached}
 use Rattle.trf16.specs.declared.cell.Colour.{Colour}

@@ -20,6 +20,7 @@ use replies::{Reply, Status, wall};
 use requests::{PairOptions, Shown};
 use std::alloc::{AllocError, Global};
 use trf16::Report;
+use trf16_writer::with_round;
 
 /// What `pair` says of the bytes of a report in which the pairing-allocated bye gives `bye` half points.
 pub fn pair(
@@ -117,7 +118,7 @@ fn tell_report(alloc: Global, report: &Report<'_>, boards: &[Board]) -> Result<R
     requires { CanBePaired boards.now report.now }
     ensures { IfOk result (λ reply. TellsReport report.now boards.now (answer_of reply)) }
 {
-    let paired = report.with_round(alloc, boards)?;
+    let paired = with_round(alloc, report, boards)?;
     rewritten(alloc, &paired)
 }
 

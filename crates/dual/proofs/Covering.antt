@@ -1,8 +1,8 @@
--- Pairs that cover players, and those whom they leave out, are a matching.
+-- Pairs that cover players, and those whom they leave out, make up the players, and the two of each pair may meet.
 use Rattle.std.proofs.Common.{◌≡◌, ℕ, ◌+◌, Bool, true, List, [], ◌∷◌, ◌++◌, All, sum_by, ap, arith}
 use Rattle.std.proofs.lemmas.List.Elements.{All-nil, All-cons}
 use Rattle.std.proofs.lemmas.List.Sums.{sum_by-cons, sum_by-append}
-use Rattle.dual.specs.Prelude.{Costs, in_both, IsMatching, Covers}
+use Rattle.dual.specs.Prelude.{in_both, Covers}
 
 module _ (meets : ℕ → ℕ → Bool) where
   pub covers_whole : (w : ℕ → ℕ) (players : List ℕ) (pairs : List (ℕ × ℕ)) (out : List ℕ) → Covers meets players pairs out
@@ -28,12 +28,3 @@ module _ (meets : ℕ → ℕ → Bool) where
   covers_meet players [] out e = All-nil (λ pair. meets pair.0 pair.1 ≡ true)
   covers_meet players (pair ∷ pairs) out c =
       All-cons (λ pair. meets pair.0 pair.1 ≡ true) pair pairs c.may_meet (covers_meet (c.between ++ c.behind) pairs c.later c.covered)
-
-pub covering_is_matching : (costs : Costs) (players : List ℕ) (pairs : List (ℕ × ℕ)) (out : List ℕ) → Covers costs.meets players pairs out
-    → All (λ v. costs.may_be_left v ≡ true) out → IsMatching costs players pairs out
-covering_is_matching costs players pairs out covers may =
-    record {
-      whole = λ w. covers_whole costs.meets w players pairs out covers;
-      may_meet = covers_meet costs.meets players pairs out covers;
-      may_be_left = may;
-    }

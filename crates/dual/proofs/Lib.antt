@@ -1,7 +1,8 @@
+pub mod Powers
+pub mod Products
 pub mod Sums
 pub mod WeakDuality
 pub mod Covering
 pub mod Barriers
 pub mod Witnesses
-pub mod TableLemmas
 pub mod FloorLemmas

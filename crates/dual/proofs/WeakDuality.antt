@@ -2,8 +2,8 @@
 use Rattle.std.proofs.Common.{◌≡◌, ℕ, ◌+◌, ◌*◌, ◌<◌, ◌≤◌, true, false, ◌&&◌, cond, List, [], ◌∷◌, All, length, sum_by, arith}
 use Rattle.std.proofs.lemmas.List.Elements.{All-head, All-tail}
 use Rattle.std.proofs.lemmas.List.Sums.{sum_by-cons, sum_by-le-sum_by}
-use Rattle.std.proofs.Math.Nat.{mul-add, mul-le-mul_left}
-use Rattle.dual.specs.Prelude.{Costs, in_both, IsMatching, IsPartOf, cost, beside_times, Priced, Certificate, toll, Bears, BearsLeft, IsFeasible, slack, slack_left, most_inside, gains, losses}
+use Rattle.std.proofs.Math.Nat.{mul-le-mul_left}
+use Rattle.dual.specs.Prelude.{Costs, in_both, IsMatching, IsPartOf, cost, Priced, Certificate, toll, Bears, BearsLeft, IsFeasible, slack, slack_left, most_inside, gains, losses}
 use Rattle.dual.proofs.Sums.{sum_plus, sum_none, sum_times, sum_of_ones, sum_of_twos, one, one_itself, of_member}
 
 -- ---- a set
@@ -126,7 +126,7 @@ pub counted : (costs : Costs) (players : List ℕ) (pairs : List (ℕ × ℕ)) (
     → 2 * length pairs + length left ≡ length players
 counted costs players pairs left matching = omega (arith, matching.whole (λ v. 1), sum_of_twos pairs, sum_of_ones left, sum_of_ones players)
 
--- ---- the laws
+-- ---- the bound on a matching
 
 pub bounded : (costs : Costs) (players : List ℕ) (certificate : Certificate) (pairs : List (ℕ × ℕ)) (left : List ℕ)
     → IsFeasible costs players certificate → IsMatching costs players pairs left
@@ -144,17 +144,4 @@ bounded_beside costs players certificate pairs left feasible matching known know
       with_slacks costs players certificate feasible pairs left matching,
       part.whole (slack costs certificate),
       part_left.whole (slack_left costs certificate),
-    )
-
--- costs beside others are added
-pub added : (costs : Costs) (factor : ℕ) (more : Costs) (pairs : List (ℕ × ℕ)) (left : List ℕ)
-    → cost (beside_times costs factor more) pairs left ≡ cost costs pairs left + factor * cost more pairs left
-added costs factor more pairs left =
-    omega (
-      arith,
-      sum_plus (λ pair. costs.weight pair.0 pair.1) (λ pair. factor * more.weight pair.0 pair.1) pairs,
-      sum_times factor (λ pair. more.weight pair.0 pair.1) pairs,
-      sum_plus costs.left_cost (λ v. factor * more.left_cost v) left,
-      sum_times factor more.left_cost left,
-      mul-add factor (sum_by (λ pair. more.weight pair.0 pair.1) pairs) (sum_by more.left_cost left),
     )

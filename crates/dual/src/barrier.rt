@@ -64,16 +64,10 @@ fn suits_all<R: Rule>(labels: &[u16], rule: &R, a: u16, players: &[u16]) -> bool
     players.iter().all(|b| suits(labels, rule, a, *b))
 }
 
-fn is_labelled(labels: &[u16], most: u16, a: u16) -> bool
-    ensures { IsTrue result ↔ (slice_index labels.now a ≤ most) }
-{
-    label(labels, a) <= most
-}
-
 fn are_labelled(labels: &[u16], most: u16, players: &[u16]) -> bool
     ensures { IsTrue result ↔ All (λ v. slice_index labels.now v ≤ most) players.now }
 {
-    players.iter().all(|a| is_labelled(labels, most, *a))
+    players.iter().all(|v| label(labels, *v) <= most)
 }
 
 fn are_apart<R: Rule>(labels: &[u16], rule: &R, players: &[u16]) -> bool

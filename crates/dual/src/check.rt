@@ -11,8 +11,8 @@ ghost use Rattle.dual.specs.Tables.{toll_of, certificate_in};
 use crate::floor::Floor;
 use crate::rule::{Pool, Rule};
 use crate::table::{MOST, MarkedSet, Table};
+use crate::wide::Wide;
 use std::alloc::{AllocError, Global};
-use wide::Wide;
 
 // The row of a player: where it begins, and the sets that have the player.
 #[derive(Drop)]

@@ -3,12 +3,12 @@
 ghost use Rattle.std.specs.Prelude.{◌≡◌, [], slice_index_or};
 ghost use Rattle.dual.specs.Floors.{extra_in, extra_left_in};
 
+use crate::wide::Wide;
 use std::marker::Model;
-use wide::Wide;
 
 /// What every matching costs at least, beside what is owed, and what each pair and each player left over adds that is
 /// known of it: the base and all that is known come to no more than the debt and what the matching costs.
-#[derive(Debug, Drop)]
+#[derive(Drop)]
 pub struct Floor {
     pub(crate) base: Wide,
     pub(crate) debt: Wide,

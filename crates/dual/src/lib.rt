@@ -13,20 +13,22 @@
 //! each pair. A check takes time with the square of the number of players, for a certificate times the number of its
 //! sets.
 //!
-//! To mind: certificates are natural numbers below 2^512. Potentials below 0, and a multiplier of the number left over,
-//! are had by giving more.
+//! To mind: certificates and costs are counted in `Wide`, natural numbers below 2^512; a sum that does not fit is none.
+//! Potentials below 0, and a multiplier of the number left over, are had by giving more.
 #![tactic(auto)]
 
 mod barrier;
 mod check;
 mod floor;
-pub mod laws;
+mod half;
 mod rule;
 mod table;
+mod wide;
 mod witness;
 
 pub use barrier::{least_left, tells_incompletable};
 pub use floor::Floor;
 pub use rule::{Pool, Rule};
 pub use table::{MOST, MarkedSet, Table};
+pub use wide::Wide;
 pub use witness::tells_completable;

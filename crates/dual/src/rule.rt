@@ -2,7 +2,7 @@
 ghost use Rattle.std.specs.Prelude.{◌≡◌, ℕ};
 ghost use Rattle.dual.specs.Matchings.{Costs};
 
-use wide::Wide;
+use crate::wide::Wide;
 
 /// Who may meet and who may be left over, and at what cost. Who may meet is answered for all numbers, costs for known
 /// ones alone.

@@ -3,20 +3,20 @@ ghost use Rattle.std.specs.Prelude.{◌≡◌, ◌+◌, ◌*◌, ◌^◌, ◌<�
 ghost use Rattle.dual.specs.Duals.{most_inside, gains, losses, pairs_of};
 ghost use Rattle.dual.specs.Tables.{has_mark, toll_of, potential_in, certificate_in, most_toll, most_tolls};
 
-use wide::Wide;
+use crate::wide::Wide;
 
 /// Of more players than so many no floor is made.
 pub const MOST: usize = 65536;
 
 /// A set of players by a mark for each, and the price of each pair inside it.
-#[derive(Debug, Drop)]
+#[derive(Drop)]
 pub struct MarkedSet {
     pub marks: Vec<bool>,
     pub price: Wide,
 }
 
 /// A potential for each player, what a pair and a player left over are given on top of their cost, and priced sets.
-#[derive(Debug, Drop)]
+#[derive(Drop)]
 pub struct Table {
     pub potentials: Vec<Wide>,
     pub given: Wide,

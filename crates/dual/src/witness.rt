@@ -12,23 +12,13 @@ fn times(players: &[u16], v: u16) -> usize
     players.iter().filter(|u| **u == v).count()
 }
 
-fn times_first(pairs: &[(u16, u16)], v: u16) -> usize
-    ensures { result ≡ count_by (λ pair. pair.0 == v) pairs.now }
-{
-    pairs.iter().filter(|pair| pair.0 == v).count()
-}
-
-fn times_second(pairs: &[(u16, u16)], v: u16) -> usize
-    ensures { result ≡ count_by (λ pair. pair.1 == v) pairs.now }
-{
-    pairs.iter().filter(|pair| pair.1 == v).count()
-}
-
 // How often a player stands in some pairs and among those left over.
 fn times_named(pairs: &[(u16, u16)], left: &[u16], v: u16) -> usize
     ensures { result ≡ times_named v pairs.now left.now }
 {
-    times_first(pairs, v) + times_second(pairs, v) + times(left, v)
+    let first = pairs.iter().filter(|pair| pair.0 == v).count();
+    let second = pairs.iter().filter(|pair| pair.1 == v).count();
+    first + second + times(left, v)
 }
 
 // Whether two for each pair and those left over are as many as there are players.

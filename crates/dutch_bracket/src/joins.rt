@@ -8,11 +8,10 @@ ghost use Rattle.dutch_bracket.specs.Joins.{AreAtMost, go_together, may_pair, ta
 ghost use Rattle.dutch_bracket.specs.Joins.{joins_of_moved_down};
 
 use crate::reached::ByNumber;
-use dual::least_left;
+use dual::{Wide, least_left};
 use dutch_order::{Rule, numbered_from};
 use matching::{Found, Graph};
 use std::marker::Model;
-use wide::Wide;
 
 /// The players of a bracket, joined if a pair of an arrangement may have both.
 #[derive(Drop)]

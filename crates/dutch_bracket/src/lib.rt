@@ -22,7 +22,6 @@ pub mod greatest;
 pub mod group;
 pub mod item;
 mod joins;
-pub mod laws;
 pub mod lookahead;
 pub mod matched;
 pub mod meetings;

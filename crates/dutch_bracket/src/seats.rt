@@ -2,10 +2,10 @@
 ghost use Rattle.std.specs.Prelude.{◌≡◌};
 ghost use Rattle.dutch_bracket.specs.Seats.{is_seat, seats_meet, seats_may_be_left};
 
+use dual::Wide;
 use dutch_order::Rule;
 use dutch_player::Field;
 use std::marker::Model;
-use wide::Wide;
 
 /// The players of a field by seat: who may meet whom, and who may have the bye. It says false for a number that is no
 /// seat, and for two equal ones.

@@ -21,12 +21,12 @@ ghost use Rattle.dutch_choice.specs.declared.wish.Wish.TheVariants.{LeftOver};
 use crate::bars::Skipper;
 use crate::pass::{Pass, is_idle};
 use crate::wish::Wish;
+use dual::Wide;
 use dutch_bracket::context::Context;
 use dutch_bracket::quality::{Quality, Room};
 use dutch_bracket::shaped::ShapedBracket;
 use dutch_floors::premise::Premise;
 use dutch_order::{Bound, Exchange, Prefix};
-use wide::Wide;
 
 /// Fills a quality that no candidate with a beginning is better than. No says that none is known.
 fn fill_floor(pass: &Pass<'_>, prefix: &Prefix<'_>, room: &mut Room) -> bool

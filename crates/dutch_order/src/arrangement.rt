@@ -8,7 +8,7 @@ use arrayvec::ArrayVec;
 use std::marker::Model;
 
 /// An arrangement, legal or not (C.04.3 B.2). Players are named by their numbers in the bracket.
-#[derive(Debug, Drop)]
+#[derive(Drop)]
 pub struct Arrangement {
     pub s1: Numbers,
     pub s2: Numbers,

@@ -10,7 +10,7 @@ use arrayvec::ArrayVec;
 use std::marker::Model;
 
 /// How many pairs an arrangement makes, and how many moved-down players are in them (C.04.3 C.5, B.1).
-#[derive(Debug, Clone, Copy, PartialEq, Eq)]
+#[derive(Clone, Copy, PartialEq, Eq)]
 pub struct Shape {
     /// All pairs.
     pub pairs: usize,
@@ -20,7 +20,7 @@ pub struct Shape {
 
 /// A bracket (C.04.3 A.3): its players by rank, the moved-down players before the residents. A player's number in the
 /// bracket is their place, from 1.
-#[derive(Debug, Drop)]
+#[derive(Drop)]
 pub struct Bracket {
     // in half points, by number
     scores: Numbers,

@@ -9,7 +9,7 @@ use std::marker::Model;
 
 /// A legal arrangement of a bracket (C.04.3 B.2, B.3), and those whom it leaves over. Players are named by their
 /// numbers in the bracket.
-#[derive(Debug, Drop)]
+#[derive(Drop)]
 pub struct Candidate {
     pub(crate) lists: Arrangement,
     pub(crate) down: Numbers,

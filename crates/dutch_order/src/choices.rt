@@ -7,7 +7,6 @@
 ghost use Rattle.std.specs.Prelude.{◌≡◌, ◌+◌, ◌≤◌, ℕ, List, None, [], ◌∷◌, length, option_copied, true};
 ghost use Rattle.std.specs.List.{AllByRecursion};
 ghost use Rattle.std.specs.List.Sorted.{IsStrictlyIncreasing};
-ghost use Rattle.dutch_order.specs.declared.numbers.TheConstants.{LIMIT};
 ghost use Rattle.dutch_order.specs.Arrangements.{Arrangement, arrangements, left_of};
 ghost use Rattle.dutch_order.specs.Keys.{IsIn};
 ghost use Rattle.dutch_order.specs.Levels.{HasS1r, HasS2, HasS2r, Of, if_own, in_bracket, in_s1, in_s1r, in_s2, joined};
@@ -22,7 +21,7 @@ use crate::exchange::Exchanges;
 use crate::generator::Generator;
 use crate::levels::{Arranges, Blocks, Level};
 use crate::limbo::LimboExchanges;
-use crate::numbers::{Numbers, fill, is_same, put_left_of, refill};
+use crate::numbers::{Numbers, is_same, put_left_of, refill};
 use crate::rules::Rule;
 use crate::steps::{Budget, Drawn};
 use crate::transposition::{Meeting, Transpositions};
@@ -50,10 +49,10 @@ struct Others<'a, R: Rule> {
 /// An S1, an S2 and an S1R out of the remainder, from which a level begins.
 #[derive(Drop)]
 struct InS1r<'s> {
-    s1: &'s [u16],
-    s2: &'s [u16],
-    remainder: &'s [u16],
-    s1r: &'s [u16],
+    s1: &'s Numbers,
+    s2: &'s Numbers,
+    remainder: &'s Numbers,
+    s1r: &'s Numbers,
 }
 
 impl<'a, R: Rule> Model for ByS2r<'a, R> {
@@ -87,19 +86,15 @@ impl<'a, R: Rule> ByS2r<'a, R> {
     /// Begins anew.
     #[tactic(auto, unfolding(crate::specs::Levels::in_s1r))]
     fn start(&mut self, from: &InS1r<'_>, own: Option<&'a Cursor>, rule: &'a R)
-        requires few_s1 { length from.now.s1.now ≤ LIMIT }
-        requires few_s2 { length from.now.s2.now ≤ LIMIT }
-        requires few_s1r { length from.now.s1r.now ≤ LIMIT }
-        requires few { length from.now.remainder.now ≤ LIMIT }
-        requires ascends { IsStrictlyIncreasing from.now.remainder.now }
-        requires same { Of (λ cursor. cursor.s1r ≡ from.now.s1r.now) (option_copied own) }
-        requires given { Of (HasS2r from.now.remainder.now) (option_copied own) }
-        ensures { self.new ≡ in_s1r (R.meets rule.now) from.now.s1.now from.now.s2.now from.now.remainder.now
-            (option_copied own.entry) from.now.s1r.now }
+        requires ascends { IsStrictlyIncreasing from.now.remainder.now.items }
+        requires same { Of (λ cursor. cursor.s1r ≡ from.now.s1r.now.items) (option_copied own) }
+        requires given { Of (HasS2r from.now.remainder.now.items) (option_copied own) }
+        ensures { self.new ≡ in_s1r (R.meets rule.now) from.now.s1.now.items from.now.s2.now.items
+            from.now.remainder.now.items (option_copied own.entry) from.now.s1r.now.items }
     {
-        fill(&mut self.s1, from.s1);
-        fill(&mut self.s2, from.s2);
-        fill(&mut self.s1r, from.s1r);
+        refill(&mut self.s1, from.s1);
+        refill(&mut self.s2, from.s2);
+        refill(&mut self.s1r, from.s1r);
         put_left_of(from.remainder, from.s1r, &mut self.pool);
         self.others.resume = own;
         let meeting = Meeting {
@@ -185,9 +180,9 @@ pub struct ByS1r<'a, R: Rule> {
 #[derive(Drop)]
 struct InS2<'s> {
     k: usize,
-    s1: &'s [u16],
-    residents: &'s [u16],
-    s2: &'s [u16],
+    s1: &'s Numbers,
+    residents: &'s Numbers,
+    s2: &'s Numbers,
 }
 
 impl<'a, R: Rule> Model for ByS1r<'a, R> {
@@ -224,17 +219,15 @@ impl<'a, R: Rule> ByS1r<'a, R> {
     /// Begins anew.
     #[tactic(auto, unfolding(crate::specs::Levels::in_s2))]
     fn start(&mut self, from: &InS2<'_>, own: Option<&'a Cursor>, rule: &'a R)
-        requires few_s1 { length from.now.s1.now ≤ LIMIT }
-        requires few_s2 { length from.now.s2.now ≤ LIMIT }
-        requires few { length from.now.residents.now ≤ LIMIT }
-        requires ascends { IsStrictlyIncreasing from.now.residents.now }
-        requires enough { from.now.k ≤ length (left_of from.now.residents.now from.now.s2.now) }
-        requires given { Of (HasS1r from.now.k (left_of from.now.residents.now from.now.s2.now)) (option_copied own) }
-        ensures { joined self.new ≡ in_s2 (R.meets rule.now) from.now.k from.now.s1.now from.now.residents.now
-            (option_copied own.entry) from.now.s2.now }
+        requires ascends { IsStrictlyIncreasing from.now.residents.now.items }
+        requires enough { from.now.k ≤ length (left_of from.now.residents.now.items from.now.s2.now.items) }
+        requires given { Of (HasS1r from.now.k (left_of from.now.residents.now.items from.now.s2.now.items))
+            (option_copied own) }
+        ensures { joined self.new ≡ in_s2 (R.meets rule.now) from.now.k from.now.s1.now.items
+            from.now.residents.now.items (option_copied own.entry) from.now.s2.now.items }
     {
-        fill(&mut self.s1, from.s1);
-        fill(&mut self.s2, from.s2);
+        refill(&mut self.s1, from.s1);
+        refill(&mut self.s2, from.s2);
         put_left_of(from.residents, from.s2, &mut self.remainder);
         self.rule = rule;
         self.resume = own;
@@ -317,8 +310,8 @@ pub struct ByS2<'a, R: Rule> {
 #[derive(Drop)]
 struct InS1<'s> {
     k: usize,
-    residents: &'s [u16],
-    s1: &'s [u16],
+    residents: &'s Numbers,
+    s1: &'s Numbers,
 }
 
 impl<'a, R: Rule> Model for ByS2<'a, R> {
@@ -358,18 +351,16 @@ impl<'a, R: Rule> ByS2<'a, R> {
     /// Begins anew.
     #[tactic(auto, unfolding(crate::specs::Levels::in_s1))]
     fn start(&mut self, from: &InS1<'_>, own: Option<&'a Cursor>, rule: &'a R)
-        requires few_s1 { length from.now.s1.now ≤ LIMIT }
-        requires few { length from.now.residents.now ≤ LIMIT }
-        requires ascends { IsStrictlyIncreasing from.now.residents.now }
-        requires enough { length from.now.s1.now + from.now.k ≤ length from.now.residents.now }
-        requires same { Of (λ cursor. cursor.s1 ≡ from.now.s1.now) (option_copied own) }
-        requires given { Of (HasS2 from.now.k from.now.residents.now) (option_copied own) }
-        ensures { joined self.new ≡ in_s1 (R.meets rule.now) from.now.k from.now.residents.now
-            (option_copied own.entry) from.now.s1.now }
+        requires ascends { IsStrictlyIncreasing from.now.residents.now.items }
+        requires enough { length from.now.s1.now.items + from.now.k ≤ length from.now.residents.now.items }
+        requires same { Of (λ cursor. cursor.s1 ≡ from.now.s1.now.items) (option_copied own) }
+        requires given { Of (HasS2 from.now.k from.now.residents.now.items) (option_copied own) }
+        ensures { joined self.new ≡ in_s1 (R.meets rule.now) from.now.k from.now.residents.now.items
+            (option_copied own.entry) from.now.s1.now.items }
     {
         self.k = from.k;
-        fill(&mut self.s1, from.s1);
-        fill(&mut self.residents, from.residents);
+        refill(&mut self.s1, from.s1);
+        refill(&mut self.residents, from.residents);
         self.rule = rule;
         self.resume = own;
         let meeting = Meeting {

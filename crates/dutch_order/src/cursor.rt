@@ -21,7 +21,7 @@ use thiserror::Error;
 
 /// A cursor: an arrangement of a bracket, legal or not (C.04.3 B.2), from which the candidates behind it can be asked
 /// for.
-#[derive(Debug, Drop)]
+#[derive(Drop)]
 pub struct Cursor {
     pub(crate) lists: Arrangement,
 }

@@ -50,7 +50,7 @@ use arrayvec::ArrayVec;
 use std::marker::Model;
 
 /// The two sides of an exchange: the numbers of the original set, from the highest, and the others, from the lowest.
-#[derive(Debug, Clone, Copy, PartialEq, Eq)]
+#[derive(Clone, Copy)]
 pub(crate) enum Side {
     Out,
     In,

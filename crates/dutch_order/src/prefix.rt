@@ -5,7 +5,7 @@ ghost use Rattle.dutch_order.specs.declared.prefix.Filling.TheVariants.{S1};
 use std::marker::Model;
 
 /// Which list of an arrangement a beginning is filling (C.04.3 B.6, B.7).
-#[derive(Debug, Clone, Copy, PartialEq, Eq)]
+#[derive(Clone, Copy, PartialEq, Eq)]
 pub enum Filling {
     /// None is chosen yet, not even S1.
     S1,

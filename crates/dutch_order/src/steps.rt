@@ -2,7 +2,7 @@
 ghost use Rattle.std.specs.Prelude.{◌≤◌};
 
 /// Steps that a run of calls may make, and those that it has made.
-#[derive(Debug, Clone, Copy, PartialEq, Eq)]
+#[derive(Clone, Copy)]
 pub struct Budget {
     /// The most steps that may be made.
     pub limit: u64,
@@ -12,7 +12,7 @@ pub struct Budget {
 }
 
 /// The answer of a call that looks for the next of something.
-#[derive(Debug, Clone, Copy, PartialEq, Eq)]
+#[derive(Clone, Copy)]
 pub enum Step<T> {
     /// The next one.
     Found(T),
@@ -23,7 +23,7 @@ pub enum Step<T> {
 }
 
 /// The budget's limit was reached first: with a higher one the same call goes on.
-#[derive(Debug, Clone, Copy)]
+#[derive(Clone, Copy)]
 pub struct Stopped;
 
 /// Yes or no, mostly whether there was a next one, unless the limit was reached first.

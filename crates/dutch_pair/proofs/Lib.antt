@@ -13,12 +13,8 @@ pub mod EverybodyStands
 pub mod NextRound
 pub mod OneBye
 pub mod BoardOrder
-pub mod GroupLaws
 pub mod LowerLemmas
-pub mod StandsAbove
 pub mod FinalBrackets
 pub mod OnePairMore
 pub mod Downfloaters
 pub mod NoDeadEnd
-pub mod DeadEndLaws
-pub mod BarrierLemmas

@@ -2,7 +2,6 @@
 pub mod Round
 pub mod Lower
 pub mod Boards
-pub mod Examples
 pub mod Outcomes
 pub mod Walk
 pub mod Stages

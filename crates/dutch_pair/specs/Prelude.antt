@@ -3,8 +3,6 @@ pub use Rattle.dutch_pair.specs.Round.{Pairing, Round, Visit, brackets, by_choic
 pub use Rattle.dutch_pair.specs.Lower.{above_lower, is_below, lower_of}
 pub use Rattle.dutch_pair.specs.Boards.{AreInOrder, NoneBefore, boards, both_scores, bye_of, higher, ordered, placed, starts}
 unfoldable pub use Rattle.dutch_pair.specs.Boards.{board_of, goes_before, goes_before_by_sum}
-pub use Rattle.dutch_pair.specs.Examples.{all_met, before, five_players, forfeit_winner, idle_winner, leader_above_two, leader_meets, leader_moves_down, leader_quality, pair_given_up, pairs_reached, player, two_leaders}
-unfoldable pub use Rattle.dutch_pair.specs.Examples.{boards_of}
 pub use Rattle.dutch_pair.specs.Outcomes.{AreStages, IsBracketAt, IsOutcome, IsStage, IsStoppedIn, TellsCompletion, TellsCompletionAt, shown, visit, visit_at, visit_of}
 pub use Rattle.dutch_pair.specs.Walk.{AreAbove, AreRanked, Goes}
 pub use Rattle.dutch_pair.specs.Stages.{ArePairs, GoesOn, HasEnded, IsBehind, IsFound, IsHalt, IsSettled, IsUnderWay, StandsAt, Starts, TellsUsed, Walk, bye_at, choice_of, group_kind, in_front, is_again, own_pairs, round_by, round_from, stage_first}

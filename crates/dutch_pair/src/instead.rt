@@ -25,7 +25,7 @@ use dutch_player::Field;
 use std::alloc::Global;
 
 /// What is told of a wish in a bracket.
-#[derive(Debug, Drop)]
+#[derive(Drop)]
 pub enum Instead {
     /// Of the candidates of the bracket's shape that can be chosen and grant it the first that none of them is better
     /// than, and its quality.

@@ -18,7 +18,7 @@ use dutch_player::Field;
 use std::alloc::Global;
 
 /// The outcome of pairing a round.
-#[derive(Debug, Drop)]
+#[derive(Drop)]
 pub enum Outcome {
     /// The boards in their order: start ranks of white and of black, 0 for the pairing-allocated bye, which is last.
     Paired(Vec<Board>),
@@ -29,7 +29,7 @@ pub enum Outcome {
 }
 
 /// The bracket of a number, or why there is none.
-#[derive(Debug, Drop)]
+#[derive(Drop)]
 pub enum BracketAt {
     /// The bracket and its shape.
     Bracket { reached: Reached, shape: Shape },
@@ -42,7 +42,7 @@ pub enum BracketAt {
 }
 
 /// The stages of a round, or why there are none.
-#[derive(Debug, Drop)]
+#[derive(Drop)]
 pub enum AllStages {
     /// The brackets that the round reaches, in order, as they are settled, and the seat that has the bye, if one has.
     Paired { stages: Vec<Stage>, bye: Seats },

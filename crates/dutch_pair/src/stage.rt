@@ -18,7 +18,7 @@ use dutch_order::{Budget, Candidate, Shape, Stopped};
 use dutch_player::Field;
 
 /// A bracket that a round reaches, and what is chosen in it.
-#[derive(Debug, Drop)]
+#[derive(Drop)]
 pub struct Stage {
     pub(crate) reached: Reached,
     pub(crate) shape: Shape,

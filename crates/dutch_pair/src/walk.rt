@@ -72,7 +72,7 @@ impl<'a> Model for Walk<'a> {
 }
 
 /// Why a question ends before the walk does.
-#[derive(Debug, Drop)]
+#[derive(Drop)]
 pub(crate) enum Halt {
     /// No pairing meets the absolute criteria.
     NoPairing,

@@ -1,7 +1,7 @@
 // By which rule the colours of two players are decided (C.04.3 E).
 
 /// The first rule of article E that decides who of two players gets which colour.
-#[derive(Debug, Clone, Copy, PartialEq, Eq)]
+#[derive(Clone, Copy, PartialEq)]
 pub enum ColourRule {
     /// E.1: both get what they prefer; a player without a preference is content with either colour.
     BothPreferences,

@@ -1,7 +1,7 @@
 // Floats: who met somebody of another score (C.04.3 A.4).
 
 /// A float of a player in a round.
-#[derive(Debug, Clone, Copy, PartialEq, Eq)]
+#[derive(Clone, Copy, PartialEq)]
 pub enum Float {
     /// The player met an opponent with a higher score.
     Up,

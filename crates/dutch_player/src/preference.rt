@@ -7,7 +7,7 @@ ghost use Rattle.trf16.specs.declared.limits.TheConstants.{MOST_ROUNDS};
 use trf16::Colour;
 
 /// How strong a colour preference is.
-#[derive(Debug, Clone, Copy, PartialEq, Eq)]
+#[derive(Clone, Copy, PartialEq)]
 pub enum Strength {
     /// The player must not get the other colour.
     Absolute,
@@ -18,7 +18,7 @@ pub enum Strength {
 }
 
 /// A colour preference: how strong it is, and the colour that the player is to get.
-#[derive(Debug, Clone, Copy, PartialEq, Eq)]
+#[derive(Clone, Copy, PartialEq)]
 pub struct Pref {
     pub strength: Strength,
     pub colour: Colour,

@@ -14,13 +14,12 @@ use crate::telling::table_of;
 use crate::trail::Stuck;
 use crate::weight_floor::{Bar, WeightFloors};
 use cheapest::{Fault, Found, cheapest};
-use dual::Table;
+use dual::{Table, Wide};
 use dutch_bracket::scope::Scope;
 use dutch_bracket::seated::Pair;
 use dutch_bracket::spending::spend;
 use dutch_order::{Budget, Stopped};
 use std::alloc::{AllocError, Global};
-use wide::Wide;
 
 /// The number of pairs of a beginning is halved so often at most.
 const MOST_HALVINGS: u32 = 16;

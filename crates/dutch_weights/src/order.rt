@@ -9,10 +9,10 @@ ghost use Rattle.dutch_order.specs.declared.numbers.TheConstants.{LIMIT};
 ghost use Rattle.dutch_weights.specs.Orders.{AreAdded, added, kept, lesser, more_of, short_of, with_lesser};
 
 use crate::scale::bits_for;
+use dual::Wide;
 use dutch_order::{Exchange, LIMIT};
 use std::alloc::{AllocError, Global};
 use std::marker::Model;
-use wide::Wide;
 
 /// What each number of a bracket adds where it is in S1R (C.04.3 D.2): so many units for each number, and for each
 /// number something more.

@@ -10,11 +10,10 @@ ghost use Rattle.dutch_weights.specs.ScopedCosts.{IsReached};
 
 use crate::scoped::Scoped;
 use cheapest::Costs;
-use dual::Rule;
+use dual::{Rule, Wide};
 use dutch_bracket::seated::Pair;
 use std::alloc::AllocError;
 use std::marker::Model;
-use wide::Wide;
 
 /// What it costs to be left over, beside half of the weight, and what it costs whoever is in a pair in all
 /// arrangements.

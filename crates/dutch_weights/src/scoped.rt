@@ -21,14 +21,13 @@ ghost use Rattle.dutch_weights.specs.WeightTables.{IsNumber};
 use crate::order::Order;
 use crate::weighing::Weighing;
 use arrayvec::ArrayVec;
-use dual::{Floor, Pool, Rule, Table};
+use dual::{Floor, Pool, Rule, Table, Wide};
 use dutch_bracket::context::Context;
 use dutch_bracket::scope::{Scope, Standing};
 use dutch_bracket::seats::{BySeat, seats};
 use dutch_order::{LIMIT, Numbers, numbered_from};
 use std::alloc::AllocError;
 use std::marker::Model;
-use wide::Wide;
 
 /// Over whom the matchings of a floor go.
 #[derive(Debug, Default, Clone, Copy, PartialEq, Eq)]

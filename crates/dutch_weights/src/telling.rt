@@ -7,10 +7,8 @@
 ghost use Rattle.std.specs.Prelude.{◌<◌};
 
 use crate::rest::Rest;
-use cheapest::{Certificate, PricedSet};
-use dual::{MarkedSet, Table};
+use dual::{MarkedSet, Table, Wide};
 use std::alloc::{AllocError, Global};
-use wide::Wide;
 
 /// The greatest of some potentials.
 fn greatest(potentials: &[Wide]) -> Wide {
@@ -28,7 +26,7 @@ fn marks(
     alloc: Global,
     numbers: &[u16],
     last: usize,
-    set: &PricedSet,
+    set: &MarkedSet,
 ) -> Result<Vec<bool>, AllocError>
     requires { last < 65536 }
 {
@@ -47,7 +45,7 @@ fn sets(
     alloc: Global,
     numbers: &[u16],
     last: usize,
-    sets: &[PricedSet],
+    sets: &[MarkedSet],
 ) -> Result<Vec<MarkedSet>, AllocError>
     requires { last < 65536 }
 {
@@ -66,7 +64,7 @@ fn potentials(
     alloc: Global,
     rest: &Rest<'_, '_>,
     last: usize,
-    certificate: &Certificate,
+    certificate: &Table,
 ) -> Result<Vec<Wide>, AllocError>
     requires { last < 65536 }
 {
@@ -82,12 +80,12 @@ fn potentials(
 }
 
 /// What a pair is given, where each vertex has so much more; none if it does not fit.
-fn given(certificate: &Certificate, more: Wide) -> Option<Wide> {
+fn given(certificate: &Table, more: Wide) -> Option<Wide> {
     certificate.given.plus(more)?.plus(more)
 }
 
 /// The same of one who is left over, who is also given twice what that costs beside half of the weight.
-fn given_left(certificate: &Certificate, more: Wide, alone: Wide) -> Option<Wide> {
+fn given_left(certificate: &Table, more: Wide, alone: Wide) -> Option<Wide> {
     certificate.given_left.plus(more)?.plus(alone)?.plus(alone)
 }
 
@@ -96,7 +94,7 @@ pub(crate) fn table_of(
     alloc: Global,
     rest: &Rest<'_, '_>,
     last: usize,
-    certificate: &Certificate,
+    certificate: &Table,
 ) -> Result<Option<Table>, AllocError>
     requires { last < 65536 }
 {

@@ -13,6 +13,7 @@ ghost use Rattle.dutch_weights.specs.WeightTables.{pair_of, pair_weight, place_i
 ghost use Rattle.dutch_order.specs.declared.numbers.TheConstants.{LIMIT};
 
 use crate::scale::Scale;
+use dual::Wide;
 use dutch_bracket::context::Context;
 use dutch_bracket::quality::{Quality, Room, fill_seated};
 use dutch_bracket::seated::{Pair, Seated, difference_down};
@@ -20,7 +21,6 @@ use dutch_order::Rule;
 use dutch_player::Field;
 use std::alloc::{AllocError, Global};
 use std::marker::Model;
-use wide::Wide;
 
 /// What two numbers weigh as a pair, and whether they may meet. (To look for a game of the two takes long, and each
 /// certificate asks for it many times.)

@@ -18,7 +18,7 @@ use crate::scale::{Extent, Scale};
 use crate::scoped::{Reach, Scoped};
 use crate::trail::Trail;
 use crate::weighing::Weighing;
-use dual::{Floor, Table};
+use dual::{Floor, Table, Wide};
 use dutch_bracket::context::Context;
 use dutch_bracket::fixed_lists::fixed_lists;
 use dutch_bracket::quality::Quality;
@@ -26,7 +26,6 @@ use dutch_bracket::scope::Scope;
 use dutch_order::{Exchange, Filling, LIMIT, Prefix, Shape};
 use std::alloc::AllocError;
 use std::marker::Model;
-use wide::Wide;
 
 /// So many floors are kept. Each is asked at each beginning.
 const KEPT: usize = 4;
@@ -39,7 +38,7 @@ const MOST_REACHED: usize = 400;
 const MOST_BITS: usize = 482;
 
 /// What a quality weighs, and what all with a higher PSD weigh at least.
-#[derive(Clone, Copy, Debug)]
+#[derive(Clone, Copy)]
 pub struct Bar {
     weight: Wide,
     above: Wide,

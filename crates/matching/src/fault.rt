@@ -2,17 +2,14 @@
 ghost use Rattle.std.specs.Prelude.{◌≡◌};
 ghost use Rattle.matching.specs.declared.fault.Fault.TheVariants.{OutOfMemory};
 
-use std::alloc::{AllocError, AllocFailed};
-use thiserror::Error;
+use std::alloc::AllocError;
 
 /// Why a search gives nothing.
-#[derive(Debug, Clone, Copy, PartialEq, Eq, Error)]
+#[derive(Debug, Clone, Copy)]
 pub enum Fault {
     /// Memory was refused.
-    #[error("out of memory")]
     OutOfMemory,
     /// No step was left.
-    #[error("no step left")]
     Stopped,
 }
 
@@ -20,14 +17,6 @@ impl From<AllocError> for Fault {
     ghost from_gives = { λ _ e. e ≡ OutOfMemory };
 
     fn from(_e: AllocError) -> Fault {
-        Fault::OutOfMemory
-    }
-}
-
-impl<T: Drop> From<AllocFailed<T>> for Fault {
-    ghost from_gives = { λ _ e. e ≡ OutOfMemory };
-
-    fn from(_e: AllocFailed<T>) -> Fault {
         Fault::OutOfMemory
     }
 }

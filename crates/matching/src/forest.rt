@@ -13,7 +13,7 @@ use crate::links::Links;
 use std::alloc::{AllocError, Global};
 
 /// What the searches know of a vertex.
-#[derive(Debug, Clone, Copy, PartialEq, Eq)]
+#[derive(Clone, Copy, PartialEq, Eq)]
 pub(crate) enum Mark {
     /// Not reached.
     Unseen,

@@ -10,7 +10,7 @@ use crate::pairs::partners;
 use std::alloc::Global;
 
 /// A matching, and labels that are meant to show that it is a greatest one.
-#[derive(Debug, Drop)]
+#[derive(Drop)]
 pub struct Found {
     /// The partner of each vertex, if it has one.
     pub partners: Vec<Option<u16>>,

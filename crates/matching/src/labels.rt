@@ -7,7 +7,7 @@ use crate::forest::{Forest, Mark};
 use std::alloc::{AllocError, Global};
 
 /// A label for each vertex, and the greatest of them.
-#[derive(Debug, Drop)]
+#[derive(Drop)]
 pub(crate) struct Labels {
     pub(crate) labels: Vec<u16>,
     pub(crate) most: u16,

@@ -2,10 +2,10 @@
 ghost use Rattle.std.specs.Prelude.{◌≡◌, IfOk};
 ghost use Rattle.dutch_bracket.specs.Prelude.{IsOf};
 
+use crate::reports::{PlayerLine, field_of};
 use dutch_order::{Budget, Numbers};
 use dutch_pair::{BracketAt, BracketKind, Look, LookAhead, Reached, are_left, bracket_at, is_next};
 use dutch_player::Field;
-use sample_reports::{PlayerLine, field_of};
 use std::alloc::Global;
 use std::test::Fail;
 use trf16::Colour;

@@ -1,7 +1,8 @@
 -- How a line with new start ranks falls into the texts that are put.
 use Rattle.std.proofs.Common.{◌≡◌, ℕ, zero, suc, Bool, false, ◌==◌, List, [], ◌∷◌, ◌++◌, map, Option, Some, None, refl, sym, ap, ◌∙◌, append_assoc}
 use Rattle.std.specs.Prelude.{decimal, option_map}
-use Rattle.trf16.specs.Prelude.{Entry, number_behind, next_text, players_behind, player_text, lines_text}
+use Rattle.trf16.specs.Prelude.{Entry, number_behind, player_text, lines_text}
+use Rattle.trf16_writer.specs.Steps.{next_text, players_behind}
 
 -- a number that is not 0
 pub number_some : (n : ℕ) → (n == 0) ≡ false → number_behind n ≡ 32 ∷ decimal n

@@ -10,7 +10,7 @@ use trf16::{Player, is_word, next_word, number_of, split_columns, without_blanks
 const TITLES: &[u8] = b"GM IM WGM FM WIM CM WFM WCM";
 
 /// What a player's place goes by.
-#[derive(Debug, Clone, Copy)]
+#[derive(Clone, Copy)]
 pub(crate) struct Key {
     /// 0 to 9999.
     pub rating: u16,

@@ -1,7 +1,7 @@
 // The canonical text of a report with new start ranks.
 ghost use Rattle.std.specs.Prelude.{◌≡◌, map, option_map, option_copied, IfOk};
 ghost use Rattle.trf16.specs.Prelude.{entry_of, use_of, Puts, lines_text, written, renumbered, renumbered_line};
-ghost use Rattle.trf16.specs.Prelude.{next_text, players_behind};
+ghost use Rattle.trf16_writer.specs.Steps.{next_text, players_behind};
 ghost use Rattle.renumbering.specs.Tables.{new_in};
 
 use crate::line::put_line;
@@ -9,7 +9,8 @@ use crate::new_starts::NewStarts;
 use crate::player::renumbered_players;
 use std::alloc::{AllocError, Global};
 use std::slice::Iter;
-use trf16::{Counted, Failed, Player, Report, Sink, put_player_line};
+use trf16::{Counted, Failed, Player, Report, Sink};
+use trf16_writer::put_player_line;
 
 // The next line: one that is carried, or that of the next player.
 fn put_next<W: Sink>(

@@ -1,6 +1,7 @@
 -- What the contracts of replies name: texts, answers, how they are written, and what a report is answered without a pairing.
 pub mod Devices
 pub mod Input
+pub mod RefusalTexts
 pub mod Texts
 pub mod Questions
 pub mod Statuses

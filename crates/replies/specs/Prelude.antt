@@ -1,6 +1,7 @@
 -- The words of replies by one name: for its proofs, and for the crates above.
 pub use Rattle.replies.specs.Devices.{IsKept, IsUnread, Reading, reading_of}
 pub use Rattle.replies.specs.Input.{IsRead, ReadsInput, most_read}
+pub use Rattle.replies.specs.RefusalTexts.{excess_text, fault_text, field_text, line_text, memory_text, round_text, tie_text, unread_text}
 pub use Rattle.replies.specs.Texts.{accepted_text, not_of_bracket_text, not_reached_text, question_text, read_text, round_not_reached_text, undecided_text, undecided_words, word_text, write_text}
 unfoldable pub use Rattle.replies.specs.Texts.{halves_text}
 pub use Rattle.replies.specs.Questions.{instead_fault, question_fault}

@@ -15,7 +15,7 @@ use Rattle.report_notes.specs.declared.extension.Extension.{Extension}
 use Rattle.report_notes.specs.declared.extension.Extension.TheVariants.{Xxr, Xxc, Xxz, Xxp}
 use Rattle.report_notes.specs.declared.refusal.Columns.{Columns}
 use Rattle.report_notes.specs.declared.refusal.Sums.{Sums}
-use Rattle.refusals.specs.Texts.{fault_text}
+use Rattle.replies.specs.RefusalTexts.{fault_text}
 use Rattle.replies.specs.Controls.{without_controls}
 use Rattle.replies.specs.NoteTexts.{note_text}
 use Rattle.replies.specs.Statuses.{Answer}

@@ -11,7 +11,6 @@ use crate::notes::put_notes;
 use crate::refusal::refused;
 use crate::refusal_notes::refused_with_note;
 use crate::reply::{Reply, Status};
-use crate::texts;
 use requests::CheckOptions;
 use std::alloc::{AllocError, Global};
 use trf16::{Fault, Report};
@@ -56,8 +55,8 @@ fn accepted(
 fn size(alloc: Global, report: &Report<'_>) -> Result<String, AllocError>
     ensures { IfOk result (λ text. string_bytes text ≡ size_text report.now) }
 {
-    let players = report.players().len();
-    texts::accepted(alloc, players, report.rounds_played())
+    let (players, rounds) = (report.players().len(), report.rounds_played());
+    format!(in alloc; "accepted players {players} rounds {rounds}\n")
 }
 
 // A text, and behind it the notes of a report that stands in some bytes.

@@ -13,6 +13,7 @@ use renumbering::{first_unread, renumbered_text};
 use requests::FormatOptions;
 use std::alloc::{AllocError, Global};
 use trf16::{Counted, Failed, Report};
+use trf16_writer::{summed, write};
 
 /// What `format` says of the bytes of a report in which the pairing-allocated bye gives `bye` half points.
 pub fn format(
@@ -70,7 +71,7 @@ fn with_sums(
 fn with_its_sums(alloc: Global, report: &Report<'_>, renumber: bool) -> Result<Reply, AllocError>
     ensures { IfOk result (λ reply. answer_of reply ≡ written_answer renumber (summed report.now)) }
 {
-    answered(alloc, &report.summed(alloc)?, renumber)
+    answered(alloc, &summed(alloc, report)?, renumber)
 }
 
 // A report as it is, or with new start ranks.
@@ -99,7 +100,7 @@ pub fn rewritten(alloc: Global, report: &Report<'_>) -> Result<Reply, AllocError
     ensures { IfOk result (λ reply. answer_of reply ≡ done (written report.now)) }
 {
     let mut text = Counted::new(Vec::new(alloc));
-    match trf16::write(report, &mut text) {
+    match write(report, &mut text) {
         Ok(()) => Ok(Reply::bytes(Status::Done, text.into_inner())),
         Err(Failed) => Err(AllocError),
     }

@@ -11,7 +11,7 @@ use std::fmt;
 use trf16::{Bye, Cell, Colour, GameOutcome, Report};
 
 // What one round holds for a player, shown as opponent, colour and result, with the letters of the report.
-#[derive(Debug, Drop)]
+#[derive(Drop)]
 struct RoundOf(Cell);
 
 impl fmt::Display for RoundOf {

@@ -14,7 +14,7 @@ const MOST_READ: usize = MOST_BYTES + 1;
 const PIECE: usize = 16_384;
 
 /// Why the input could not be read.
-#[derive(Debug, Clone, Copy, PartialEq, Eq)]
+#[derive(Clone, Copy)]
 pub enum InputFault {
     /// The source failed.
     Read,

@@ -2,9 +2,10 @@
 //! three, and by how an answer stands on the standard streams.
 //!
 //! `read_input` reads what a source has, in a counted number of calls. `check::check`, `format::format` and
-//! `standings::standings` answer to the bytes of a report. `refusal` has the answers that several commands have,
-//! `texts` the lines of the program's own, `wall` boards and standings with names, and `shown` a name as it is printed.
-//! `Reply::write` writes a reply where its status says.
+//! `standings::standings` answer to the bytes of a report. `refusal` has the answers that several commands have, whose
+//! lines stand in `refusal_texts`: `refused: `, where it is (the line of the report, or the start rank of a player and
+//! perhaps a round), and what it is. `texts` has the other lines of the program's own, `wall` boards and standings with
+//! names, and `shown` a name as it is printed. `Reply::write` writes a reply where its status says.
 //!
 //! To mind: a text is made whole in memory before a byte of it is written, and if memory is refused, a call says so.
 #![tactic(auto)]
@@ -21,6 +22,7 @@ pub mod points;
 mod question;
 pub mod refusal;
 mod refusal_notes;
+mod refusal_texts;
 mod reply;
 pub mod standings;
 mod table;

@@ -7,7 +7,7 @@ use std::fmt;
 use tiebreak::Key;
 
 /// Half points, shown as points with one decimal.
-#[derive(Debug, Drop)]
+#[derive(Drop)]
 pub struct HalfPoints(pub u32);
 
 impl fmt::Display for HalfPoints {
@@ -25,7 +25,7 @@ impl fmt::Display for HalfPoints {
 }
 
 // Quarters of a point, shown as points with two decimals.
-#[derive(Debug, Drop)]
+#[derive(Drop)]
 struct QuarterPoints(u32);
 
 impl fmt::Display for QuarterPoints {
@@ -51,7 +51,7 @@ fn decimals(quarter: u32) -> &'static str
 }
 
 /// The value of a key that breaks ties, shown as points; as a dash if it tells nothing.
-#[derive(Debug, Drop)]
+#[derive(Drop)]
 pub struct KeyValue {
     pub key: Key,
     pub value: Option<u32>,

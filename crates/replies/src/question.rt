@@ -6,7 +6,7 @@ use requests::Question;
 use trf16::Report;
 
 /// What is wrong with the players whom a question names.
-#[derive(Debug, Clone, Copy, PartialEq, Eq)]
+#[derive(Clone, Copy)]
 pub enum QuestionFault {
     /// No player of the report has this start rank.
     NotKnown { player: u16 },

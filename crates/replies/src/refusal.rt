@@ -8,7 +8,7 @@ ghost use Rattle.replies.specs.Replies.{answer_of};
 
 use crate::question::QuestionFault;
 use crate::reply::{Reply, Status};
-use crate::texts;
+use crate::{refusal_texts, texts};
 use dutch_player::FieldFault;
 use std::alloc::{AllocError, Global};
 use tiebreak::TieFault;
@@ -20,7 +20,7 @@ pub fn refused(alloc: Global, fault: Fault) -> Result<Reply, AllocError>
 {
     match fault {
         Fault::OutOfMemory => Err(AllocError),
-        _ => Ok(Reply::made(Status::Refused, refusals::refused(alloc, fault)?)),
+        _ => Ok(Reply::made(Status::Refused, refusal_texts::refused(alloc, fault)?)),
     }
 }
 
@@ -28,10 +28,8 @@ pub fn refused(alloc: Global, fault: Fault) -> Result<Reply, AllocError>
 pub fn cannot_be_renumbered(alloc: Global, line: usize) -> Result<Reply, AllocError>
     ensures { IfOk result (λ reply. answer_of reply ≡ unread_refusal line) }
 {
-    Ok(Reply::made(
-        Status::Refused,
-        refusals::cannot_be_renumbered(alloc, line)?,
-    ))
+    let text = refusal_texts::of_line(alloc, line, ": unsupported\n")?;
+    Ok(Reply::made(Status::Refused, text))
 }
 
 /// Why the next round cannot be paired from a report, unless memory was refused.
@@ -40,7 +38,10 @@ pub fn cannot_be_paired(alloc: Global, fault: FieldFault) -> Result<Reply, Alloc
 {
     match fault {
         FieldFault::OutOfMemory => Err(AllocError),
-        _ => Ok(Reply::made(Status::Refused, refusals::cannot_be_paired(alloc, fault)?)),
+        _ => Ok(Reply::made(
+            Status::Refused,
+            refusal_texts::cannot_be_paired(alloc, fault)?,
+        )),
     }
 }
 
@@ -50,7 +51,10 @@ pub fn has_no_standings(alloc: Global, fault: TieFault) -> Result<Reply, AllocEr
 {
     match fault {
         TieFault::OutOfMemory => Err(AllocError),
-        _ => Ok(Reply::made(Status::Refused, refusals::has_no_standings(alloc, fault)?)),
+        _ => Ok(Reply::made(
+            Status::Refused,
+            refusal_texts::has_no_standings(alloc, fault)?,
+        )),
     }
 }
 

@@ -7,13 +7,14 @@ ghost use Rattle.replies.specs.RefusalNoteTexts.{found, kind_or, order_text, poi
 ghost use Rattle.replies.specs.RefusalNoteTexts.{unfinished_text, with_note};
 ghost use Rattle.replies.specs.Replies.{answer_of};
 ghost use Rattle.replies.specs.Statuses.{refusal};
-ghost use Rattle.refusals.specs.Texts.{fault_text};
+ghost use Rattle.replies.specs.RefusalTexts.{fault_text};
 
 use crate::cells_note::cells_note;
 use crate::controls::without_controls;
 use crate::extension_note::extension_note;
 use crate::notes::put_note;
 use crate::points::HalfPoints;
+use crate::refusal_texts;
 use crate::reply::{Reply, Status, Text};
 use report_notes::{
     ByteOrder, Columns, Sums, are_lines_read, byte_order, columns_of, first_kind_note,
@@ -33,7 +34,7 @@ pub fn refused_with_note(
     requires worth { bye ≤ 2 }
     ensures { IfOk result (λ reply. answer_of reply ≡ with_note (refusal fault) (refusal_note fault bytes.now bye)) }
 {
-    let text = refusals::refused(alloc, fault)?;
+    let text = refusal_texts::refused(alloc, fault)?;
     let note = refusal_note(alloc, fault, bytes, bye)?;
     Ok(Reply {
         status: Status::Refused,
@@ -148,7 +149,7 @@ fn sums_text(alloc: Global, sums: Sums) -> Result<String, AllocError>
 fn next_refusal(alloc: Global, fault: Fault) -> Result<Vec<u8>, AllocError>
     ensures { IfOk result (λ note. note.items ≡ codes "note then " ++ fault_text fault) }
 {
-    let refusal = refusals::refused(alloc, fault)?;
+    let refusal = refusal_texts::refused(alloc, fault)?;
     let refusal = refusal.as_str();
     Ok(format!(in alloc; "note then {refusal}")?.into_bytes())
 }

@@ -20,7 +20,7 @@ fn say<E: Sink>(err: &mut E, text: &[u8])
 }
 
 /// How a run ended.
-#[derive(Debug, Clone, Copy, PartialEq, Eq)]
+#[derive(Clone, Copy, PartialEq, Eq)]
 pub enum Status {
     /// The command was carried out.
     Done,
@@ -61,7 +61,7 @@ impl Status {
 
 /// A text of the program: one that it has, one that it made, the bytes of a report, or a refusal with a note of what
 /// was found.
-#[derive(Debug, Drop)]
+#[derive(Drop)]
 pub enum Text {
     Fixed(&'static str),
     Made(String),
@@ -93,7 +93,7 @@ impl Text {
 }
 
 /// What a run says: its status, and the text that goes with it.
-#[derive(Debug, Drop)]
+#[derive(Drop)]
 pub struct Reply {
     pub status: Status,
     pub text: Text,

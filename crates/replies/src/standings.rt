@@ -3,7 +3,7 @@ ghost use Rattle.std.specs.Prelude.{◌≡◌, ◌++◌, ◌≤◌, ◌<◌, IfO
 ghost use Rattle.trf16.specs.Prelude.{verdict};
 ghost use Rattle.replies.specs.Replies.{answer_of};
 ghost use Rattle.replies.specs.StandingsAnswers.{rounds_shown, standings_answer, table_answer};
-ghost use Rattle.replies.specs.StandingsTexts.{row_text, rows_text, value_text, values_text};
+ghost use Rattle.replies.specs.StandingsTexts.{row_text, rows_text, values_text};
 ghost use Rattle.replies.specs.Views.{seen_before};
 
 use crate::games::{put_games, rounds_shown};
@@ -109,15 +109,12 @@ fn put_values(
             return Ok(());
         }
         text.push_str(" ")?;
-        let made = value_of(alloc, *key, values[i])?;
+        let value = KeyValue {
+            key: *key,
+            value: values[i],
+        };
+        let made = value.to_string(alloc)?;
         text.push_str(made.as_str())?;
     }
     Ok(())
-}
-
-// The value of a key.
-fn value_of(alloc: Global, key: Key, value: Option<u32>) -> Result<String, AllocError>
-    ensures { IfOk result (λ text. string_bytes text ≡ value_text key value) }
-{
-    KeyValue { key, value }.to_string(alloc)
 }

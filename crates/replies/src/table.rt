@@ -11,14 +11,14 @@ use std::marker::Model;
 use trf16::column_count;
 
 /// The side of its column at which a label stands.
-#[derive(Debug, Clone, Copy, PartialEq, Eq)]
+#[derive(Clone, Copy)]
 pub enum Alignment {
     Left,
     Right,
 }
 
 // A text that stands at a side of its column.
-#[derive(Debug, Drop)]
+#[derive(Drop)]
 pub struct Label {
     side: Alignment,
     text: Vec<u8>,
@@ -59,7 +59,7 @@ impl Label {
 }
 
 /// A line of a table: its labels from the first column on.
-#[derive(Debug, Drop)]
+#[derive(Drop)]
 pub struct TableLine {
     labels: Vec<Label>,
 }

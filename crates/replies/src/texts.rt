@@ -1,20 +1,12 @@
 // The texts of the program, apart from clap's and from why a report is refused.
 ghost use Rattle.std.specs.Prelude.{◌≡◌, ◌++◌, IfOk, codes, string_bytes};
 ghost use Rattle.std.specs.Fmt.{decimal};
-ghost use Rattle.replies.specs.Texts.{accepted_text, halves_text, not_of_bracket_text, not_reached_text};
+ghost use Rattle.replies.specs.Texts.{not_of_bracket_text, not_reached_text};
 ghost use Rattle.replies.specs.Texts.{question_text, round_not_reached_text, undecided_text, undecided_words, word_text};
 
-use crate::points::HalfPoints;
 use crate::question::QuestionFault;
 use requests::WordFault;
 use std::alloc::{AllocError, Global};
-
-/// A report is accepted: how many players it has, and how many rounds were paired.
-pub fn accepted(alloc: Global, players: usize, rounds: u8) -> Result<String, AllocError>
-    ensures { IfOk result (λ text. string_bytes text ≡ accepted_text players rounds) }
-{
-    format!(in alloc; "accepted players {players} rounds {rounds}\n")
-}
 
 /// What is wrong with words that clap lets pass.
 pub fn bad_words(fault: WordFault) -> &'static str
@@ -76,11 +68,4 @@ pub fn not_of_bracket(alloc: Global, number: u16) -> Result<String, AllocError>
     ensures { IfOk result (λ text. string_bytes text ≡ not_of_bracket_text number) }
 {
     format!(in alloc; "words: cursor is not of bracket {number}\n")
-}
-
-/// Half points as points with one decimal.
-pub fn halves(alloc: Global, halves: u32) -> Result<String, AllocError>
-    ensures { IfOk result (λ text. string_bytes text ≡ halves_text halves) }
-{
-    HalfPoints(halves).to_string(alloc)
 }

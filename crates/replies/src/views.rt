@@ -8,6 +8,7 @@ use crate::refusal::{refused, round_not_reached};
 use crate::reply::Reply;
 use std::alloc::{AllocError, Global};
 use trf16::{Fault, Report};
+use trf16_writer::before_round;
 
 /// Why there is no report to answer on.
 #[derive(Drop)]
@@ -73,7 +74,7 @@ fn seen_before<'a>(
     let Some(round) = round else {
         return Ok(Ok(report));
     };
-    match report.before_round(alloc, round)? {
+    match before_round(alloc, &report, round)? {
         Some(view) => Ok(Ok(view)),
         None => Ok(Err(Unseen::NotReached(round))),
     }

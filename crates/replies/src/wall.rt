@@ -4,7 +4,8 @@ ghost use Rattle.std.specs.Fmt.{decimal};
 ghost use Rattle.replies.specs.Replies.{answer_of};
 ghost use Rattle.replies.specs.Statuses.{done};
 ghost use Rattle.replies.specs.StandingsAnswers.{rounds_shown};
-ghost use Rattle.replies.specs.Tables.{right};
+ghost use Rattle.replies.specs.GameTexts.{games_labels};
+ghost use Rattle.replies.specs.Tables.{right, table_text};
 ghost use Rattle.replies.specs.WallTexts.{board_labels, boards_labels, marks_labels, named_boards_text};
 ghost use Rattle.replies.specs.WallTexts.{named_rows_text, opponent_labels, paired_labels, played_boards_text};
 ghost use Rattle.replies.specs.WallTexts.{played_labels, player_labels, result_labels, result_mark, row_labels};
@@ -33,8 +34,7 @@ pub fn boards(alloc: Global, report: &Report<'_>, boards: &[Board]) -> Result<Re
         push_board(&mut line, report, before, *board)?;
         lines.push(line)?;
     }
-    let text = table(alloc, lines.as_slice(), report.is_utf8(), 7)?;
-    Ok(Reply::bytes(Status::Done, text))
+    in_columns(alloc, report, lines.as_slice(), 7)
 }
 
 /// The boards of a round that was paired, with names, the scores before that round, and the results.
@@ -54,8 +54,7 @@ pub fn played_boards(
         push_result(&mut line, report, round, *board)?;
         lines.push(line)?;
     }
-    let text = table(alloc, lines.as_slice(), report.is_utf8(), 8)?;
-    Ok(Reply::bytes(Status::Done, text))
+    in_columns(alloc, report, lines.as_slice(), 8)
 }
 
 /// The standings with names: for each player the place, name, score, the values of the keys, and the games if they are
@@ -69,16 +68,40 @@ pub fn standings(
     ensures { IfOk result (λ reply. answer_of reply
         ≡ done (named_rows_text report.now options.now.keys (rounds_shown options.now report.now) rows.now)) }
 {
-    let (keys, rounds) = (options.keys.as_slice(), rounds_shown(options, report));
+    let lines = row_lines(alloc, options, report, rows)?;
+    let columns = 4 + options.keys.as_slice().len() + usize::from(rounds_shown(options, report));
+    in_columns(alloc, report, lines.as_slice(), columns)
+}
+
+// The lines of the standings: a loop that owns nothing but them, so that little is let go at a way out.
+fn row_lines(
+    alloc: Global,
+    options: &StandingsOptions,
+    report: &Report<'_>,
+    rows: &[Row],
+) -> Result<Vec<TableLine>, AllocError>
+    ensures { IfOk result (λ lines. lines.items
+        ≡ rows_labels report.now options.now.keys (rounds_shown options.now report.now) 1 rows.now) }
+{
     let mut lines = Vec::new(alloc);
     for (i, row) in rows.iter().enumerate() {
         let mut line = numbered(alloc, i + 1)?;
-        push_row(&mut line, report, keys, row)?;
-        push_games(&mut line, report, row.start(), rounds)?;
+        push_row(&mut line, options, report, row)?;
         lines.push(line)?;
     }
-    let columns = 4 + keys.len() + usize::from(rounds);
-    let text = table(alloc, lines.as_slice(), report.is_utf8(), columns)?;
+    Ok(lines)
+}
+
+// Lines as a table of so many columns.
+fn in_columns(
+    alloc: Global,
+    report: &Report<'_>,
+    lines: &[TableLine],
+    columns: usize,
+) -> Result<Reply, AllocError>
+    ensures { IfOk result (λ reply. answer_of reply ≡ done (table_text report.now.utf8 columns lines.now)) }
+{
+    let text = table(alloc, lines, report.is_utf8(), columns)?;
     Ok(Reply::bytes(Status::Done, text))
 }
 
@@ -189,18 +212,20 @@ fn push_player(
     line.push_text(HalfPoints(u32::from(score)).to_string(alloc)?)
 }
 
-// Puts a player of the standings, and the values of the keys.
+// Puts a player of the standings, the values of the keys, and the games if they are wanted.
 #[tactic(auto, unfolding(crate::specs::WallTexts::row_labels))]
 fn push_row(
     line: &mut TableLine,
+    options: &StandingsOptions,
     report: &Report<'_>,
-    keys: &[Key],
     row: &Row,
 ) -> Result<(), AllocError>
-    ensures { OnOk result (line.new ≡ line.old ++ row_labels report.now keys.now row.now) }
+    ensures { OnOk result (line.new ≡ line.old ++ (row_labels report.now options.now.keys row.now
+        ++ games_labels report.now row.now.start (rounds_shown options.now report.now))) }
 {
     push_player(line, report, row.start(), row.score())?;
-    push_values(line, keys, row.values())
+    push_values(line, options.keys.as_slice(), row.values())?;
+    push_games(line, report, row.start(), rounds_shown(options, report))
 }
 
 // Puts the values of some keys, in their order.

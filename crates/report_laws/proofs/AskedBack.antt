@@ -8,8 +8,8 @@ use Rattle.std.proofs.lemmas.Map.Views.{list_any-from_Contains}
 use Rattle.trf16.specs.declared.cell.Colour.{Colour}
 use Rattle.trf16.specs.declared.limits.TheConstants.{MOST_ROUNDS}
 use Rattle.trf16.specs.Prelude.{Sheet, known, absent, rounds_played, CanBePaired, named_by, with_round, before_round, verdict, HasOwnStarts}
-use Rattle.trf16.proofs.BoardLemmas.{eq-sym}
-use Rattle.trf16.proofs.StartRanks.{own_starts}
+use Rattle.trf16_writer.proofs.BoardLemmas.{eq-sym}
+use Rattle.trf16_writer.proofs.StartRanks.{own_starts}
 use Rattle.dutch_player.specs.Prelude.{Facts, facts_of, total_of, start_ranks, IsFieldOf}
 use Rattle.dutch_player.proofs.PresentLemmas.{field_of}
 use Rattle.report_laws.specs.Boards.{NameAllPresent}

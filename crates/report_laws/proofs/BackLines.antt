@@ -22,10 +22,10 @@ use Rattle.trf16.proofs.BackLemmas.{lower_is, alone, no_other, IsOfOthers, test_
 use Rattle.trf16.proofs.ColumnLemmas.{joined-append, joined-columns}
 use Rattle.trf16.proofs.LineSteps.{line_keeps, line_adds}
 use Rattle.trf16.proofs.StepLemmas.{same_ok}
-use Rattle.trf16.proofs.WrittenCells.{ascii-digits}
-use Rattle.trf16.proofs.WrittenReport.{first_onto, onto_from}
-use Rattle.trf16.proofs.WrittenRounds.{ascii-words, number_is}
-use Rattle.trf16.proofs.WrittenText.{is_inside, are_inside, are_utf8, has_mark, lines-line, line-no_mark, utf8_ascii}
+use Rattle.trf16_writer.proofs.WrittenCells.{ascii-digits}
+use Rattle.trf16_writer.proofs.WrittenReport.{first_onto, onto_from}
+use Rattle.trf16_writer.proofs.WrittenRounds.{ascii-words, number_is}
+use Rattle.trf16_writer.proofs.WrittenText.{is_inside, are_inside, are_utf8, has_mark, lines-line, line-no_mark, utf8_ascii}
 
 -- ---- a report that carries other lines
 

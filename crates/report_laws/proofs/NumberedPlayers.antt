@@ -17,14 +17,14 @@ use Rattle.trf16.specs.declared.cell.Cell.TheVariants.{Blank, Bye, Game, Forfeit
 use Rattle.trf16.specs.declared.fault.Fault.{Fault}
 use Rattle.trf16.specs.declared.fault.Fault.TheVariants.{Points}
 use Rattle.trf16.specs.declared.limits.TheConstants.{MOST_PLAYERS}
-use Rattle.trf16.proofs.BoardLemmas.{eq-self}
-use Rattle.trf16.proofs.MeetingLemmas.{PairFits, cell_is}
-use Rattle.trf16.proofs.PairedRound.{fits-none}
+use Rattle.trf16_writer.proofs.BoardLemmas.{eq-self}
+use Rattle.trf16_writer.proofs.MeetingLemmas.{PairFits, cell_is}
+use Rattle.trf16_writer.proofs.PairedRound.{fits-none}
 use Rattle.trf16.proofs.StepLemmas.{then_ok}
-use Rattle.trf16.proofs.WrittenCells.{is_sound}
-use Rattle.trf16.proofs.WrittenFields.{are_small}
-use Rattle.trf16.proofs.WrittenPlayers.{IsSoundEntry}
-use Rattle.trf16.proofs.WrittenReport.{are_all_small, are_all_sound}
+use Rattle.trf16_writer.proofs.WrittenCells.{is_sound}
+use Rattle.trf16_writer.proofs.WrittenFields.{are_small}
+use Rattle.trf16_writer.proofs.WrittenPlayers.{IsSoundEntry}
+use Rattle.trf16_writer.proofs.WrittenReport.{are_all_small, are_all_sound}
 use Rattle.renumbering.proofs.NewStarts.{new_within, new_once, new_most}
 use Rattle.report_laws.proofs.NumberedLine.{same_kind}
 

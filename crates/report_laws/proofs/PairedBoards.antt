@@ -22,8 +22,8 @@ use Rattle.trf16.specs.declared.cell.Colour.TheVariants.{White, Black}
 use Rattle.trf16.specs.declared.limits.TheConstants.{MOST_ROUNDS}
 use Rattle.trf16.specs.Outcomes.{◌>>=◌}
 use Rattle.trf16.specs.Prelude.{CanBePaired, Entry, HasOwnStarts, Sheet, absent, cell_by, cells_of, cells_with, entry_with, half_points, named_by, points_upto, rounds_played, starts_of, with_cell, with_round}
-use Rattle.trf16.proofs.BoardLemmas.{eq-self, eq-sym}
-use Rattle.trf16.proofs.PairedRound.{named_black, named_head, named_tail}
+use Rattle.trf16_writer.proofs.BoardLemmas.{eq-self, eq-sym}
+use Rattle.trf16_writer.proofs.PairedRound.{named_black, named_head, named_tail}
 use Rattle.trf16.proofs.RankLemmas.{ranked_moves}
 use Rattle.dutch_player.specs.declared.fault.FieldFault.{FieldFault}
 use Rattle.dutch_player.specs.Prelude.{Facts, SeatFacts, colour_of_higher, colours, initial_of, no_seat, ranked, seat_at, seats_of, start_ranks, total_for, with_colour}

@@ -22,7 +22,7 @@ pub fn a_paired_round_has_its_field_back()
 /// If boards that name each player of some facts, once, and nobody else, are put into the accepted report that these are
 /// the facts of, then the report that comes of it has a view before that round, and the next round of the view is paired
 /// from the very same facts, if the same total of rounds and the same initial colour are asked for, or none. The boards
-/// of a round are such boards (`everybody_is_named_once` of `dutch_pair`). A total that is asked for is at most
+/// of a round are such boards (`everybody_is_named_once` of `pairing_laws`). A total that is asked for is at most
 /// `MOST_ROUNDS`.
 pub fn the_round_is_asked_back()
     ensures { (bytes : List ℕ) (bye : ℕ) (sheet : Sheet) (asked : Option ℕ) (initial : Option Colour) (facts : Facts)

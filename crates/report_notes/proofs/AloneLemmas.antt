@@ -2,7 +2,7 @@
 use Rattle.std.proofs.Common.{◌≡◌, ℕ, List, [], ◌∷◌, Bool, true, false, ◌&&◌, ◌==◌, if◌then◌else◌, refl, ap, ◌∙◌}
 use Rattle.std.specs.Str.{byte, chars, is_utf8}
 use Rattle.trf16.specs.Prelude.{without_marks}
-use Rattle.trf16.proofs.WrittenText.{utf8_split}
+use Rattle.trf16_writer.proofs.WrittenText.{utf8_split}
 use Rattle.report_notes.specs.RefusalNotes.{alone_in_bytes}
 
 and_false : (x : Bool) → (x && false) ≡ false

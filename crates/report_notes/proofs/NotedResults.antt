@@ -10,10 +10,10 @@ use Rattle.std.proofs.lemmas.Bool.{cases_lt, cases_Bool, or_parts, true≢false,
 use Rattle.std.proofs.lemmas.List.Folds.{list_any-append}
 use Rattle.trf16.specs.Prelude.{columns, lines, without_marks, words_of, Entry, Sheet, cell_at, cell_in, cells_of, game_points, outcome_points, known, rounds_played, is_blank, is_blank_cell, is_kind, is_named_absent, is_unfinished, is_player, line_onto, lines_onto, player_at, player_of, without_players, verdict, number_of}
 use Rattle.trf16.proofs.StepLemmas.{same_ok}
-use Rattle.trf16.proofs.WrittenReport.{accepted, first_onto}
+use Rattle.trf16_writer.proofs.WrittenReport.{accepted, first_onto}
 use Rattle.std.proofs.lemmas.List.{append_assoc, append-nil}
 use Rattle.trf16.proofs.LineSteps.{line_keeps, line_adds}
-use Rattle.trf16.proofs.WrittenPlayers.{player_is}
+use Rattle.trf16_writer.proofs.WrittenPlayers.{player_is}
 use Rattle.trf16.specs.declared.cell.Cell.{Cell}
 use Rattle.trf16.specs.declared.cell.Cell.TheVariants.{Blank, Bye, Game, Forfeit, Unfinished}
 use Rattle.report_notes.specs.Games.{start_in, played_last}

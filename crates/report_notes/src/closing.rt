@@ -9,7 +9,7 @@ use crate::rounds::{RoundsLeft, next_of_rounds};
 use trf16::Report;
 
 /// What is left to tell behind the lines.
-#[derive(Debug, Clone, Copy)]
+#[derive(Clone, Copy)]
 pub(crate) struct ClosingLeft {
     pub(crate) rounds: RoundsLeft,
     // whether the number of rounds is still to be looked at

@@ -3,7 +3,7 @@ ghost use Rattle.std.specs.Prelude.{◌≡◌};
 ghost use Rattle.report_notes.specs.RefusalNotes.{byte_order};
 
 /// Which byte of two comes first in a text in UTF-16.
-#[derive(Debug, Clone, Copy, PartialEq, Eq)]
+#[derive(Clone, Copy)]
 pub enum ByteOrder {
     /// The text begins with the bytes FF FE.
     Little,

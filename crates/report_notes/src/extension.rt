@@ -6,7 +6,7 @@ use crate::refusal::{has_characters, line_in};
 use trf16::{is_word, split_kind};
 
 /// The kind of an extension line that is read.
-#[derive(Debug, Clone, Copy, PartialEq, Eq)]
+#[derive(Clone, Copy)]
 pub enum Extension {
     /// The number of rounds.
     Xxr,

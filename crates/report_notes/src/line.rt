@@ -11,7 +11,7 @@ use crate::player_line::{PlayerLeft, next_of_player, player_left};
 use trf16::{Report, is_blank, is_word, split_kind};
 
 /// What is left to tell of a line.
-#[derive(Debug, Clone, Copy)]
+#[derive(Clone, Copy)]
 pub(crate) enum Left<'a> {
     /// Nothing.
     Nothing,

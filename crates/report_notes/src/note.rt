@@ -1,7 +1,7 @@
 // What looks like a mistake.
 
 /// What of a round of a player looks like a mistake.
-#[derive(Debug, Clone, Copy, PartialEq, Eq)]
+#[derive(Clone, Copy)]
 pub enum RoundNote {
     /// The game has no result.
     NoResult,
@@ -19,7 +19,7 @@ pub enum RoundNote {
 }
 
 /// One thing of an accepted report that looks like a mistake. Lines, columns and rounds count from 1.
-#[derive(Debug, Clone, Copy)]
+#[derive(Clone, Copy)]
 pub enum Note<'a> {
     /// A word of a line `XXZ` or `XXP` is the start rank of no player.
     NoPlayer {

@@ -5,7 +5,7 @@ use crate::closing::ClosingLeft;
 use crate::line::Left;
 
 /// A place in front of some notes of a report.
-#[derive(Debug, Clone, Copy)]
+#[derive(Clone, Copy)]
 pub struct Place<'a> {
     // the lines behind the one in hand
     pub(crate) text: &'a [u8],

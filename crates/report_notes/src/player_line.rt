@@ -1,9 +1,8 @@
 // What of a player's line looks like a mistake.
 ghost use Rattle.std.specs.Prelude.{◌≡◌, ℕ, ◌∷◌, [], MatchOption, option_and_then};
 ghost use Rattle.trf16.specs.Prelude.{columns, player_of};
-ghost use Rattle.report_notes.specs.Notes.{goes_on_behind, last_column, name_runs_on, player_notes};
+ghost use Rattle.report_notes.specs.Notes.{goes_on_behind, last_column, player_notes};
 ghost use Rattle.report_notes.specs.Ratings.{rated_above};
-ghost use Rattle.report_notes.specs.Notes.{stands_before_name};
 ghost use Rattle.report_notes.specs.NoteOf.{cells_left_notes, noted, player_left_notes};
 
 use crate::fields::start_in;
@@ -11,10 +10,11 @@ use crate::note::Note;
 use crate::player_rounds::{PlayerRoundsLeft, next_of_player_rounds};
 use crate::points::counts_to_come;
 use crate::ratings::{RatedAbove, rated_above};
+use crate::refusal::columns_in;
 use trf16::{Report, is_blank, split_columns};
 
 /// What is left to tell of a player's line, in the order of its columns.
-#[derive(Debug, Clone, Copy)]
+#[derive(Clone, Copy)]
 pub(crate) struct PlayerLeft {
     // whether it is that something stands in front of the name, in column 14
     pub(crate) before_name: bool,
@@ -28,7 +28,7 @@ pub(crate) struct PlayerLeft {
 }
 
 /// What is left to tell of the cells of a player's line.
-#[derive(Debug, Clone, Copy)]
+#[derive(Clone, Copy)]
 pub(crate) struct CellsLeft {
     pub(crate) rounds: PlayerRoundsLeft,
     // whether it is that something stands behind the columns of the next round
@@ -114,8 +114,8 @@ pub(crate) fn player_left(report: &Report<'_>, line: &[u8]) -> PlayerLeft
     let utf8 = report.is_utf8();
     let start = start_in(line, utf8);
     PlayerLeft {
-        before_name: stands_before_name(line, utf8),
-        long_name: name_runs_on(line, utf8),
+        before_name: !is_blank(columns_in(line, utf8, 14, 14)),
+        long_name: !is_blank(columns_in(line, utf8, 48, 48)),
         rating: line_rated_above(report, start),
         early: counts_to_come(report, start),
         cells: CellsLeft {
@@ -123,22 +123,6 @@ pub(crate) fn player_left(report: &Report<'_>, line: &[u8]) -> PlayerLeft
             behind: goes_on_behind(report, line),
         },
     }
-}
-
-// Whether column 14 is not blank.
-fn stands_before_name(line: &[u8], utf8: bool) -> bool
-    ensures { result ≡ stands_before_name (columns utf8 line.now) }
-{
-    let (_, behind) = split_columns(line, utf8, 13);
-    !is_blank(split_columns(behind, utf8, 1).0)
-}
-
-// Whether column 48 is not blank.
-fn name_runs_on(line: &[u8], utf8: bool) -> bool
-    ensures { result ≡ name_runs_on (columns utf8 line.now) }
-{
-    let (_, behind) = split_columns(line, utf8, 47);
-    !is_blank(split_columns(behind, utf8, 1).0)
 }
 
 // The rating of the player with a start rank, if they come late and are rated above a player in front.

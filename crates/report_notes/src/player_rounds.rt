@@ -10,7 +10,7 @@ use crate::player_round::{RoundLeft, next_of_round, round_left};
 use trf16::Report;
 
 /// What is left to tell of a player's rounds.
-#[derive(Debug, Clone, Copy)]
+#[derive(Clone, Copy)]
 pub(crate) struct PlayerRoundsLeft {
     // the player
     pub(crate) start: u16,

@@ -8,7 +8,7 @@ use crate::fields::number_in;
 use trf16::{Player, Report, split_columns};
 
 /// A late entry's rating, and the player with the smallest start rank who has a smaller one in front.
-#[derive(Debug, Clone, Copy, PartialEq, Eq)]
+#[derive(Clone, Copy)]
 pub(crate) struct RatedAbove {
     pub(crate) rating: u16,
     pub(crate) player: u16,

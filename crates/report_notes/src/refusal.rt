@@ -17,7 +17,7 @@ use trf16::{
 };
 
 /// Columns of a line, `first` to `last`. Lines and columns count from 1.
-#[derive(Debug, Clone, Copy, PartialEq, Eq)]
+#[derive(Clone, Copy)]
 pub struct Columns {
     pub line: usize,
     pub first: usize,
@@ -26,7 +26,7 @@ pub struct Columns {
 
 /// A points field and the sums that it was compared with, in half points: over the rounds that were paired, and over
 /// all rounds.
-#[derive(Debug, Clone, Copy, PartialEq, Eq)]
+#[derive(Clone, Copy)]
 pub struct Sums {
     pub player: u16,
     pub field: u16,

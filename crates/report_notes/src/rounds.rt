@@ -1,17 +1,17 @@
 // What of the rounds of a report looks like a mistake, whoever plays in them.
 ghost use Rattle.std.specs.Prelude.{◌≡◌, ◌<◌, ◌∷◌, [], false, MatchOption, None};
-ghost use Rattle.trf16.specs.Prelude.{Sheet, entry_of, rounds_played};
+ghost use Rattle.trf16.specs.Prelude.{Sheet, rounds_played};
 ghost use Rattle.trf16.specs.declared.limits.TheConstants.{MOST_ROUNDS};
-ghost use Rattle.report_notes.specs.Rounds.{byes_in, has_bye, has_no_game, has_opponent, report_rounds_notes};
+ghost use Rattle.report_notes.specs.Rounds.{byes_in, has_no_game, report_rounds_notes};
 ghost use Rattle.report_notes.specs.Rounds.{several_byes};
 ghost use Rattle.report_notes.specs.NoteOf.{noted, rounds_left_notes};
 
 use crate::note::Note;
 use crate::player_round::is_allocated;
-use trf16::{Player, Report, cell_at};
+use trf16::{Report, cell_at};
 
 /// What is left to tell of the rounds of a report.
-#[derive(Debug, Clone, Copy)]
+#[derive(Clone, Copy)]
 pub(crate) struct RoundsLeft {
     // the round in hand; 0 in front of the first
     pub(crate) round: u8,
@@ -85,19 +85,11 @@ fn has_no_game(report: &Report<'_>, round: u8) -> bool
     ensures { result ≡ has_no_game report.now round }
 {
     for player in report.players() {
-        if has_opponent(player, round) {
+        if cell_at(&player.cells, round).opponent().is_some() {
             return false;
         }
     }
     true
-}
-
-// Whether a player has an opponent in a round.
-fn has_opponent(player: &Player<'_>, round: u8) -> bool
-    requires { 0 < round }
-    ensures { result ≡ has_opponent round (entry_of player.now) }
-{
-    cell_at(&player.cells, round).opponent().is_some()
 }
 
 // How many players have the pairing-allocated bye in a round, if several do.
@@ -116,17 +108,9 @@ fn byes_in(report: &Report<'_>, round: u8) -> usize
 {
     let mut count = 0;
     for player in report.players() {
-        if has_bye(player, round) {
+        if is_allocated(&cell_at(&player.cells, round)) {
             count += 1;
         }
     }
     count
-}
-
-// Whether a player has it.
-fn has_bye(player: &Player<'_>, round: u8) -> bool
-    requires { 0 < round }
-    ensures { result ≡ has_bye round (entry_of player.now) }
-{
-    is_allocated(&cell_at(&player.cells, round))
 }

@@ -2,4 +2,5 @@ pub mod WordLemmas
 pub mod KeyLemmas
 pub mod KeyRule
 pub mod OptionLemmas
+pub mod HelpLemmas
 pub mod RequestLemmas

@@ -8,6 +8,8 @@ use Rattle.clap.specs.declared.builder.value_parser.ValueParser.{ValueParser}
 use Rattle.clap.specs.declared.builder.value_parser.ValueParser.TheVariants.{Signed, Unsigned}
 use Rattle.requests.specs.declared.arguments.OptionName.{OptionName}
 use Rattle.requests.specs.declared.arguments.OptionName.TheVariants.{Bracket, From, Count, Player, Instead, Round, PlayedRound, Rounds, Initial, Steps, Report, Notes, Points, Renumber, BoardNames, PlayedNames, PlayerNames, Games, Words, By, Bye}
+use Rattle.requests.specs.declared.commands.CommandName.{CommandName}
+use Rattle.requests.specs.declared.commands.CommandName.TheVariants.{Check as CheckName, Format as FormatName, Pair as PairName, Boards as BoardsName, Candidates as CandidatesName, Explain as ExplainName, Standings as StandingsName}
 use Rattle.trf16.specs.declared.limits.TheConstants.{MOST_ROUNDS}
 
 -- ---- options
@@ -44,15 +46,19 @@ player_rule = number_rule (codes "player") (Signed (pos 1) (pos 9999))
 unfoldable pub instead_rule : Rule
 instead_rule = number_rule (codes "instead") (Signed (pos 0) (pos 9999))
 
--- `--round N`: from 1 to the most rounds
+-- an option whose value is a number from 1 to the most rounds
+abbrev pub few_rounds_rule : Text → Rule
+few_rounds_rule name = number_rule name (Signed (pos 1) (pos MOST_ROUNDS))
+
+-- `--round N`
 unfoldable pub round_rule : Rule
-round_rule = number_rule (codes "round") (Signed (pos 1) (pos MOST_ROUNDS))
+round_rule = few_rounds_rule (codes "round")
 
--- `--rounds N`: from 1 to the most rounds
+-- `--rounds N`
 unfoldable pub rounds_rule : Rule
-rounds_rule = number_rule (codes "rounds") (Signed (pos 1) (pos MOST_ROUNDS))
+rounds_rule = few_rounds_rule (codes "rounds")
 
--- `--initial COLOUR`
+-- `--initial`, whose value is any text: whether it is a colour is asked of what clap reads
 unfoldable pub initial_rule : Rule
 initial_rule = option_rule (codes "initial")
 
@@ -88,7 +94,7 @@ games_rule = flag_rule (codes "games")
 unfoldable pub words_rule : Rule
 words_rule = flag_rule (codes "words")
 
--- `--by LIST`
+-- `--by`, whose value is any text: whether it is a list of keys is asked of what clap reads
 unfoldable pub by_rule : Rule
 by_rule = option_rule (codes "by")
 
@@ -146,6 +152,14 @@ with_bracket_rules app = with_option (with_option (with_option app bracket_rule)
 unfoldable pub with_table_rules : App → App
 with_table_rules app = with_option (with_option (with_option (with_option app by_rule) names_rule) games_rule) round_rule
 
+-- `check`
+unfoldable pub check_app : App
+check_app = with_option (with_option (new_app (codes "check")) notes_rule) bye_rule
+
+-- `format`
+unfoldable pub format_app : App
+format_app = with_option (with_option (with_option (with_option (new_app (codes "format")) points_rule) renumber_rule) round_rule) bye_rule
+
 -- `pair`
 unfoldable pub pair_app : App
 pair_app = with_option (with_option (with_option (with_round_rules (new_app (codes "pair"))) names_rule) report_rule) bye_rule
@@ -165,3 +179,13 @@ explain_app = with_option (with_option (with_round_rules (with_option (with_opti
 -- `standings`
 unfoldable pub standings_app : App
 standings_app = with_option (with_table_rules (new_app (codes "standings"))) bye_rule
+
+-- the command of a name
+abbrev pub app_for : CommandName → App
+app_for CheckName = check_app
+app_for FormatName = format_app
+app_for PairName = pair_app
+app_for BoardsName = boards_app
+app_for CandidatesName = candidates_app
+app_for ExplainName = explain_app
+app_for StandingsName = standings_app

@@ -10,41 +10,22 @@ use Rattle.dutch_order.specs.Prelude.{has_syntax}
 use Rattle.requests.specs.declared.words.Task.{Task}
 use Rattle.requests.specs.declared.words.Request.{Request}
 use Rattle.requests.specs.declared.words.Request.TheVariants.{Check, Format, Pair, Boards, Candidates, Explain, Standings}
-use Rattle.requests.specs.declared.words.CommandName.{CommandName}
-use Rattle.requests.specs.declared.words.CommandName.TheVariants.{Check as CheckName, Format as FormatName, Pair as PairName, Boards as BoardsName, Candidates as CandidatesName, Explain as ExplainName, Standings as StandingsName}
-use Rattle.requests.specs.CommandLine.{boards_app, bye_rule, candidates_app, explain_app, notes_rule, pair_app, points_rule, renumber_rule, round_rule, standings_app, with_option}
+use Rattle.requests.specs.declared.commands.CommandName.{CommandName}
+use Rattle.requests.specs.CommandLine.{app_for, boards_app, candidates_app, check_app, explain_app, format_app, pair_app, standings_app}
 use Rattle.requests.specs.Options.{◌>>=◌, boards_options, bye_in, candidates_options, check_options, explain_options, format_options, pair_options, standings_options}
 use Rattle.requests.specs.declared.words.Meaning.{Meaning}
 use Rattle.requests.specs.declared.words.Meaning.TheVariants.{Command, Help, Mistake, Refused}
 use Rattle.requests.specs.declared.options.WordFault.{WordFault}
 
--- `check`
-unfoldable pub check_app : App
-check_app = with_option (with_option (new_app (codes "check")) notes_rule) bye_rule
-
--- `format`
-unfoldable pub format_app : App
-format_app = with_option (with_option (with_option (with_option (new_app (codes "format")) points_rule) renumber_rule) round_rule) bye_rule
-
--- the command of a name
-abbrev pub app_for : CommandName → App
-app_for CheckName = check_app
-app_for FormatName = format_app
-app_for PairName = pair_app
-app_for BoardsName = boards_app
-app_for CandidatesName = candidates_app
-app_for ExplainName = explain_app
-app_for StandingsName = standings_app
-
 -- a command with a version
 unfoldable pub versioned : App → App
 versioned = on_top (λ top. record top { has_version = true })
 
--- a command that takes all words as its arguments, has no command `help`, and wants a command
+-- a command that takes all words as its arguments, and wants a command; clap adds its own command `help`, whose words are refused or answered
+-- with help, and make no task
 unfoldable pub settled : App → App
 settled = on_top (λ top. record top {
   no_binary_name = true;
-  disable_help_subcommand = true;
   arg_required_else_help = true;
   subcommand_required = true;
 })

@@ -1,10 +1,8 @@
 // The options of the commands, as clap is told of them.
 ghost use Rattle.std.specs.Prelude.{◌≡◌, false};
 ghost use Rattle.clap.specs.Words.{rule_of};
-ghost use Rattle.requests.specs.CommandLine.{bracket_rule, by_rule, bye_rule, count_rule, flag_rule, from_rule};
-ghost use Rattle.requests.specs.CommandLine.{games_rule, initial_rule, instead_rule, names_rule, notes_rule, option_rule};
-ghost use Rattle.requests.specs.CommandLine.{player_rule, points_rule, renumber_rule, report_rule, round_rule, rounds_rule, rule_for};
-ghost use Rattle.requests.specs.CommandLine.{steps_rule, words_rule};
+ghost use Rattle.requests.specs.CommandLine.{bracket_rule, bye_rule, count_rule, few_rounds_rule, flag_rule};
+ghost use Rattle.requests.specs.CommandLine.{instead_rule, option_rule, player_rule, rule_for, steps_rule};
 
 use clap::{Arg, ArgAction, value_parser};
 use std::alloc::Global;
@@ -29,7 +27,7 @@ pub enum OptionName {
     PlayedRound,
     /// `--rounds N`.
     Rounds,
-    /// `--initial COLOUR`.
+    /// `--initial`, a colour.
     Initial,
     /// `--steps N`.
     Steps,
@@ -51,50 +49,86 @@ pub enum OptionName {
     Games,
     /// `--words`.
     Words,
-    /// `--by LIST`.
+    /// `--by`, a list of keys.
     By,
     /// `--bye N`.
     Bye,
 }
 
+// How help names the values of `--initial` and of `--by`: by what they may be. clap names them so too where it
+// complains, as where no value stands behind the option.
+const COLOURS: &str = "white|black";
+
+const KEYS: &str = "direct,buchholz,sb";
+
+const FROM_HELP: &str =
+    "Begins behind the candidate with this cursor, as an earlier run printed it [default: the first]";
+
+const ROUND_HELP: &str =
+    "Answers as on the report as it stood before round N, 1 to 64 [default: before the next round]";
+
+const PLAYED_ROUND_HELP: &str =
+    "The round whose boards are printed, 1 to 64 [default: the last that was paired]";
+
+const ROUNDS_HELP: &str =
+    "Rounds of the whole tournament, 1 to 64 [default: those of the report's XXR line]";
+
+const INITIAL_HELP: &str =
+    "The initial colour, white or black [default: that of the report's XXC line]";
+
+const REPORT_HELP: &str = "Prints the report with the new round in place of the boards";
+
+const NOTES_HELP: &str =
+    "Prints a line too for each thing of an accepted report that looks like a mistake, and for what was found where it is refused";
+
+const POINTS_HELP: &str =
+    "Writes each points field as the sum over the rounds that were paired, whatever it says";
+
+const RENUMBER_HELP: &str =
+    "Gives the players the start ranks 1, 2 and so on by rating, title and the start rank that they have";
+
+const BOARD_NAMES_HELP: &str = "Prints the boards with names and scores, in columns for the wall";
+
+const PLAYED_NAMES_HELP: &str =
+    "Prints the boards with names, scores before the round and results, in columns for the wall";
+
+const PLAYER_NAMES_HELP: &str = "Prints the names too, in columns for the wall";
+
+const GAMES_HELP: &str =
+    "Prints a column for each round too: opponent, colour and result, or the bye's letter";
+
+const WORDS_HELP: &str = "Tells it in sentences and with names, to be read out";
+
+const BY_HELP: &str =
+    "What tells players of one score apart: one to three of direct, buchholz and sb, joined by commas, none twice [default: direct,buchholz,sb]";
+
 /// An option, as clap is told of it.
+#[tactic(auto, unfolding(crate::specs::CommandLine::from_rule, crate::specs::CommandLine::round_rule, crate::specs::CommandLine::rounds_rule, crate::specs::CommandLine::initial_rule, crate::specs::CommandLine::report_rule, crate::specs::CommandLine::notes_rule, crate::specs::CommandLine::points_rule, crate::specs::CommandLine::renumber_rule, crate::specs::CommandLine::names_rule, crate::specs::CommandLine::games_rule, crate::specs::CommandLine::words_rule, crate::specs::CommandLine::by_rule))]
 pub fn option_for<'a>(alloc: Global, which: OptionName) -> Arg<'a>
     ensures rule { rule_of result ≡ rule_for which }
     ensures local { result.global ≡ false }
 {
     match which {
         OptionName::Bracket => bracket(alloc),
-        OptionName::From => from(alloc),
+        OptionName::From => option(alloc, "from", "CURSOR", FROM_HELP),
         OptionName::Count => count(alloc),
         OptionName::Player => player(alloc),
         OptionName::Instead => instead(alloc),
-        OptionName::Round => round(
-            alloc,
-            "Answers as on the report as it stood before round N, 1 to 64 [default: before the next round]",
-        ),
-        OptionName::PlayedRound => round(
-            alloc,
-            "The round whose boards are printed, 1 to 64 [default: the last that was paired]",
-        ),
-        OptionName::Rounds => rounds(alloc),
-        OptionName::Initial => initial(alloc),
+        OptionName::Round => few_rounds(alloc, "round", ROUND_HELP),
+        OptionName::PlayedRound => few_rounds(alloc, "round", PLAYED_ROUND_HELP),
+        OptionName::Rounds => few_rounds(alloc, "rounds", ROUNDS_HELP),
+        OptionName::Initial => option(alloc, "initial", COLOURS, INITIAL_HELP),
         OptionName::Steps => steps(alloc),
-        OptionName::Report => report(alloc),
-        OptionName::Notes => notes(alloc),
-        OptionName::Points => points(alloc),
-        OptionName::Renumber => renumber(alloc),
-        OptionName::BoardNames => names(
-            alloc,
-            "Prints the boards with names and scores, in columns for the wall",
-        ),
-        OptionName::PlayedNames => names(
-            alloc,
-            "Prints the boards with names, scores before the round and results, in columns for the wall",
-        ),
-        OptionName::PlayerNames => names(alloc, "Prints the names too, in columns for the wall"),
-        OptionName::Games => games(alloc),
-        OptionName::Words => words(alloc),
-        OptionName::By => by(alloc),
+        OptionName::Report => flag(alloc, "report", REPORT_HELP),
+        OptionName::Notes => flag(alloc, "notes", NOTES_HELP),
+        OptionName::Points => flag(alloc, "points", POINTS_HELP),
+        OptionName::Renumber => flag(alloc, "renumber", RENUMBER_HELP),
+        OptionName::BoardNames => flag(alloc, "names", BOARD_NAMES_HELP),
+        OptionName::PlayedNames => flag(alloc, "names", PLAYED_NAMES_HELP),
+        OptionName::PlayerNames => flag(alloc, "names", PLAYER_NAMES_HELP),
+        OptionName::Games => flag(alloc, "games", GAMES_HELP),
+        OptionName::Words => flag(alloc, "words", WORDS_HELP),
+        OptionName::By => option(alloc, "by", KEYS, BY_HELP),
         OptionName::Bye => bye(alloc),
     }
 }
@@ -113,20 +147,6 @@ fn bracket<'a>(alloc: Global) -> Arg<'a>
     )
     .value_parser(value_parser!(u16).range(1..=1000))
     .required(true)
-}
-
-// `--from CURSOR`.
-#[tactic(auto, unfolding(crate::specs::CommandLine::from_rule))]
-fn from<'a>(alloc: Global) -> Arg<'a>
-    ensures rule { rule_of result ≡ from_rule }
-    ensures local { result.global ≡ false }
-{
-    option(
-        alloc,
-        "from",
-        "CURSOR",
-        "Begins behind the candidate with this cursor, as an earlier run printed it [default: the first]",
-    )
 }
 
 // `--count N`.
@@ -174,42 +194,12 @@ fn instead<'a>(alloc: Global) -> Arg<'a>
     .value_parser(value_parser!(u16).range(0..=9999))
 }
 
-// `--round N`, with what it does to the output.
-#[tactic(auto, unfolding(crate::specs::CommandLine::round_rule))]
-fn round<'a>(alloc: Global, help: &'a str) -> Arg<'a>
-    ensures rule { rule_of result ≡ round_rule }
+// An option whose value is a number of rounds, or one of a round.
+fn few_rounds<'a>(alloc: Global, name: &'a str, help: &'a str) -> Arg<'a>
+    ensures rule { rule_of result ≡ few_rounds_rule name.entry.now }
     ensures local { result.global ≡ false }
 {
-    option(alloc, "round", "N", help).value_parser(value_parser!(u8).range(1..=MOST_ROUNDS as i64))
-}
-
-// `--rounds N`.
-#[tactic(auto, unfolding(crate::specs::CommandLine::rounds_rule))]
-fn rounds<'a>(alloc: Global) -> Arg<'a>
-    ensures rule { rule_of result ≡ rounds_rule }
-    ensures local { result.global ≡ false }
-{
-    option(
-        alloc,
-        "rounds",
-        "N",
-        "Rounds of the whole tournament, 1 to 64 [default: those of the report's XXR line]",
-    )
-    .value_parser(value_parser!(u8).range(1..=MOST_ROUNDS as i64))
-}
-
-// `--initial COLOUR`.
-#[tactic(auto, unfolding(crate::specs::CommandLine::initial_rule))]
-fn initial<'a>(alloc: Global) -> Arg<'a>
-    ensures rule { rule_of result ≡ initial_rule }
-    ensures local { result.global ≡ false }
-{
-    option(
-        alloc,
-        "initial",
-        "COLOUR",
-        "The initial colour, white or black [default: that of the report's XXC line]",
-    )
+    option(alloc, name, "N", help).value_parser(value_parser!(u8).range(1..=MOST_ROUNDS as i64))
 }
 
 // `--steps N`.
@@ -225,107 +215,6 @@ fn steps<'a>(alloc: Global) -> Arg<'a>
         "Steps that the search in a bracket may take, 0 to 1000000000 [default: 10000000]",
     )
     .value_parser(value_parser!(u64).range(0..=1_000_000_000))
-}
-
-// `--report`.
-#[tactic(auto, unfolding(crate::specs::CommandLine::report_rule))]
-fn report<'a>(alloc: Global) -> Arg<'a>
-    ensures rule { rule_of result ≡ report_rule }
-    ensures local { result.global ≡ false }
-{
-    flag(
-        alloc,
-        "report",
-        "Prints the report with the new round in place of the boards",
-    )
-}
-
-// `--notes`.
-#[tactic(auto, unfolding(crate::specs::CommandLine::notes_rule))]
-fn notes<'a>(alloc: Global) -> Arg<'a>
-    ensures rule { rule_of result ≡ notes_rule }
-    ensures local { result.global ≡ false }
-{
-    flag(
-        alloc,
-        "notes",
-        "Prints a line too for each thing of an accepted report that looks like a mistake, and for what was found where it is refused",
-    )
-}
-
-// `--points`.
-#[tactic(auto, unfolding(crate::specs::CommandLine::points_rule))]
-fn points<'a>(alloc: Global) -> Arg<'a>
-    ensures rule { rule_of result ≡ points_rule }
-    ensures local { result.global ≡ false }
-{
-    flag(
-        alloc,
-        "points",
-        "Writes each points field as the sum over the rounds that were paired, whatever it says",
-    )
-}
-
-// `--renumber`.
-#[tactic(auto, unfolding(crate::specs::CommandLine::renumber_rule))]
-fn renumber<'a>(alloc: Global) -> Arg<'a>
-    ensures rule { rule_of result ≡ renumber_rule }
-    ensures local { result.global ≡ false }
-{
-    flag(
-        alloc,
-        "renumber",
-        "Gives the players the start ranks 1, 2 and so on by rating, title and the start rank that they have",
-    )
-}
-
-// `--names`, with what it does to the output.
-#[tactic(auto, unfolding(crate::specs::CommandLine::names_rule))]
-fn names<'a>(alloc: Global, help: &'a str) -> Arg<'a>
-    ensures rule { rule_of result ≡ names_rule }
-    ensures local { result.global ≡ false }
-{
-    flag(alloc, "names", help)
-}
-
-// `--games`.
-#[tactic(auto, unfolding(crate::specs::CommandLine::games_rule))]
-fn games<'a>(alloc: Global) -> Arg<'a>
-    ensures rule { rule_of result ≡ games_rule }
-    ensures local { result.global ≡ false }
-{
-    flag(
-        alloc,
-        "games",
-        "Prints a column for each round too: opponent, colour and result, or the bye's letter",
-    )
-}
-
-// `--words`.
-#[tactic(auto, unfolding(crate::specs::CommandLine::words_rule))]
-fn words<'a>(alloc: Global) -> Arg<'a>
-    ensures rule { rule_of result ≡ words_rule }
-    ensures local { result.global ≡ false }
-{
-    flag(
-        alloc,
-        "words",
-        "Tells it in sentences and with names, to be read out",
-    )
-}
-
-// `--by LIST`.
-#[tactic(auto, unfolding(crate::specs::CommandLine::by_rule))]
-fn by<'a>(alloc: Global) -> Arg<'a>
-    ensures rule { rule_of result ≡ by_rule }
-    ensures local { result.global ≡ false }
-{
-    option(
-        alloc,
-        "by",
-        "LIST",
-        "What tells players of one score apart: one to three of direct, buchholz and sb, joined by commas, none twice [default: direct,buchholz,sb]",
-    )
 }
 
 // `--bye N`.

@@ -1,10 +1,10 @@
-// The commands that ask the engine, and how clap is told of options. A command lists the names of its options, and one
-// loop tells them: clap's command is a large struct, and a proof lists all of it for each call that may fail.
+// The commands of the program, and how clap is told of them. Each has the texts of its help and a list of its options,
+// and one loop tells clap of those: clap's command is a large struct, and a proof lists all of it for each call that
+// may fail.
 ghost use Rattle.std.specs.Prelude.{◌≡◌, IfOk, false};
 ghost use Rattle.clap.specs.declared.Command.{out-Command as fields_of};
 ghost use Rattle.clap.specs.Words.{app_of, new_app, rule_of};
-ghost use Rattle.requests.specs.CommandLine.{HasSameGlobals, boards_app, candidates_app, explain_app, pair_app};
-ghost use Rattle.requests.specs.CommandLine.{standings_app, with_option, with_options};
+ghost use Rattle.requests.specs.CommandLine.{HasSameGlobals, app_for, with_option, with_options};
 
 use crate::arguments::{OptionName, option_for};
 use clap::{Arg, Command};
@@ -13,7 +13,64 @@ use std::alloc::{AllocError, Global};
 /// A command, unless memory was refused on the way to it.
 pub type Made<'a> = Result<Command<'a>, AllocError>;
 
-// The options of `pair`.
+/// Which command of the program is meant.
+#[derive(Clone, Copy)]
+pub enum CommandName {
+    Check,
+    Format,
+    Pair,
+    Boards,
+    Candidates,
+    Explain,
+    Standings,
+}
+
+/// The commands, in the order in which help lists them.
+pub const COMMANDS: [CommandName; 7] = [
+    CommandName::Check,
+    CommandName::Format,
+    CommandName::Pair,
+    CommandName::Boards,
+    CommandName::Candidates,
+    CommandName::Explain,
+    CommandName::Standings,
+];
+
+/// The texts of a command's help.
+#[derive(Clone, Copy)]
+pub struct HelpTexts<'a> {
+    /// What the command does, in a line.
+    pub about: &'a str,
+    /// How it is called: a report is read from standard input, and no file is named.
+    pub usage: &'a str,
+    /// What is read and printed, with examples.
+    pub after_help: &'a str,
+}
+
+// `check`: its options, and the texts of its help.
+const CHECK: [OptionName; 2] = [OptionName::Notes, OptionName::Bye];
+
+const CHECK_TEXTS: HelpTexts<'static> = HelpTexts {
+    about: "Tells how many players and rounds the report has, or why it is refused",
+    usage: "arbiter check [OPTIONS] < REPORT",
+    after_help: "The report is read from standard input. Printed are the numbers of its players and of the rounds that were paired; why it is refused goes to standard error.\n\nExample: arbiter check < report.trf",
+};
+
+// `format`: its options, and the texts of its help.
+const FORMAT: [OptionName; 4] = [
+    OptionName::Points,
+    OptionName::Renumber,
+    OptionName::Round,
+    OptionName::Bye,
+];
+
+const FORMAT_TEXTS: HelpTexts<'static> = HelpTexts {
+    about: "Writes the report in canonical columns, or tells why it is refused",
+    usage: "arbiter format [OPTIONS] < REPORT",
+    after_help: "The report is read from standard input. Printed is each player's line in TRF16's columns, and each other line as it stands.\n\nExample: arbiter format < report.trf > canonical.trf",
+};
+
+// `pair`: its options, and the texts of its help.
 const PAIR: [OptionName; 7] = [
     OptionName::Round,
     OptionName::Rounds,
@@ -24,14 +81,26 @@ const PAIR: [OptionName; 7] = [
     OptionName::Bye,
 ];
 
-// The options of `boards`.
+const PAIR_TEXTS: HelpTexts<'static> = HelpTexts {
+    about: "Pairs the next round, or tells that there is no pairing",
+    usage: "arbiter pair [OPTIONS] < REPORT",
+    after_help: "The report is read from standard input. Printed are the number of lines that follow, and then a line 'white black' for each board, in start ranks; 'player 0' is the bye.\n\nExample: arbiter pair --rounds 7 --initial white < report.trf",
+};
+
+// `boards`: its options, and the texts of its help.
 const BOARDS: [OptionName; 3] = [
     OptionName::PlayedRound,
     OptionName::PlayedNames,
     OptionName::Bye,
 ];
 
-// The options of `candidates`.
+const BOARDS_TEXTS: HelpTexts<'static> = HelpTexts {
+    about: "Lists the boards of a round as they stand in the report",
+    usage: "arbiter boards [OPTIONS] < REPORT",
+    after_help: "The report is read from standard input. Printed are the boards of the round in the form and order of pair, whoever has paired it.\n\nExamples:\n  arbiter boards < report.trf\n  arbiter boards --round 3 --names < report.trf",
+};
+
+// `candidates`: its options, and the texts of its help.
 const CANDIDATES: [OptionName; 8] = [
     OptionName::Bracket,
     OptionName::From,
@@ -43,7 +112,13 @@ const CANDIDATES: [OptionName; 8] = [
     OptionName::Bye,
 ];
 
-// The options of `explain`.
+const CANDIDATES_TEXTS: HelpTexts<'static> = HelpTexts {
+    about: "Lists the legal candidates of a bracket in the order of article D",
+    usage: "arbiter candidates [OPTIONS] --bracket <K> < REPORT",
+    after_help: "The report is read from standard input. Printed are the bracket's kind and shape, and then a line for each candidate: its cursor, its pairs in start ranks, and who moves down; the last line says 'end', or 'more' where the count was reached first.\n\nExample: arbiter candidates --bracket 1 --count 20 < report.trf",
+};
+
+// `explain`: its options, and the texts of its help.
 const EXPLAIN: [OptionName; 8] = [
     OptionName::Player,
     OptionName::Instead,
@@ -55,7 +130,13 @@ const EXPLAIN: [OptionName; 8] = [
     OptionName::Bye,
 ];
 
-// The options of `standings`.
+const EXPLAIN_TEXTS: HelpTexts<'static> = HelpTexts {
+    about: "Tells why the next round is paired as it is, bracket by bracket, or for one player",
+    usage: "arbiter explain [OPTIONS] < REPORT",
+    after_help: "The report is read from standard input. Printed are the round, and for each bracket its players with their scores, what is chosen in it, the criteria that count against that (C.6 to C.19; lists of score differences, the highest first), and each board with the rule of article E that decided its colours. With --player it is told of him and of his brackets, and with --instead the first rule that keeps him from this one. With --words it is told in sentences and with names.\n\nExamples:\n  arbiter explain < report.trf\n  arbiter explain --player 5 --instead 4 < report.trf\n  arbiter explain --player 5 --instead 0 < report.trf\n  arbiter explain --words --player 5 < report.trf",
+};
+
+// `standings`: its options, and the texts of its help.
 const STANDINGS: [OptionName; 5] = [
     OptionName::By,
     OptionName::PlayerNames,
@@ -64,96 +145,44 @@ const STANDINGS: [OptionName; 5] = [
     OptionName::Bye,
 ];
 
-/// The command `pair`.
-#[tactic(auto, unfolding(crate::specs::CommandLine::pair_app, crate::specs::CommandLine::with_round_rules))]
-pub fn pair_command<'a>(alloc: Global) -> Made<'a>
-    ensures app { IfOk result (λ command. app_of command ≡ pair_app) }
+const STANDINGS_TEXTS: HelpTexts<'static> = HelpTexts {
+    about: "Ranks the players by score and by the keys that break ties",
+    usage: "arbiter standings [OPTIONS] < REPORT",
+    after_help: "The report is read from standard input. Printed is a line for each player: place, start rank, score, and the keys.\n\nExample: arbiter standings --by buchholz,sb < report.trf",
+};
+
+/// A command of the program.
+#[tactic(auto, unfolding(crate::specs::CommandLine::check_app, crate::specs::CommandLine::format_app, crate::specs::CommandLine::pair_app, crate::specs::CommandLine::boards_app, crate::specs::CommandLine::candidates_app, crate::specs::CommandLine::explain_app, crate::specs::CommandLine::standings_app, crate::specs::CommandLine::with_bracket_rules, crate::specs::CommandLine::with_round_rules, crate::specs::CommandLine::with_table_rules))]
+pub fn command_for<'a>(alloc: Global, which: CommandName) -> Made<'a>
+    ensures app { IfOk result (λ command. app_of command ≡ app_for which) }
     ensures local { IfOk result (λ command. (fields_of command).has_globals ≡ false) }
 {
-    let command = described(
-        alloc,
-        "pair",
-        HelpTexts {
-            about: "Pairs the next round, or tells that there is no pairing",
-            usage: "arbiter pair [OPTIONS] < REPORT",
-            after_help: "The report is read from standard input. Printed are the number of lines that follow, and then a line 'white black' for each board, in start ranks; 'player 0' is the bye.\n\nExample: arbiter pair --rounds 7 --initial white < report.trf",
-        },
-    );
-    with_options(alloc, command, &PAIR)
+    match which {
+        CommandName::Check => optioned(alloc, "check", CHECK_TEXTS, &CHECK),
+        CommandName::Format => optioned(alloc, "format", FORMAT_TEXTS, &FORMAT),
+        CommandName::Pair => optioned(alloc, "pair", PAIR_TEXTS, &PAIR),
+        CommandName::Boards => optioned(alloc, "boards", BOARDS_TEXTS, &BOARDS),
+        CommandName::Candidates => optioned(alloc, "candidates", CANDIDATES_TEXTS, &CANDIDATES),
+        CommandName::Explain => optioned(alloc, "explain", EXPLAIN_TEXTS, &EXPLAIN),
+        CommandName::Standings => optioned(alloc, "standings", STANDINGS_TEXTS, &STANDINGS),
+    }
 }
 
-/// The command `boards`.
-#[tactic(auto, unfolding(crate::specs::CommandLine::boards_app))]
-pub fn boards_command<'a>(alloc: Global) -> Made<'a>
-    ensures app { IfOk result (λ command. app_of command ≡ boards_app) }
+// A command with the texts of its help and with its options.
+fn optioned<'a>(
+    alloc: Global,
+    name: &'a str,
+    texts: HelpTexts<'a>,
+    options: &[OptionName],
+) -> Made<'a>
+    ensures app { IfOk result (λ command. app_of command ≡ with_options (new_app name.entry.now) options.now) }
     ensures local { IfOk result (λ command. (fields_of command).has_globals ≡ false) }
 {
-    let command = described(
-        alloc,
-        "boards",
-        HelpTexts {
-            about: "Lists the boards of a round as they stand in the report",
-            usage: "arbiter boards [OPTIONS] < REPORT",
-            after_help: "The report is read from standard input. Printed are the boards of the round in the form and order of pair, whoever has paired it.\n\nExamples:\n  arbiter boards < report.trf\n  arbiter boards --round 3 --names < report.trf",
-        },
-    );
-    with_options(alloc, command, &BOARDS)
+    with_options(alloc, described(alloc, name, texts), options)
 }
 
-/// The command `candidates`.
-pub fn candidates_command<'a>(alloc: Global) -> Made<'a>
-    ensures app { IfOk result (λ command. app_of command ≡ candidates_app) }
-    ensures local { IfOk result (λ command. (fields_of command).has_globals ≡ false) }
-{
-    let command = described(
-        alloc,
-        "candidates",
-        HelpTexts {
-            about: "Lists the legal candidates of a bracket in the order of article D",
-            usage: "arbiter candidates [OPTIONS] --bracket <K> < REPORT",
-            after_help: "The report is read from standard input. Printed are the bracket's kind and shape, and then a line for each candidate: its cursor, its pairs in start ranks, and who moves down; the last line says 'end', or 'more' where the count was reached first.\n\nExample: arbiter candidates --bracket 1 --count 20 < report.trf",
-        },
-    );
-    with_options(alloc, command, &CANDIDATES)
-}
-
-/// The command `explain`.
-#[tactic(auto, unfolding(crate::specs::CommandLine::explain_app, crate::specs::CommandLine::with_round_rules))]
-pub fn explain_command<'a>(alloc: Global) -> Made<'a>
-    ensures app { IfOk result (λ command. app_of command ≡ explain_app) }
-    ensures local { IfOk result (λ command. (fields_of command).has_globals ≡ false) }
-{
-    let command = described(
-        alloc,
-        "explain",
-        HelpTexts {
-            about: "Tells why the next round is paired as it is, bracket by bracket, or for one player",
-            usage: "arbiter explain [OPTIONS] < REPORT",
-            after_help: "The report is read from standard input. Printed are the round, and for each bracket its players with their scores, what is chosen in it, the criteria that count against that (C.6 to C.19; lists of score differences, the highest first), and each board with the rule of article E that decided its colours. With --player it is told of him and of his brackets, and with --instead the first rule that keeps him from this one. With --words it is told in sentences and with names.\n\nExamples:\n  arbiter explain < report.trf\n  arbiter explain --player 5 --instead 4 < report.trf\n  arbiter explain --player 5 --instead 0 < report.trf\n  arbiter explain --words --player 5 < report.trf",
-        },
-    );
-    with_options(alloc, command, &EXPLAIN)
-}
-
-/// The command `standings`.
-pub fn standings_command<'a>(alloc: Global) -> Made<'a>
-    ensures app { IfOk result (λ command. app_of command ≡ standings_app) }
-    ensures local { IfOk result (λ command. (fields_of command).has_globals ≡ false) }
-{
-    let command = described(
-        alloc,
-        "standings",
-        HelpTexts {
-            about: "Ranks the players by score and by the keys that break ties",
-            usage: "arbiter standings [OPTIONS] < REPORT",
-            after_help: "The report is read from standard input. Printed is a line for each player: place, start rank, score, and the keys.\n\nExample: arbiter standings --by buchholz,sb < report.trf",
-        },
-    );
-    with_options(alloc, command, &STANDINGS)
-}
-
-/// A command with some more options.
-pub fn with_options<'a>(alloc: Global, command: Command<'a>, options: &[OptionName]) -> Made<'a>
+// A command with some more options.
+fn with_options<'a>(alloc: Global, command: Command<'a>, options: &[OptionName]) -> Made<'a>
     ensures app { IfOk result (λ made. app_of made ≡ with_options (app_of command.entry) options.now) }
     ensures local { IfOk result (HasSameGlobals command.entry) }
 {
@@ -162,17 +191,6 @@ pub fn with_options<'a>(alloc: Global, command: Command<'a>, options: &[OptionNa
         made = with_option(made, option_for(alloc, *option))?;
     }
     Ok(made)
-}
-
-/// The texts of a command's help.
-#[derive(Clone, Copy)]
-pub struct HelpTexts<'a> {
-    /// What the command does, in a line.
-    pub about: &'a str,
-    /// How it is called: a report is read from standard input, and no file is named.
-    pub usage: &'a str,
-    /// What is read and printed, with examples.
-    pub after_help: &'a str,
 }
 
 /// A command with the texts of its help, and with no options yet.

@@ -11,7 +11,7 @@ use tiebreak::Key;
 const MOST: usize = 3;
 
 /// Keys in the order in which they count: three at most, and none twice.
-#[derive(Debug, Drop)]
+#[derive(Drop)]
 pub struct Keys {
     keys: [Key; MOST],
     count: usize,

@@ -1,10 +1,11 @@
 // The options of the commands, from what clap makes of the words.
 ghost use Rattle.std.specs.Prelude.{◌≡◌, ℕ, List, Bool, option_map, codes, if◌then◌else◌};
 ghost use Rattle.clap.specs.Words.{first_of};
-ghost use Rattle.requests.specs.Options.{boards_options, bracket_in, bye_in, candidates_options, check_options};
+ghost use Rattle.requests.specs.Options.{boards_options, bye_in, candidates_options, check_options};
 ghost use Rattle.requests.specs.Options.{count_in, explain_options, flag_in, format_options, from_in, initial_in};
-ghost use Rattle.requests.specs.Options.{keys_by, number_in, pair_options, question_by, round_in, rounds_in, rows_in};
+ghost use Rattle.requests.specs.Options.{keys_by, number_in, pair_options, question_by, rows_in};
 ghost use Rattle.requests.specs.Options.{shown_by, standings_options, steps_in, u16_max, wording_by};
+ghost use Rattle.trf16.specs.declared.limits.TheConstants.{MOST_ROUNDS};
 
 use crate::keys::{Keys, keys_in};
 use clap::ArgMatches;
@@ -12,7 +13,7 @@ use std::marker::Model;
 use trf16::{Colour, MOST_ROUNDS};
 
 /// What is wrong with words that clap lets pass.
-#[derive(Debug, Clone, Copy, PartialEq, Eq)]
+#[derive(Clone, Copy)]
 pub enum WordFault {
     /// `--initial` is neither `white` nor `black`.
     BadColour,
@@ -27,14 +28,14 @@ pub enum WordFault {
 }
 
 /// What is asked of `check`.
-#[derive(Debug, Clone, Copy, PartialEq, Eq)]
+#[derive(Clone, Copy)]
 pub struct CheckOptions {
     /// Whether it is told too what looks like a mistake.
     pub notes: bool,
 }
 
 /// What is asked of `format`.
-#[derive(Debug, Clone, Copy, PartialEq, Eq)]
+#[derive(Clone, Copy)]
 pub struct FormatOptions {
     /// Whether each points field is written as a sum, and compared with none.
     pub points: bool,
@@ -45,7 +46,7 @@ pub struct FormatOptions {
 }
 
 /// What is asked of `pair`.
-#[derive(Debug, Clone, Copy, PartialEq, Eq)]
+#[derive(Clone, Copy)]
 pub struct PairOptions {
     /// The round before which the report is taken as it stood, where the words name one: at most `MOST_ROUNDS`.
     pub round: Option<u8>,
@@ -60,7 +61,7 @@ pub struct PairOptions {
 }
 
 /// What is printed of a new round.
-#[derive(Debug, Clone, Copy, PartialEq, Eq)]
+#[derive(Clone, Copy)]
 pub enum Shown {
     /// The boards, in start ranks.
     Boards,
@@ -71,7 +72,7 @@ pub enum Shown {
 }
 
 /// What is asked of `boards`.
-#[derive(Debug, Clone, Copy, PartialEq, Eq)]
+#[derive(Clone, Copy)]
 pub struct BoardsOptions {
     /// The round whose boards are wanted, where the words name one: at most `MOST_ROUNDS`; else the last that was paired.
     pub round: Option<u8>,
@@ -80,7 +81,7 @@ pub struct BoardsOptions {
 }
 
 /// What is asked of `explain`.
-#[derive(Debug, Clone, Copy, PartialEq, Eq)]
+#[derive(Clone, Copy)]
 pub struct ExplainOptions {
     /// What is asked of one player; else the whole round is explained.
     pub question: Option<Question>,
@@ -97,7 +98,7 @@ pub struct ExplainOptions {
 }
 
 /// How the lines of an explanation are worded.
-#[derive(Debug, Clone, Copy, PartialEq, Eq)]
+#[derive(Clone, Copy)]
 pub enum Wording {
     /// As codes, for programs and for people who know them.
     Plain,
@@ -106,7 +107,7 @@ pub enum Wording {
 }
 
 /// What is asked of one player.
-#[derive(Debug, Clone, Copy, PartialEq, Eq)]
+#[derive(Clone, Copy)]
 pub struct Question {
     /// The player's start rank.
     pub player: u16,
@@ -115,7 +116,7 @@ pub struct Question {
 }
 
 /// What is asked of `standings`.
-#[derive(Debug, Drop)]
+#[derive(Drop)]
 pub struct StandingsOptions {
     /// What players of one score are told apart by.
     pub keys: Keys,
@@ -128,7 +129,7 @@ pub struct StandingsOptions {
 }
 
 /// What is asked of `candidates`.
-#[derive(Debug, Drop)]
+#[derive(Drop)]
 pub struct CandidatesOptions<'a> {
     /// The number of the bracket, from 1.
     pub bracket: u16,
@@ -147,7 +148,7 @@ pub struct CandidatesOptions<'a> {
 }
 
 /// The text of a cursor.
-#[derive(Debug, Drop)]
+#[derive(Drop)]
 pub struct GivenCursor<'a> {
     text: &'a str,
 }
@@ -194,7 +195,7 @@ pub fn format_options(matches: &ArgMatches<'_>) -> FormatOptions
     FormatOptions {
         points: flag_in(matches, "points"),
         renumber: flag_in(matches, "renumber"),
-        round: round_in(matches),
+        round: few_rounds_in(matches, "round"),
     }
 }
 
@@ -206,8 +207,8 @@ pub fn pair_options(matches: &ArgMatches<'_>) -> Result<PairOptions, WordFault>
     let initial = initial_in(matches)?;
     let shown = shown_by(flag_in(matches, "report"), flag_in(matches, "names"))?;
     Ok(PairOptions {
-        round: round_in(matches),
-        rounds: rounds_in(matches),
+        round: few_rounds_in(matches, "round"),
+        rounds: few_rounds_in(matches, "rounds"),
         initial,
         steps: steps_in(matches),
         shown,
@@ -219,7 +220,7 @@ pub fn boards_options(matches: &ArgMatches<'_>) -> BoardsOptions
     ensures { result ≡ boards_options (rows_in matches.now) }
 {
     BoardsOptions {
-        round: round_in(matches),
+        round: few_rounds_in(matches, "round"),
         names: flag_in(matches, "names"),
     }
 }
@@ -234,8 +235,8 @@ pub fn explain_options(matches: &ArgMatches<'_>) -> Result<ExplainOptions, WordF
     let question = question_by(player, instead)?;
     Ok(ExplainOptions {
         question,
-        round: round_in(matches),
-        rounds: rounds_in(matches),
+        round: few_rounds_in(matches, "round"),
+        rounds: few_rounds_in(matches, "rounds"),
         initial,
         steps: steps_in(matches),
         wording: wording_by(flag_in(matches, "words")),
@@ -252,7 +253,7 @@ pub fn standings_options(matches: &ArgMatches<'_>) -> Result<StandingsOptions, W
         keys,
         names: flag_in(matches, "names"),
         games: flag_in(matches, "games"),
-        round: round_in(matches),
+        round: few_rounds_in(matches, "round"),
     })
 }
 
@@ -266,11 +267,12 @@ pub fn candidates_options<'a, S: CursorSyntax>(
     let initial = initial_in(matches)?;
     let from = from_in::<S>(matches)?;
     Ok(CandidatesOptions {
-        bracket: bracket_in(matches),
+        // no words that leave it out come here
+        bracket: number_in(matches, "bracket").unwrap_or(1),
         from,
         count: count_in(matches),
-        round: round_in(matches),
-        rounds: rounds_in(matches),
+        round: few_rounds_in(matches, "round"),
+        rounds: few_rounds_in(matches, "rounds"),
         initial,
         steps: steps_in(matches),
     })
@@ -358,13 +360,6 @@ fn from_in<'a, S: CursorSyntax>(
     }
 }
 
-// `--bracket`: the number of the bracket. No words that leave it out come here.
-fn bracket_in(matches: &ArgMatches<'_>) -> u16
-    ensures { result ≡ bracket_in (rows_in matches.now) }
-{
-    number_in(matches, "bracket").unwrap_or(1)
-}
-
 // The number of an option of 16 bits.
 fn number_in(matches: &ArgMatches<'_>, name: &str) -> Option<u16>
     ensures { result ≡ number_in u16_max name.now (rows_in matches.now) }
@@ -379,21 +374,13 @@ fn count_in(matches: &ArgMatches<'_>) -> usize
     matches.get_one::<usize>("count").unwrap_or(100)
 }
 
-// `--round`: the round that is asked for. No words with a greater one come here.
-fn round_in(matches: &ArgMatches<'_>) -> Option<u8>
-    ensures { result ≡ round_in (rows_in matches.now) }
+// `--round`, the round that is asked for, or `--rounds`, the number of rounds of the tournament. No words with a greater
+// one come here.
+fn few_rounds_in(matches: &ArgMatches<'_>, name: &str) -> Option<u8>
+    ensures { result ≡ number_in MOST_ROUNDS name.now (rows_in matches.now) }
 {
     matches
-        .get_one::<u8>("round")
-        .filter(|round| usize::from(*round) <= MOST_ROUNDS)
-}
-
-// `--rounds`: the number of rounds of the tournament. No words with a greater one come here.
-fn rounds_in(matches: &ArgMatches<'_>) -> Option<u8>
-    ensures { result ≡ rounds_in (rows_in matches.now) }
-{
-    matches
-        .get_one::<u8>("rounds")
+        .get_one::<u8>(name)
         .filter(|rounds| usize::from(*rounds) <= MOST_ROUNDS)
 }
 

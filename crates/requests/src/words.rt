@@ -3,18 +3,14 @@ ghost use Rattle.std.specs.Prelude.{◌≡◌, ◌++◌, ◌∷◌, [], IfOk, ma
 ghost use Rattle.clap.specs.declared.Command.{out-Command as fields_of};
 ghost use Rattle.clap.specs.Words.{app_of, kind_of, new_app, subcommand_rows_of};
 ghost use Rattle.dutch_order.specs.Prelude.{has_syntax};
-ghost use Rattle.requests.specs.CommandLine.{HasSameGlobals};
+ghost use Rattle.requests.specs.CommandLine.{HasSameGlobals, app_for};
 ghost use Rattle.requests.specs.Options.{rows_in};
 ghost use Rattle.requests.specs.Words.{ComesTo, FitsKind, asked_by, candidates_request, explain_request, meant};
 ghost use Rattle.requests.specs.Words.{pair_request, request_of, standings_request, task_by, task_of, with_bye};
-ghost use Rattle.requests.specs.Words.{app_for, arbiter_app, check_app, format_app, settled, versioned, with_command};
+ghost use Rattle.requests.specs.Words.{arbiter_app, settled, versioned, with_command};
 ghost use Rattle.requests.specs.Words.{with_commands, without_help};
 
-use crate::arguments::OptionName;
-use crate::commands::{
-    HelpTexts, Made, boards_command, candidates_command, described, explain_command, pair_command,
-    standings_command, with_options,
-};
+use crate::commands::{COMMANDS, CommandName, HelpTexts, Made, command_for, described};
 use crate::options::{
     BoardsOptions, CandidatesOptions, CheckOptions, CursorSyntax, ExplainOptions, FormatOptions,
     PairOptions, StandingsOptions, WordFault, boards_options, bye_in, candidates_options,
@@ -26,7 +22,7 @@ use dutch_order::Cursor;
 use std::alloc::{AllocError, Global};
 
 /// A command of the program, with its options.
-#[derive(Debug, Drop)]
+#[derive(Drop)]
 pub enum Request<'a> {
     /// Tells whether a report is accepted.
     Check(CheckOptions),
@@ -44,20 +40,8 @@ pub enum Request<'a> {
     Standings(StandingsOptions),
 }
 
-// Which command of the program is meant.
-#[derive(Clone, Copy)]
-enum CommandName {
-    Check,
-    Format,
-    Pair,
-    Boards,
-    Candidates,
-    Explain,
-    Standings,
-}
-
 /// A request, and what its report is read by.
-#[derive(Debug, Drop)]
+#[derive(Drop)]
 pub struct Task<'a> {
     /// What is asked for.
     pub request: Request<'a>,
@@ -66,7 +50,7 @@ pub struct Task<'a> {
 }
 
 /// What the words of a command line come to.
-#[derive(Debug, Drop)]
+#[derive(Drop)]
 pub enum Meaning<'a> {
     /// They ask for a command.
     Command(Task<'a>),
@@ -244,17 +228,6 @@ fn told<'a>(alloc: Global, error: &Error) -> Result<Meaning<'a>, AllocError>
     }
 }
 
-// The commands of the program, in the order in which help lists them.
-const COMMANDS: [CommandName; 7] = [
-    CommandName::Check,
-    CommandName::Format,
-    CommandName::Pair,
-    CommandName::Boards,
-    CommandName::Candidates,
-    CommandName::Explain,
-    CommandName::Standings,
-];
-
 // The program's command line.
 #[tactic(auto, unfolding(crate::specs::Words::arbiter_app, crate::specs::Words::with_engine))]
 fn arbiter_command<'a>(alloc: Global) -> Made<'a>
@@ -302,22 +275,6 @@ fn with_command<'a>(command: Command<'a>, more: Command<'a>) -> Made<'a>
     command.subcommand(more)
 }
 
-// A command of the program.
-fn command_for<'a>(alloc: Global, which: CommandName) -> Made<'a>
-    ensures app { IfOk result (λ command. app_of command ≡ app_for which) }
-    ensures local { IfOk result (λ command. (fields_of command).has_globals ≡ false) }
-{
-    match which {
-        CommandName::Check => check_command(alloc),
-        CommandName::Format => format_command(alloc),
-        CommandName::Pair => pair_command(alloc),
-        CommandName::Boards => boards_command(alloc),
-        CommandName::Candidates => candidates_command(alloc),
-        CommandName::Explain => explain_command(alloc),
-        CommandName::Standings => standings_command(alloc),
-    }
-}
-
 // The name and the texts of the program.
 #[tactic(auto, unfolding(crate::specs::Words::versioned))]
 fn named<'a>(alloc: Global) -> Made<'a>
@@ -337,7 +294,8 @@ fn named<'a>(alloc: Global) -> Made<'a>
     .bin_name("arbiter")
 }
 
-// A command that takes all words as arguments, and wants a command among them.
+// A command that takes all words as arguments, and wants a command among them. clap adds the command `help` to those that
+// help lists; `meant` leaves it no words to answer.
 #[tactic(auto, unfolding(crate::specs::Words::settled))]
 fn with_settings<'a>(command: Command<'a>) -> Command<'a>
     ensures app { app_of result ≡ settled (app_of command.entry) }
@@ -345,54 +303,6 @@ fn with_settings<'a>(command: Command<'a>) -> Command<'a>
 {
     command
         .no_binary_name(true)
-        .disable_help_subcommand(true)
         .subcommand_required(true)
         .arg_required_else_help(true)
-}
-
-// The options of `check`.
-const CHECK: [OptionName; 2] = [OptionName::Notes, OptionName::Bye];
-
-// The options of `format`.
-const FORMAT: [OptionName; 4] = [
-    OptionName::Points,
-    OptionName::Renumber,
-    OptionName::Round,
-    OptionName::Bye,
-];
-
-// The command `check`.
-#[tactic(auto, unfolding(crate::specs::Words::check_app))]
-fn check_command<'a>(alloc: Global) -> Made<'a>
-    ensures app { IfOk result (λ command. app_of command ≡ check_app) }
-    ensures local { IfOk result (λ command. (fields_of command).has_globals ≡ false) }
-{
-    let command = described(
-        alloc,
-        "check",
-        HelpTexts {
-            about: "Tells how many players and rounds the report has, or why it is refused",
-            usage: "arbiter check [OPTIONS] < REPORT",
-            after_help: "The report is read from standard input. Printed are the numbers of its players and of the rounds that were paired; why it is refused goes to standard error.\n\nExample: arbiter check < report.trf",
-        },
-    );
-    with_options(alloc, command, &CHECK)
-}
-
-// The command `format`.
-#[tactic(auto, unfolding(crate::specs::Words::format_app))]
-fn format_command<'a>(alloc: Global) -> Made<'a>
-    ensures app { IfOk result (λ command. app_of command ≡ format_app) }
-    ensures local { IfOk result (λ command. (fields_of command).has_globals ≡ false) }
-{
-    let command = described(
-        alloc,
-        "format",
-        HelpTexts {
-            about: "Writes the report in canonical columns, or tells why it is refused",
-            usage: "arbiter format [OPTIONS] < REPORT",
-            after_help: "The report is read from standard input. Printed is each player's line in TRF16's columns, and each other line as it stands.\n\nExample: arbiter format < report.trf > canonical.trf",
-        },
-    );
-    with_options(alloc, command, &FORMAT)
 }

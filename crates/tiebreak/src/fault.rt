@@ -3,19 +3,15 @@ ghost use Rattle.std.specs.Prelude.{◌≡◌};
 ghost use Rattle.tiebreak.specs.declared.fault.TieFault.TheVariants.{OutOfMemory};
 
 use std::alloc::{AllocError, AllocFailed};
-use thiserror::Error;
 
 /// Why a report has no standings. Lines and rounds count from 1.
-#[derive(Debug, Clone, Copy, PartialEq, Eq, Error)]
+#[derive(Debug, Clone, Copy, PartialEq)]
 pub enum TieFault {
     /// A game has no result yet.
-    #[error("player {player} round {round}: unfinished")]
     Unfinished { player: u16, round: usize },
     /// A line `XXS`.
-    #[error("line {line}: unsupported")]
     Unsupported { line: usize },
     /// Memory was refused.
-    #[error("out of memory")]
     OutOfMemory,
 }
 

@@ -5,6 +5,7 @@ use Rattle.std.proofs.Math.Nat.{pow-le-pow_right}
 use Rattle.std.proofs.lemmas.List.{take_more, drop_more, get_or-drop, length-drop}
 use Rattle.std.proofs.lemmas.Bool.Decides.{eqb_tells}
 use Rattle.std.proofs.lemmas.List.Folds.{list_all-append}
+use Rattle.std.proofs.Math.Bool.{and-true}
 use Rattle.trf16.specs.Prelude.{words, without_last}
 
 pub words-blank : (rest : List ℕ) → words (32 ∷ rest) ≡ words rest
@@ -76,3 +77,13 @@ pub below-power : (whole i most : ℕ) → whole + 1 ≤ 10 ^ i → i ≤ most �
 below-power whole i most digits few =
     let more : 10 ^ i ≤ 10 ^ most = pow-le-pow_right (omega arith) few in
     omega (arith, digits, more)
+
+-- items at the end of a list that pass a test
+without_last-all : {X : Type 0} (test : X → Bool) (xs : List X) → list_all test xs ≡ true → without_last test xs ≡ []
+without_last-all test [] h = refl
+without_last-all test (x ∷ xs) h = rw h refl
+
+pub without_last-append : {X : Type 0} (test : X → Bool) (xs ys : List X) → list_all test ys ≡ true → without_last test (xs ++ ys) ≡ without_last test xs
+without_last-append test [] ys h = without_last-all test ys h
+without_last-append test (x ∷ xs) ys h =
+    rw (list_all-append test xs ys, h, and-true (list_all test xs), without_last-append test xs ys h) refl

@@ -1,15 +1,17 @@
 -- Reading one thing after the other, as a loop does.
-use Rattle.std.proofs.Common.{◌≡◌, ℕ, Bool, true, false, nat_lt, subst, ◌||◌, suc, ◌-◌, ◌+◌, ◌<◌, ◌≤◌, get_or, drop, List, [], ◌∷◌, ◌++◌, length, Result, Ok, Err, refl, sym, ap, ◌∙◌, append_assoc, arith}
+use Rattle.std.proofs.Common.{◌≡◌, ℕ, Bool, true, false, nat_lt, subst, ◌||◌, zero, suc, replicate, ◌-◌, ◌+◌, ◌<◌, ◌≤◌, get_or, drop, List, [], ◌∷◌, ◌++◌, length, Result, Ok, Err, refl, sym, ap, ◌∙◌, append_assoc, arith}
 use Rattle.std.specs.Prelude.{MatchResult, is_ok}
+use Rattle.std.specs.List.{list_all}
 use Rattle.std.specs.Result.{IsErrAnd}
 use Rattle.std.proofs.lemmas.Result.{err_from_is_err_and}
 use Rattle.std.proofs.lemmas.List.{drop_more, drop_all}
 use Rattle.std.specs.Str.{is_utf8, IsUtf8}
 use Rattle.std.proofs.lemmas.Str.{is_utf8-from_IsUtf8, IsUtf8-from_is_utf8}
 use Rattle.trf16.specs.declared.cell.Cell.{Cell}
+use Rattle.trf16.specs.declared.cell.Cell.TheVariants.{Blank}
 use Rattle.trf16.specs.declared.fault.Fault.{Fault}
 use Rattle.trf16.specs.declared.fault.Fault.TheVariants.{BadNumber, Duplicate, Misaligned, BadCell, BadExtension, TooMany, NoPlayers, NoSuchOpponent, SelfOpponent, NotMutual, Colours, Results, Points, OutOfMemory}
-use Rattle.trf16.specs.Prelude.{blank_at, blanks_at, round_at, rounds_at, is_player, line_onto, lines_onto, has_too_many_rounds, without_players, sized, laid_out, Sheet, columns, lines, without_marks, Fails, Gives}
+use Rattle.trf16.specs.Prelude.{blank_at, blanks_at, round_at, rounds_at, is_blank_cell, is_player, line_onto, lines_onto, has_too_many_rounds, without_players, sized, laid_out, Sheet, columns, lines, without_marks, Fails, Gives}
 use Rattle.trf16.specs.Outcomes.{◌>>=◌}
 use Rattle.trf16.proofs.LineSteps.{line_keeps, line_adds}
 use Rattle.trf16.specs.declared.limits.TheConstants.{MOST_BYTES, MOST_ROUNDS}
@@ -144,3 +146,8 @@ pub accepted-gives : (sheet : Sheet) (fits given : Result (Unit {0}) Fault) (ans
 accepted-gives sheet (Ok x) given answer whole is fit e = rw is (e ∙ ap (λ (g : Result (Unit {0}) Fault). g >>= λ _. Ok sheet) fit)
 accepted-gives sheet (Err fault) given answer whole is fit e =
     rw is (Fails-on fault given whole (λ f g. e ∙ ap (λ (r : Result (Unit {0}) Fault). r >>= λ _. Ok sheet) g) fit)
+
+-- blank cells say nothing
+pub all_are_blank : (n : ℕ) → list_all is_blank_cell (replicate n Blank) ≡ true
+all_are_blank zero = refl
+all_are_blank (suc n) = all_are_blank n

@@ -9,7 +9,7 @@ use Rattle.std.specs.Prelude.{option_map}
 use Rattle.std.proofs.lemmas.List.{map-append, take_more, length-take-le}
 use Rattle.trf16.specs.declared.player.Player.{Player}
 use Rattle.trf16.specs.declared.cell.Cell.{Cell}
-use Rattle.trf16.specs.Prelude.{player_of, Entry, entry_of, cells_of, is_paired, last_paired}
+use Rattle.trf16.specs.Prelude.{player_of, Entry, entry_of, cells_of, is_paired, last_paired, starts_of}
 
 eq-sym : (a b : ℕ) → nat_eq a b ≡ nat_eq b a
 eq-sym a b = grind (arith, nat_tests)
@@ -34,6 +34,11 @@ known-lookup (e ∷ es) start keyed =
 pub entries-values : (es : List (ℕ × Player)) → map entry_of (map (λ e. e.1) es) ≡ map (λ e. entry_of e.1) es
 entries-values [] = refl
 entries-values (e ∷ es) = ap (λ (rest : List Entry). entry_of e.1 ∷ rest) (entries-values es)
+
+-- the start ranks of the players of a map are those of what it says of them
+pub starts-entries : (es : List (ℕ × Player)) → map (λ e. e.1.start) es ≡ starts_of (map (λ e. entry_of e.1) es)
+starts-entries [] = refl
+starts-entries (e ∷ es) = ap (λ (starts : List ℕ). e.1.start ∷ starts) (starts-entries es)
 
 pub none_from : {X : Type 0} (o : Option X) → is_some o ≡ false → o ≡ None
 none_from None e = refl

@@ -9,7 +9,7 @@ pub enum Colour {
 }
 
 /// A round without an opponent, for which points may be given (TRF16: `H`, `F`, `U`, `Z`).
-#[derive(Debug, Clone, Copy, PartialEq, Eq)]
+#[derive(Clone, Copy, PartialEq)]
 pub enum Bye {
     /// `H`: a requested bye of half a point.
     Half,
@@ -22,7 +22,7 @@ pub enum Bye {
 }
 
 /// How a game ended for the player of the cell.
-#[derive(Debug, Clone, Copy, PartialEq, Eq)]
+#[derive(Clone, Copy, PartialEq)]
 pub enum GameOutcome {
     /// 2 half points.
     Win,
@@ -33,7 +33,7 @@ pub enum GameOutcome {
 }
 
 /// Opponent, colour and result of a player in a round. An opponent is named by a start rank, 1 to 9999.
-#[derive(Debug, Clone, Copy, PartialEq, Eq)]
+#[derive(Clone, Copy, PartialEq)]
 pub enum Cell {
     /// Nothing is said of the round.
     Blank,

@@ -4,14 +4,12 @@ ghost use Rattle.std.specs.Io.KnownBytes.{ReadConsumes, WriteAppends};
 ghost use Rattle.trf16.specs.Devices.{CountsFailure, CountsOne, inner_of, calls_of, failures_of};
 
 use std::io::{Read, Write};
-use thiserror::Error;
 
 /// The largest count of calls or failures: a count that has reached it stays as it is.
 pub const MOST_COUNTED: u64 = u64::MAX;
 
 /// A call of a device failed.
-#[derive(Debug, Clone, Copy, PartialEq, Eq, Error)]
-#[error("the device failed")]
+#[derive(Debug, Clone, Copy, PartialEq)]
 pub struct Failed;
 
 /// What bytes are read from, one call at a time. An answer of 0 to a call with room is the end.
@@ -56,7 +54,7 @@ pub trait Sink {
 
 /// Any reader or writer of std as a device: its calls and failures are counted, each of the two up
 /// to [`MOST_COUNTED`].
-#[derive(Debug, Drop)]
+#[derive(Drop)]
 pub struct Counted<T> {
     inner: T,
     calls: u64,

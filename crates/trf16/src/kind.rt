@@ -1,7 +1,7 @@
 // The kinds of lines that are known and not supported by every call.
 
 /// A kind of line that changes what a report means.
-#[derive(Debug, Clone, Copy, PartialEq, Eq)]
+#[derive(Clone, Copy)]
 pub enum LineKind {
     /// `XXA`: accelerated pairings.
     Xxa,

@@ -1,8 +1,8 @@
-//! Tournament reports in TRF16 columns: reading them, with every refusal named, asking what they say, and writing them.
+//! Tournament reports in TRF16 columns: reading them, with every refusal named, and asking what they say. The crate
+//! `trf16_writer` writes them, and makes a report of another one.
 //!
 //! `read` gives the report that a text is, or the first rule that it breaks, in one stated order. A question to a
-//! `Report` gives the value of its definition over the report's lines. `write` gives the canonical text, and what it
-//! writes reads back as the same report.
+//! `Report` gives the value of its definition over the report's lines.
 //!
 //! A report borrows its text. Beside the text it keeps its players with their cells, at most 1,024 players of 64
 //! rounds; a mark for each start rank; and if a line `XXP` names players, a mark for each two players. The text is
@@ -16,7 +16,6 @@
 
 mod answering;
 mod apart;
-mod before_round;
 mod carried_lines;
 mod cell;
 mod cells;
@@ -29,11 +28,10 @@ mod fields;
 mod grammar;
 mod keeping_apart;
 mod kind;
-pub mod laws;
 mod limits;
 mod lines;
+mod made;
 mod marking;
-pub mod meetings;
 mod named;
 mod names;
 mod notes;
@@ -43,11 +41,7 @@ mod player;
 mod queries;
 mod reading;
 mod report;
-mod round;
 mod start_ranks;
-mod summed;
-mod turn;
-mod writing;
 
 pub use carried_lines::CarriedLines;
 pub use cell::{Bye, Cell, Colour, GameOutcome};
@@ -62,6 +56,5 @@ pub use limits::{LAST_COLUMN, MOST_BYTES, MOST_PLAYERS, MOST_ROUNDS};
 pub use lines::{next_line, skip_marks};
 pub use output::put_all;
 pub use player::Player;
-pub use reading::{read, read_unsummed, read_with};
+pub use reading::{read, read_unsummed, read_with, said_len};
 pub use report::Report;
-pub use writing::{put_player_line, write};

@@ -28,7 +28,10 @@ impl<'a> Player<'a> {
     ghost use Rattle.trf16.specs.Sheet.{entry_of};
 
     /// The same once more.
-    pub(crate) fn copy(&self, alloc: Global) -> Result<Player<'a>, AllocError>
+    ///
+    /// # Errors
+    /// Memory was refused.
+    pub fn copy(&self, alloc: Global) -> Result<Player<'a>, AllocError>
         ensures { IfOk result (λ player. entry_of player ≡ entry_of self.now) }
     {
         Ok(Player {

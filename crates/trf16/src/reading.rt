@@ -138,7 +138,7 @@ fn is_blank_cell(cell: &Cell) -> bool
 }
 
 // How many cells there are up to the last that is not blank.
-pub(crate) fn said_len(cells: &[Cell]) -> usize
+pub fn said_len(cells: &[Cell]) -> usize
     ensures value { take result cells.now ≡ without_last is_blank_cell cells.now }
     ensures within { result ≤ length cells.now }
 {

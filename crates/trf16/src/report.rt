@@ -1,9 +1,12 @@
 // A report that was accepted, and what it says.
 ghost use Rattle.std.specs.Prelude.{◌≡◌, ◌<◌, ◌≤◌, ◌*◌, map, length, option_copied, option_map, IfSome, [], sum_by};
+ghost use Rattle.std.specs.Prelude.{nat_eq};
+ghost use Rattle.std.specs.List.{IsDistinct};
 ghost use Rattle.std.specs.Option.{option_map_or};
 ghost use Rattle.trf16.specs.Names.{player_of};
 ghost use Rattle.trf16.specs.Sheet.{entry_of, known, cells_of, cell_in, carried_in, half_points, last_paired_of};
 ghost use Rattle.trf16.specs.Sheet.{rounds_played};
+ghost use Rattle.trf16.specs.StartRanks.{starts_of};
 ghost use Rattle.trf16.specs.Steps.{carried_as};
 ghost use Rattle.trf16.specs.declared.limits.TheConstants.{MOST_PLAYERS, MOST_ROUNDS};
 
@@ -78,6 +81,14 @@ impl<'a> Report<'a> {
         ensures few { length result ≤ MOST_PLAYERS }
     {
         self.players.values()
+    }
+
+    /// How many players there are; no two of them have the same start rank.
+    pub fn count(&self) -> usize
+        ensures count { result ≡ length self.now.players }
+        ensures own { IsDistinct nat_eq (starts_of self.now.players) }
+    {
+        self.players.len()
     }
 
     /// The total of rounds that a line `XXR` names, 1 to `MOST_ROUNDS`.

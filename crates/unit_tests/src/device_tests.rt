@@ -14,13 +14,17 @@ impl Read for Interrupted {
     }
 }
 
-// Takes no byte, and calls it done.
+// Takes as many bytes as it has room for, and then none, and calls it done.
 #[derive(Drop)]
-struct Stuck;
+struct Small {
+    room: usize,
+}
 
-impl Write for Stuck {
-    fn write(&mut self, _piece: &[u8]) -> io::Result<usize> {
-        Ok(0)
+impl Write for Small {
+    fn write(&mut self, piece: &[u8]) -> io::Result<usize> {
+        let count = piece.len().min(self.room);
+        self.room -= count;
+        Ok(count)
     }
 
     fn flush(&mut self) -> io::Result<()> {
@@ -56,7 +60,8 @@ fn writer_holds_what_was_put(rt: HostRuntime) {
 
 #[test]
 fn writer_that_takes_nothing_fails(rt: HostRuntime) {
-    let mut writer = Counted::new(Stuck);
-    assert_eq!(rt; writer.put(b"001"), Err(Failed));
+    let mut writer = Counted::new(Small { room: 2 });
+    assert_eq!(rt; writer.put(b"001"), Ok(2));
+    assert_eq!(rt; writer.put(b"1"), Err(Failed));
     assert_eq!(rt; writer.put(b""), Ok(0));
 }

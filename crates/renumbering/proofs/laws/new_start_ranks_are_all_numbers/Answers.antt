@@ -1,4 +1,4 @@
-use Rattle.trf16.proofs.StartRanks.{own_starts}
+use Rattle.trf16_writer.proofs.StartRanks.{own_starts}
 use Rattle.renumbering.proofs.NewStarts.{new_onto}
 use Rattle.renumbering.proofs.laws.new_start_ranks_are_all_numbers.Goals as goal
 

@@ -1,4 +1,4 @@
-use Rattle.trf16.proofs.StartRanks.{own_starts}
+use Rattle.trf16_writer.proofs.StartRanks.{own_starts}
 use Rattle.renumbering.proofs.Twice.{few_players, renumbered_twice}
 use Rattle.renumbering.proofs.laws.renumbering_twice_is_renumbering_once.Goals as goal
 

@@ -1,7 +1,8 @@
 use Rattle.std.proofs.Common.{map}
 use Rattle.std.specs.Prelude.{option_copied, option_map}
 use Rattle.std.proofs.lemmas.Result.{err_from_is_err_and}
-use Rattle.trf16.specs.Prelude.{entry_of, next_text, lines_text, renumbered_line}
+use Rattle.trf16.specs.Prelude.{entry_of, lines_text, renumbered_line}
+use Rattle.trf16_writer.specs.Steps.{next_text}
 use Rattle.trf16.proofs.OutputLemmas.{put_next, put_fails}
 use Rattle.renumbering.specs.Tables.{new_in}
 use Rattle.renumbering.proofs.LineLemmas.{lines_next}

@@ -1,5 +1,5 @@
 use Rattle.std.proofs.Common.{◌∷◌, []}
-use Rattle.trf16.proofs.WrittenText.{lines-line}
+use Rattle.trf16_writer.proofs.WrittenText.{lines-line}
 use Rattle.report_notes.proofs.AloneLemmas.{alone_has_bytes}
 use Rattle.report_notes.proofs.refusal.line_alone_has_bytes.Goals as goal
 

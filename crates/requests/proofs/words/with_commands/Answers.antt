@@ -3,7 +3,7 @@ use Rattle.std.proofs.lemmas.List.Sums.{fold_more}
 use Rattle.std.specs.List.{slice_index_or as get_or}
 use Rattle.clap.specs.Words.{app_of}
 use Rattle.requests.specs.Prelude.{app_for, with_command}
-use Rattle.requests.specs.declared.words.CommandName.TheVariants.{Check}
+use Rattle.requests.specs.declared.commands.CommandName.TheVariants.{Check}
 use Rattle.requests.proofs.words.with_commands.Goals as goal
 
 pub loop-name-preserved : goal.loop-name-preserved

@@ -3,8 +3,8 @@ use Rattle.trf16.specs.Prelude.{without_last, cells_at, rounds_at, is_blank_cell
 use Rattle.trf16.specs.declared.cell.Cell.{Cell}
 use Rattle.trf16.specs.declared.cell.Cell.TheVariants.{Blank}
 use Rattle.trf16.specs.declared.limits.TheConstants.{MOST_ROUNDS}
-use Rattle.trf16.proofs.WrittenFields.{without_last-append}
-use Rattle.trf16.proofs.WrittenPlayers.{all_are_blank}
+use Rattle.trf16.proofs.FieldLemmas.{without_last-append}
+use Rattle.trf16.proofs.ReadingLemmas.{all_are_blank}
 use Rattle.trf16.proofs.reading.cells_at.Goals as goal
 
 pub returns-clause-given : goal.returns-clause-given

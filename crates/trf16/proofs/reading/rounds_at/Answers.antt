@@ -4,7 +4,7 @@ use Rattle.trf16.specs.Prelude.{round_at, rounds_at}
 use Rattle.trf16.specs.declared.cell.Cell.TheVariants.{Blank}
 use Rattle.trf16.specs.declared.limits.TheConstants.{MOST_ROUNDS}
 use Rattle.trf16.proofs.ReadingLemmas.{behind, Fails-on, rounds-go_on, rounds-fail}
-use Rattle.trf16.proofs.WrittenRounds.{rounds-none}
+use Rattle.trf16.proofs.RoundSteps.{rounds-none}
 use Rattle.trf16.proofs.reading.rounds_at.Goals.{then-loop-cells-test+else-reaches, else-loop-cells-test}
 use Rattle.trf16.proofs.reading.rounds_at.Goals as goal
 

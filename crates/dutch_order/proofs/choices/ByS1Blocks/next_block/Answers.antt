@@ -8,8 +8,8 @@ use Rattle.dutch_order.proofs.choices.ByS1Blocks.next_block.Goals as goal
 pub start-requires-clause-same : goal.start-requires-clause-same
 start-requires-clause-same g c =
     let own = c.self.inside in
-    taken (λ a. a.s1) (HasS2 own.k own.residents.items) (λ a. a.s1 ≡ c.deref-2.result.now) (option_copied own.resume) _ c.put_next.new.numbers.items
-    c.take_by_s1-own.ensures.own c.self.invariant.2 (λ a has same. same ∙ sym c.deref-2.ensures.0)
+    taken (λ a. a.s1) (HasS2 own.k own.residents.items) (λ a. a.s1 ≡ c.put_next.new.numbers.items) (option_copied own.resume) _ c.put_next.new.numbers.items
+    c.take_by_s1-own.ensures.own c.self.invariant.2 (λ a has same. same)
 
 pub returns-clause-answer : goal.returns-clause-answer
 returns-clause-answer g c =
@@ -19,10 +19,7 @@ returns-clause-answer g c =
     let later = c.put_next.new.self.coming in
     let meets = g.R.Rule.meets own.rule.now in
     let made : joined c.start.new.self ≡ in_s1 meets own.k own.residents.items (if_own (λ a. a.s1) at s1) s1 =
-    c.start.ensures
-    ∙ ap (λ residents. in_s1 meets own.k residents (option_copied c.take_by_s1-own.result) c.deref-2.result.now) c.deref.ensures.0
-    ∙ ap (in_s1 meets own.k own.residents.items (option_copied c.take_by_s1-own.result)) c.deref-2.ensures.0
-    ∙ ap (λ taken. in_s1 meets own.k own.residents.items taken s1) c.take_by_s1-own.ensures.own in
+    c.start.ensures ∙ ap (λ taken. in_s1 meets own.k own.residents.items taken s1) c.take_by_s1-own.ensures.own in
     passes-none (AllByRecursion (g.C.Cuts.Idle c.args._cuts.now)) _ _
     (sym c.self.view_is
     ∙ block-comes (λ a. a.s1) (in_s1 meets own.k own.residents.items) at s1 own.sets.coming later (drawn _ _ _ c.if-not-branch.false c.in_ok-put_next.ensures.answer)

@@ -14,17 +14,21 @@ returns-in-Some g c =
     let k = c.args.from.now.k in
     let own = c.in-Some.cursor.now in
     let at_s1r = ap (λ i. (the_view i).s1r) c.cursor-inside.view_is ∙ ap (λ (a : Arrangement). a.s1r) c.cursor.view_is in
-    filled _ _ _ _ _ _ _ _ _ _ c.fill.ensures c.fill-2.ensures c.put_left_of.ensures.items
+    let residents = c.args.from.now.residents.now.items in
+    let left = c.put_left_of.ensures.items ∙ ap (λ numbers. left_of numbers c.deref-2.result.now) c.deref.ensures.0 ∙ ap (left_of residents) c.deref-2.ensures.0 in
+    filled _ _ _ _ _ _ _ _ _ _ c.refill.ensures c.refill-2.ensures left
     (c.start_from.ensures.coming
-    ∙ ap (λ set. from_on set (exchanges c.deref.result.now k)) (c.deref-in-Some.ensures.0 ∙ at_s1r)
-    ∙ ap (λ pool. from_on own.s1r (exchanges pool k)) (c.deref.ensures.0 ∙ c.put_left_of.ensures.items)
-    ∙ ap (λ other. choices_from (λ a. a.s1r) other (exchanges (left_of c.args.from.now.residents.now c.args.from.now.s2.now) k)) (sym (ap (λ lent. option_copied lent) c.in-Some.is)))
+    ∙ ap (λ set. from_on set (exchanges c.deref-in-Some.result.now k)) (c.deref-in-Some-2.ensures.0 ∙ at_s1r)
+    ∙ ap (λ pool. from_on own.s1r (exchanges pool k)) (c.deref-in-Some.ensures.0 ∙ left)
+    ∙ ap (λ other. choices_from (λ a. a.s1r) other (exchanges (left_of residents c.args.from.now.s2.now.items) k)) (sym (ap (λ lent. option_copied lent) c.in-Some.is)))
 
 pub returns-in-None : goal.returns-in-None
 unfolding in_s2
 returns-in-None g c =
     let k = c.args.from.now.k in
-    filled _ _ _ _ _ _ _ _ _ _ c.fill.ensures c.fill-2.ensures c.put_left_of.ensures.items
+    let residents = c.args.from.now.residents.now.items in
+    let left = c.put_left_of.ensures.items ∙ ap (λ numbers. left_of numbers c.deref-2.result.now) c.deref.ensures.0 ∙ ap (left_of residents) c.deref-2.ensures.0 in
+    filled _ _ _ _ _ _ _ _ _ _ c.refill.ensures c.refill-2.ensures left
     (c.start.ensures.coming
-    ∙ ap (λ pool. exchanges pool k) (c.deref-in-None.ensures.0 ∙ c.put_left_of.ensures.items)
-    ∙ ap (λ other. choices_from (λ a. a.s1r) other (exchanges (left_of c.args.from.now.residents.now c.args.from.now.s2.now) k)) (sym (ap (λ lent. option_copied lent) c.in-None.is)))
+    ∙ ap (λ pool. exchanges pool k) (c.deref-in-None.ensures.0 ∙ left)
+    ∙ ap (λ other. choices_from (λ a. a.s1r) other (exchanges (left_of residents c.args.from.now.s2.now.items) k)) (sym (ap (λ lent. option_copied lent) c.in-None.is)))

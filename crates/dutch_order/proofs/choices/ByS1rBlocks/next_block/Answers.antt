@@ -19,8 +19,8 @@ returns-then-cuts-clause-answer g c =
 pub start-requires-clause-same : goal.start-requires-clause-same
 start-requires-clause-same g c =
     let own = c.self.inside in
-    taken (λ a. a.s1r) (HasS2r own.remainder.items) (λ a. a.s1r ≡ c.deref-5.result.now) (option_copied own.resume) _ c.put_next_past.new.numbers.items
-    c.take_by_s1r-own.ensures.own c.self.invariant.1 (λ a has same. same ∙ sym c.deref-5.ensures.0)
+    taken (λ a. a.s1r) (HasS2r own.remainder.items) (λ a. a.s1r ≡ c.put_next_past.new.numbers.items) (option_copied own.resume) _ c.put_next_past.new.numbers.items
+    c.take_by_s1r-own.ensures.own c.self.invariant.1 (λ a has same. same)
 
 pub returns-clause-answer : goal.returns-clause-answer
 returns-clause-answer g c =
@@ -30,12 +30,7 @@ returns-clause-answer g c =
     let later = c.put_next_past.new.self.coming in
     let meets = g.R.Rule.meets own.rule.now in
     let made : c.start.new.self ≡ in_s1r meets own.s1.items own.s2.items own.remainder.items (if_own (λ a. a.s1r) at s1r) s1r =
-    c.start.ensures
-    ∙ ap (λ s1. in_s1r meets s1 c.deref-3.result.now c.deref-4.result.now (option_copied c.take_by_s1r-own.result) c.deref-5.result.now) c.deref-2.ensures.0
-    ∙ ap (λ s2. in_s1r meets own.s1.items s2 c.deref-4.result.now (option_copied c.take_by_s1r-own.result) c.deref-5.result.now) c.deref-3.ensures.0
-    ∙ ap (λ remainder. in_s1r meets own.s1.items own.s2.items remainder (option_copied c.take_by_s1r-own.result) c.deref-5.result.now) c.deref-4.ensures.0
-    ∙ ap (in_s1r meets own.s1.items own.s2.items own.remainder.items (option_copied c.take_by_s1r-own.result)) c.deref-5.ensures.0
-    ∙ ap (λ taken. in_s1r meets own.s1.items own.s2.items own.remainder.items taken s1r) c.take_by_s1r-own.ensures.own in
+    c.start.ensures ∙ ap (λ taken. in_s1r meets own.s1.items own.s2.items own.remainder.items taken s1r) c.take_by_s1r-own.ensures.own in
     let Idle = g.C.Cuts.Idle c.args.cuts.now in
     rw (← c.self.view_is) (passes-same (AllByRecursion Idle) _ _ _
     (comes Idle (λ a. a.s1r) (in_s1r meets own.s1.items own.s2.items own.remainder.items) (IdleS1r Idle own.s1.items own.s2.items) (idle-in-s1r Idle meets own.s1.items own.s2.items own.remainder.items) c.is_some.result at (c.is_some.ensures ∙ sym (some-lent own.resume)) own.sets.coming later s1r (drawn _ _ _ c.if-not-branch.false c.in_ok-put_next_past.ensures.answer))

@@ -33,19 +33,14 @@ returns-then-not-branch-clause-answer g c =
 pub start-requires-clause-enough : goal.start-requires-clause-enough
 start-requires-clause-enough g c =
     let own = c.self.inside in
-    subst (λ residents. own.k ≤ length (left_of residents c.deref-3.result.now)) (sym c.deref-2.ensures.0)
-    (subst (λ s2. own.k ≤ length (left_of own.residents.items s2)) (sym c.deref-3.ensures.0)
-    (passes-keeps _ (λ s2. own.k ≤ length (left_of own.residents.items s2)) _ _ (drawn _ _ _ c.if-not-branch.false c.in_ok-put_next_past.ensures.answer) c.self.invariant.1).0)
+    (passes-keeps _ (λ s2. own.k ≤ length (left_of own.residents.items s2)) _ _ (drawn _ _ _ c.if-not-branch.false c.in_ok-put_next_past.ensures.answer) c.self.invariant.1).0
 
 pub start-requires-clause-given : goal.start-requires-clause-given
 start-requires-clause-given g c =
     let own = c.self.inside in
-    taken (λ a. a.s2) (λ a. HasS1r own.k (left_of own.residents.items a.s2) a) (HasS1r own.k (left_of c.deref-2.result.now c.deref-3.result.now))
+    taken (λ a. a.s2) (λ a. HasS1r own.k (left_of own.residents.items a.s2) a) (HasS1r own.k (left_of own.residents.items c.put_next_past.new.numbers.items))
     (option_copied own.resume) _ c.put_next_past.new.numbers.items c.take_by_s2-own.ensures.own c.self.invariant.2
-    (λ a has same.
-    subst (λ remainder. HasS1r own.k remainder a)
-    (ap (left_of own.residents.items) (same ∙ sym c.deref-3.ensures.0) ∙ ap (λ residents. left_of residents c.deref-3.result.now) (sym c.deref-2.ensures.0))
-    has)
+    (λ a has same. subst (λ s2. HasS1r own.k (left_of own.residents.items s2) a) same has)
 
 pub returns-clause-answer : goal.returns-clause-answer
 returns-clause-answer g c =
@@ -56,11 +51,7 @@ returns-clause-answer g c =
     let later = c.put_next_past.new.self.coming in
     let meets = g.R.Rule.meets own.rule.now in
     let made : joined c.start.new.self ≡ in_s2 meets own.k own.s1.items own.residents.items (if_own (λ a. a.s2) at s2) s2 =
-    c.start.ensures
-    ∙ ap (λ s1. in_s2 meets own.k s1 c.deref-2.result.now (option_copied c.take_by_s2-own.result) c.deref-3.result.now) c.deref.ensures.0
-    ∙ ap (λ residents. in_s2 meets own.k own.s1.items residents (option_copied c.take_by_s2-own.result) c.deref-3.result.now) c.deref-2.ensures.0
-    ∙ ap (in_s2 meets own.k own.s1.items own.residents.items (option_copied c.take_by_s2-own.result)) c.deref-3.ensures.0
-    ∙ ap (λ taken. in_s2 meets own.k own.s1.items own.residents.items taken s2) c.take_by_s2-own.ensures.own in
+    c.start.ensures ∙ ap (λ taken. in_s2 meets own.k own.s1.items own.residents.items taken s2) c.take_by_s2-own.ensures.own in
     rw (← c.self.view_is) (passes-more (AllByRecursion Idle) _ _ _
     (comes Idle (λ a. a.s2) (in_s2 meets own.k own.s1.items own.residents.items) (IdleS2 Idle own.s1.items) (λ s2 idle. idle-in-s2 Idle own.s1.items s2 idle meets own.k own.residents.items) c.is_some.result at (c.is_some.ensures ∙ sym (some-lent own.resume)) _ later s2 (drawn _ _ _ c.if-not-branch.false c.in_ok-put_next_past.ensures.answer))
     (passes-none (AllByRecursion Idle) _ _

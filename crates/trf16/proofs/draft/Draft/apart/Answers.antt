@@ -4,7 +4,7 @@ use Rattle.std.proofs.lemmas.List.{length-map}
 use Rattle.trf16.specs.Prelude.{lines, some_carried, Entry, Sheet, entry_of, starts_of, without_players}
 use Rattle.trf16.specs.declared.player.Player.{Player}
 use Rattle.trf16.proofs.ApartLemmas.{told, told_none}
-use Rattle.trf16.proofs.RoundLemmas.{starts-entries}
+use Rattle.trf16.proofs.ReportLemmas.{starts-entries}
 use Rattle.trf16.proofs.draft.Draft.apart.Goals as goal
 
 size : (entries : List (ℕ × Player)) (players : List Entry) → map (λ e. entry_of e.1) entries ≡ players → length entries ≡ length players

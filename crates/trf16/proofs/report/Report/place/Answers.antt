@@ -4,7 +4,7 @@ use Rattle.std.specs.Map.{keys_of}
 use Rattle.std.proofs.lemmas.List.{length-map}
 use Rattle.trf16.specs.declared.player.Player.{Player}
 use Rattle.trf16.specs.Prelude.{Entry, Sheet, starts_of}
-use Rattle.trf16.proofs.RoundLemmas.{starts-entries}
+use Rattle.trf16.proofs.ReportLemmas.{starts-entries}
 use Rattle.trf16.proofs.ApartLemmas.{placed, some_so}
 use Rattle.trf16.proofs.report.Report.place.Goals as goal
 use Rattle.trf16.specs.declared.limits.TheConstants.{MOST_PLAYERS}

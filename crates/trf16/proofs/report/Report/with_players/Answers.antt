@@ -2,7 +2,7 @@ use Rattle.std.proofs.Common.{◌≡◌, ℕ, ◌≤◌, List, map, length, refl
 use Rattle.std.proofs.lemmas.List.{length-map}
 use Rattle.trf16.specs.Prelude.{lines, lines_carried, Entry, Sheet, entry_of, starts_of}
 use Rattle.trf16.specs.declared.player.Player.{Player}
-use Rattle.trf16.proofs.RoundLemmas.{starts-entries}
+use Rattle.trf16.proofs.ReportLemmas.{starts-entries}
 use Rattle.trf16.proofs.ApartLemmas.{apart_again}
 use Rattle.trf16.proofs.NoteLemmas.{tells_again}
 use Rattle.trf16.proofs.report.Report.with_players.Goals as goal

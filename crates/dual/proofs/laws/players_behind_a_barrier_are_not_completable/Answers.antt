@@ -1,6 +1,0 @@
--- The lemma.
-use Rattle.dual.proofs.Barriers.{not_completable}
-use Rattle.dual.proofs.laws.players_behind_a_barrier_are_not_completable.Goals as goal
-
-pub returns : goal.returns
-returns c = not_completable

@@ -1,5 +1,0 @@
-use Rattle.dutch_order.proofs.CursorArrangements.{of-in, in-of}
-use Rattle.dutch_order.proofs.laws.arrangements_are_of.Goals as goal
-
-pub returns : goal.returns
-returns c = λ frame shape a is-bracket. (of-in frame shape a is-bracket.within, in-of frame shape a is-bracket.within)

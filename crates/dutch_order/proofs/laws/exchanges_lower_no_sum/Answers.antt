@@ -1,5 +1,0 @@
-use Rattle.dutch_order.proofs.Gains.{sums_grow}
-use Rattle.dutch_order.proofs.laws.exchanges_lower_no_sum.Goals as goal
-
-pub returns : goal.returns
-returns c = sums_grow

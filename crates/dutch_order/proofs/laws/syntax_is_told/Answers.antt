@@ -1,6 +1,0 @@
-use Rattle.dutch_order.specs.Prelude.{parsed}
-use Rattle.dutch_order.proofs.CursorReads.{told}
-use Rattle.dutch_order.proofs.laws.syntax_is_told.Goals as goal
-
-pub returns : goal.returns
-returns c = λ frame shape bytes. told frame shape (parsed bytes)

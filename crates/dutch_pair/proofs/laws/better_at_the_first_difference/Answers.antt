@@ -1,5 +1,0 @@
-use Rattle.dutch_bracket.proofs.ItemOrder.{differ_first}
-use Rattle.dutch_pair.proofs.laws.better_at_the_first_difference.Goals as goal
-
-pub returns-clause-first : goal.returns-clause-first
-returns-clause-first c = differ_first

@@ -1,6 +1,0 @@
--- The law is the lemma on the test.
-use Rattle.dutch_bracket.proofs.Covering.{completable_by_test}
-use Rattle.dutch_pair.proofs.laws.completable_by_test.Goals as goal
-
-pub returns : goal.returns
-returns c = completable_by_test

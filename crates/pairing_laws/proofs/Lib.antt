@@ -1,0 +1,5 @@
+pub mod Covered
+pub mod GroupLaws
+pub mod StandsAbove
+pub mod DeadEndLaws
+pub mod BarrierLemmas

@@ -1,0 +1,5 @@
+use Rattle.dutch_order.proofs.Gains.{sums_grow}
+use Rattle.pairing_laws.proofs.arrangements.exchanges_lower_no_sum.Goals as goal
+
+pub returns : goal.returns
+returns c = sums_grow

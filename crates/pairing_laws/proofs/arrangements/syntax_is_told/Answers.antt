@@ -1,0 +1,6 @@
+use Rattle.dutch_order.specs.Prelude.{parsed}
+use Rattle.dutch_order.proofs.CursorReads.{told}
+use Rattle.pairing_laws.proofs.arrangements.syntax_is_told.Goals as goal
+
+pub returns : goal.returns
+returns c = λ frame shape bytes. told frame shape (parsed bytes)

@@ -1,0 +1,61 @@
+// The choice in a bracket, as a caller asks for it who has the bracket alone.
+
+use crate::reports::{PlayerLine, field_of};
+use dutch_order::{Budget, Shape};
+use dutch_pair::{BracketAt, Choice, bracket_at, choose, lower_of};
+use dutch_player::Field;
+use pairing_laws::calls::a_bracket_stands_above_the_lower;
+use std::alloc::Global;
+use std::test::Fail;
+use trf16::Colour;
+
+// The first won against the third, and the others drew: the first moves down to the second and the fourth.
+const ONE_MOVES_DOWN: [PlayerLine<'static>; 4] = [
+    ("001    1", "   3 w 1"),
+    ("001    2", "   4 b ="),
+    ("001    3", "   1 b 0"),
+    ("001    4", "   2 w ="),
+];
+
+// The choice in the second bracket, above one lower player, and the shape that the bracket was reached with.
+fn choice_in_the_second(alloc: Global, field: &Field) -> Result<(Choice, Shape), Fail> {
+    let BracketAt::Bracket { reached, shape } = bracket_at(alloc, field, 1000, 2)? else {
+        return Err(Fail::new("not reached"));
+    };
+    a_bracket_stands_above_the_lower(field, 2, &reached, shape);
+    let lower = lower_of(field, &reached);
+    if lower.as_slice() != [3].as_slice() {
+        return Err(Fail::new("others stand below"));
+    }
+    let mut budget = Budget {
+        limit: 1000,
+        used: 0,
+    };
+    Ok((choose(alloc, field, &reached, &lower, &mut budget)?, shape))
+}
+
+// Whether the pair of 1 and 2 was chosen, in a bracket of this shape.
+fn is_one_with_two(choice: &Choice, shape: Shape) -> bool {
+    let Choice::Chosen {
+        shape: chosen,
+        candidate,
+        quality,
+    } = choice
+    else {
+        return false;
+    };
+    (chosen.pairs, chosen.mdps) == (shape.pairs, shape.mdps)
+        && quality.psd() == [2, 1].as_slice()
+        && (quality.next_pairs(), quality.missed_strong()) == (1, 0)
+        && (candidate.s1(), candidate.s2()) == ([1].as_slice(), [2].as_slice())
+        && candidate.down() == [3].as_slice()
+}
+
+// The first wants black and meets the second, who wants white; the fourth moves down.
+#[test]
+fn choice_of_a_bracket(rt: HostRuntime) -> Result<(), Fail> {
+    let field = field_of(rt.alloc(), &ONE_MOVES_DOWN, Some(5), Some(Colour::White))?;
+    let (choice, shape) = choice_in_the_second(rt.alloc(), &field)?;
+    assert!(rt; is_one_with_two(&choice, shape));
+    Ok(())
+}

@@ -1,5 +1,0 @@
-use Rattle.trf16.proofs.WrittenPlayers.{cell_size, cell_again}
-use Rattle.trf16.proofs.laws.law_cells.Goals as goal
-
-pub returns : goal.returns
-returns c = record { size = cell_size; read = cell_again }

@@ -1,5 +1,0 @@
-use Rattle.trf16.proofs.Characters.{columns-chars, columns-each_byte}
-use Rattle.trf16.proofs.laws.law_columns.Goals as goal
-
-pub returns : goal.returns
-returns c = record { characters = columns-chars; bytes = columns-each_byte }

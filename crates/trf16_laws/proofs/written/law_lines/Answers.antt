@@ -1,0 +1,5 @@
+use Rattle.trf16_writer.proofs.WrittenText.{lines-line}
+use Rattle.trf16_laws.proofs.written.law_lines.Goals as goal
+
+pub returns : goal.returns
+returns c = lines-line

@@ -1,0 +1,5 @@
+use Rattle.trf16_writer.proofs.WrittenNumbers.{numbers}
+use Rattle.trf16_laws.proofs.written.law_numbers.Goals as goal
+
+pub returns : goal.returns
+returns c = numbers

@@ -1,2 +1,0 @@
-pub mod Powers
-pub mod Products

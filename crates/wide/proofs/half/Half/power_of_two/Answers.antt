@@ -1,6 +1,0 @@
--- A power in the upper part.
-use Rattle.wide.proofs.Powers.{power}
-use Rattle.wide.proofs.half.Half.power_of_two.Goals as goal
-
-pub returns-else-bit-lt128-clause-value : goal.returns-else-bit-lt128-clause-value
-returns-else-bit-lt128-clause-value c = power c.args.bit c.if-bit-lt128.false c.requires
