@@ -2,7 +2,6 @@ pub mod PassesTwice
 pub mod AimLemmas
 pub mod WishLemmas
 pub mod BestGranting
-pub mod FloorGiven
 pub mod PremiseOfWish
 pub mod AllPaired
 pub mod RuledOutLemmas
@@ -10,5 +9,5 @@ pub mod BestLemmas
 pub mod ChoiceLemmas
 pub mod KeptValues
 pub mod SkippedLemmas
-pub mod FloorOfBeginning
+pub mod FloorsOfPass
 pub mod BarsBehind

@@ -3,7 +3,7 @@ ghost use Rattle.std.specs.Prelude.{◌≡◌, ◌+◌, ◌-◌, ◌*◌, ◌≤
 ghost use Rattle.std.specs.Result.{MatchResult};
 ghost use Rattle.dutch_order.specs.Prelude.{MatchDrawn, MatchFound, MatchStep, Spends};
 ghost use Rattle.dutch_bracket.specs.Prelude.{IsAbove, HasCandidate};
-ghost use Rattle.dutch_floors.specs.Outlooks.{IsOutlookFrom};
+ghost use Rattle.dutch_floors.specs.Behind.{IsBasisFor};
 ghost use Rattle.dutch_choice.specs.Aims.{best_wished};
 ghost use Rattle.dutch_choice.specs.Chosen.{IsChoice};
 ghost use Rattle.dutch_choice.specs.Kept.{IsBest, IsKept};
@@ -27,7 +27,6 @@ use dutch_bracket::shape::shape_of;
 use dutch_bracket::shaped::ShapedBracket;
 use dutch_bracket::spending::spend;
 use dutch_floors::floor::Floors;
-use dutch_floors::outlook::Outlook;
 use dutch_order::{Budget, Candidate, Shape, Step, Stopped, Within};
 use dutch_player::Field;
 use dutch_weights::asking::Asked;
@@ -466,21 +465,21 @@ fn best_in_time<'a>(
     }
 }
 
-/// The best that the next bracket can be, as far as a quarter of the steps that are left tells it.
-fn outlook_of(shaped: &ShapedBracket<'_>, budget: &mut Budget) -> Result<Outlook, Stopped>
-    ensures answer { MatchResult result (IsOutlookFrom shaped.now) (λ _. budget.new.used ≡ budget.new.limit) }
+/// The floors of a bracket, which know of the next bracket what a quarter of the steps that are left tells of it.
+fn floors_of<'a>(shaped: &ShapedBracket<'a>, budget: &mut Budget) -> Result<Floors<'a>, Stopped>
+    ensures answer { MatchResult result (IsBasisFor shaped.now) (λ _. budget.new.used ≡ budget.new.limit) }
     ensures spends { Spends budget.old budget.new }
 {
     let mut few = at_most((budget.limit - budget.used) / 4, budget);
-    let found = Outlook::find(shaped, &mut few);
+    let found = Floors::find(shaped, &mut few);
     budget.used = few.used;
-    if let Ok(outlook) = found {
-        return Ok(outlook);
+    if let Ok(floors) = found {
+        return Ok(floors);
     }
     if budget.used == budget.limit {
         return Err(Stopped);
     }
-    Ok(Outlook::by_counts(shaped))
+    Ok(Floors::by_counts(shaped))
 }
 
 /// Of the candidates of a shape that can be chosen, and that grant the wish if there is one, the first that none of
@@ -503,10 +502,9 @@ pub fn best_of<'a>(
         left: Seats::new(),
         weights: None,
     };
-    let Ok(outlook) = outlook_of(shaped, budget) else {
+    let Ok(floors) = floors_of(shaped, budget) else {
         return Ok(Step::Undecided);
     };
-    let floors = Floors::new(shaped, outlook);
     let premise = premise_with(shaped.context, wish);
     let mut pass = Pass {
         shaped: *shaped,

@@ -1,22 +1,21 @@
 // Laws of wishes (C.04.3 B.3, B.8), and of the weight of a candidate (C.6 to C.19).
-ghost use Rattle.std.specs.Prelude.{◌≡◌, ◌⊎◌, ◌↔◌, ℕ, List, Some, false, true, ◌+◌, ◌-◌, ◌*◌, ◌<◌, ◌≤◌, ◌++◌, ◌%◌};
-ghost use Rattle.std.specs.Prelude.{is_some, length, sum_by, nat_lt};
+ghost use Rattle.std.specs.Prelude.{◌≡◌, ◌⊎◌, ◌↔◌, ℕ, List, Some, false, true, ◌+◌, ◌≤◌, is_some, sum_by, nat_lt};
 ghost use Rattle.std.specs.List.{list_any};
 ghost use Rattle.dutch_order.specs.Prelude.{Arrangement, Frame, down, players_of, pairs_by_number, IsIn, numbers_from};
 ghost use Rattle.dutch_order.specs.Prelude.{NoneTwice, Begins, Beginning};
 ghost use Rattle.dutch_order.specs.declared.bracket.Shape.{Shape};
 ghost use Rattle.dutch_choice.specs.declared.wish.Wish.{Wish};
 ghost use Rattle.dutch_choice.specs.declared.wish.Wish.TheVariants.{LeftOver, Pair};
-ghost use Rattle.dutch_bracket.specs.Prelude.{Context, eligible_here, best_of_shape, fixed_lists, completable};
+ghost use Rattle.dutch_bracket.specs.Prelude.{Context, eligible_here, best_of_shape, fixed_lists};
 ghost use Rattle.dutch_bracket.specs.Prelude.{downfloaters, FitsHere, candidates_here, frame_here, quality_here};
 ghost use Rattle.dutch_bracket.specs.Prelude.{IsSmall, JoinsBelow, MayPairBelow, count_below, players_below};
-ghost use Rattle.dutch_bracket.specs.Prelude.{seat_below, Quality, is_better, next_in, IsAbove, IsOf, Covers, Scope};
+ghost use Rattle.dutch_bracket.specs.Prelude.{seat_below, Quality, is_better, next_in, IsAbove, Covers, Scope};
 ghost use Rattle.dutch_bracket.specs.Prelude.{seats_meet, HasDigits, IsOn, IsScale, IsScaleFor, Scale, alone_by};
 ghost use Rattle.dutch_bracket.specs.Prelude.{number_pairs, numbers, weighing, weight_below, weight_of};
 ghost use Rattle.dutch_choice.specs.Wishes.{ComesBefore, IsAsGoodBefore, best_granting, grants, is_better_here};
 ghost use Rattle.dutch_bracket.specs.declared.reached.BracketKind.TheVariants.{Ordinary};
-ghost use Rattle.dutch_weights.specs.Prelude.{Order, HasNoBetterOn, HasSameNextOn, added_in, bound_behind};
-ghost use Rattle.dutch_weights.specs.declared.scoped.Reach.TheVariants.{Bracket, Lower, Next};
+ghost use Rattle.dutch_weights.specs.Prelude.{Order, HasSameNextOn, added_in};
+ghost use Rattle.dutch_weights.specs.declared.scoped.Reach.TheVariants.{Next};
 ghost use Rattle.dutch_choice.specs.Costs.{costs_here};
 ghost use Rattle.dual.specs.Prelude.{FloorTable, IsFloor, extra_in, cost};
 
@@ -83,37 +82,6 @@ pub fn the_lighter_is_better()
         → HasSameNextOn scale.next q r → is_better q r ≡ nat_lt (weight_of scale q) (weight_of scale r) }
 {}
 
-/// C.6, C.8 to C.19: no candidate behind a beginning weighs less than a floor says that is for all arrangements with
-/// that beginning: its base, and what the pairs of the beginning and the moved-down players outside of S1 add, each
-/// once, without its debt. Where the floor counts an order of S1R (D.2), a candidate weighs no less with what the
-/// members of its S1R add.
-#[tactic(auto, using(dutch_weights::proofs::WeightsBehind::weighs_more))]
-pub fn a_floor_bounds_the_weight()
-    ensures { (context : Context) (scale : Scale) (shape : Shape) (a : Arrangement)
-        → IsOf context.facts context.reached → FitsHere context shape → IsIn a (candidates_here context shape)
-        → (b : Beginning) → Begins b a → (scope : Scope) → Covers scope b → (order : Order) → (floor : FloorTable)
-        → IsFloor (costs_here context scale scope Bracket order) (numbers context.reached)
-        (length context.reached.seats - 2 * shape.pairs) floor
-        → bound_behind floor context.reached.mdps b
-        ≤ floor.debt + (weight_of scale (quality_here context a) + added_in order a) }
-{}
-
-/// C.4, C.6, C.8 to C.19: a candidate that leaves over players who can be paired out with all lower ones weighs no less
-/// than a floor says that goes over these lower players too: its base, and what the pairs of the beginning add, each
-/// once, without its debt.
-#[tactic(auto, using(dutch_weights::proofs::C04Lower::weighs_more_below))]
-pub fn a_floor_for_lower_players_bounds_the_weight()
-    ensures { (context : Context) (scale : Scale) (scope : Scope) (order : Order) (shape : Shape) (a : Arrangement)
-        → IsOf context.facts context.reached → FitsHere context shape → IsIn a (candidates_here context shape)
-        → (b : Beginning) → Begins b a → Covers scope b
-        → completable context.facts (downfloaters context.facts context.reached a ++ context.lower) ≡ true
-        → (floor : FloorTable) → IsFloor (costs_here context scale scope Lower order)
-        (numbers_from 1 (length context.reached.seats + length context.lower))
-        ((length context.reached.seats + length context.lower) % 2) floor
-        → floor.base + sum_by (extra_in floor) (number_pairs (fixed_lists b))
-        ≤ floor.debt + (weight_of scale (quality_here context a) + added_in order a) }
-{}
-
 /// C.6 to C.19: on a scale that measures the next bracket (C.7), a candidate of an ordinary bracket weighs no less than
 /// a floor says that goes over the next lower scoregroup too, however many are left over there: its base, and what the
 /// pairs of the beginning add, each once, without its debt.
@@ -127,16 +95,6 @@ pub fn a_floor_for_the_next_group_bounds_the_weight()
         (numbers_from 1 (count_below context.facts context.reached context.lower)) left floor)
         → floor.base + sum_by (extra_in floor) (number_pairs (fixed_lists b))
         ≤ floor.debt + (weight_of scale (quality_here context a) + added_in order a) }
-{}
-
-/// C.6 to C.19: a quality is better than a candidate that weighs more and has no better value of the next bracket.
-#[tactic(auto, using(dutch_weights::proofs::WeightsBehind::lighter))]
-pub fn a_lighter_quality_is_better()
-    ensures { (context : Context) (scale : Scale) (shape : Shape) (a : Arrangement)
-        → IsOf context.facts context.reached → FitsHere context shape → IsIn a (candidates_here context shape)
-        → IsScale scale → IsScaleFor context.facts context.reached context.lower shape scale
-        → (f : Quality) → IsOn scale f → weight_of scale f < weight_of scale (quality_here context a)
-        → HasNoBetterOn scale.next (quality_here context a) (next_in f) → is_better f (quality_here context a) ≡ true }
 {}
 
 /// C.7: what the next bracket can be at best below a candidate of an ordinary bracket is the value of pairs by number:

@@ -1,7 +1,7 @@
 // One pass over the candidates of a shape (C.04.3 B.8): what it seeks, and the best candidate that it has found so far.
 ghost use Rattle.std.specs.Prelude.{◌≡◌};
-ghost use Rattle.dutch_bracket.specs.Prelude.{quality_in, IsOf};
-ghost use Rattle.dutch_floors.specs.FloorOf.{IsBasisFor};
+ghost use Rattle.dutch_bracket.specs.Prelude.{quality_in};
+ghost use Rattle.dutch_floors.specs.Behind.{IsBasisFor};
 ghost use Rattle.dutch_choice.specs.Aims.{aim_in, is_idle};
 
 use crate::wish::Wish;
@@ -27,7 +27,6 @@ pub(crate) struct Pass<'a> {
     /// The few steps that come first did not suffice.
     pub(crate) is_long: bool,
     pub(crate) floors: Floors<'a>,
-    ghost of: { IsOf shaped.context.now.facts shaped.context.now.reached },
     ghost basis: { IsBasisFor shaped floors },
 }
 

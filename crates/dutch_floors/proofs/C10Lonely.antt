@@ -13,10 +13,9 @@ use Rattle.dutch_order.proofs.Counts.{left-append}
 use Rattle.dutch_order.proofs.Orders.{all_members, IsIn-flat_map, IsIn-map, Rises, Rises-filter}
 use Rattle.dutch_player.specs.Prelude.{Facts}
 use Rattle.dutch_bracket.specs.declared.colours_missed.Miss.TheVariants.{Preference}
-use Rattle.dutch_bracket.specs.Prelude.{seat_of, score_at, pairs_of, all_pairs, Reached, frame_of, numbers_meet, candidates_of, quality_of, one_if, misses, count_in, count_in_pairs, quality_with, LacksEndOfS2r, beyond, suits, lonely, lonely_first, lonely_second, residents_down, more_missed, quality}
+use Rattle.dutch_bracket.specs.Prelude.{seat_of, score_at, pairs_of, all_pairs, Reached, frame_of, numbers_meet, candidates_of, quality_of, one_if, misses, count_in, count_in_pairs, quality_with, LacksEndOfS2r, beyond, suits, lonely, lonely_first, lonely_second, residents_down, quality}
 use Rattle.dutch_bracket.proofs.ArrangementParts.{left_none, numbers_rise, lists_of, parts_of, left_cons, tuple_members, tuple_whole}
-use Rattle.dutch_floors.proofs.C10Preferences.{beginning_misses}
-use Rattle.dutch_bracket.proofs.FixedPairs.{has_pairs, pairs_on}
+use Rattle.dutch_bracket.proofs.FixedPairs.{pairs_on}
 use Rattle.dutch_floors.proofs.FreePlayers.{total_few}
 use Rattle.dutch_floors.proofs.GrantedColours.{at_most_one}
 use Rattle.dutch_bracket.proofs.LegalPairs.{legal_of}
@@ -228,15 +227,3 @@ lonely_miss facts reached lower shape b a within m lacks =
     let P : Arrangement → Type 0 = λ c. count_in_pairs facts (misses Preference) (all_pairs reached.seats c) + lonely facts reached shape c
     ≤ count_in_pairs facts (misses Preference) (all_pairs reached.seats a) in
     subst P (same_but_end b a lacks) (lonely_miss_at facts reached shape a within m b.s2r lacks.s2r.rest lacks.s2r.is)
-
--- with both bounds
-pub most_miss : (facts : Facts) (reached : Reached) (lower : List ℕ) (shape : Shape) (b a : Arrangement) → reached.mdps ≤ length reached.seats
-    → IsIn a (candidates_of facts reached shape) → LacksEndOfS2r b a
-    → count_in_pairs facts (misses Preference) (all_pairs reached.seats b) + max (more_missed facts reached shape b) (lonely facts reached shape b)
-    ≤ (quality_of facts reached lower a).missed_preferences
-most_miss facts reached lower shape b a within m lacks =
-    omega (
-      arith,
-      lonely_miss facts reached lower shape b a within m lacks,
-      beginning_misses facts reached lower shape b a within (legal_of facts reached shape a m).arranged (has_pairs b a lacks),
-    )

@@ -11,9 +11,9 @@ use Rattle.dutch_order.specs.Prelude.{IsIn, Arrangement, arrangements}
 use Rattle.dutch_player.specs.declared.preference.Pref.{Pref}
 use Rattle.dutch_player.specs.Prelude.{is_same, preference, with_colour, colour_of_higher, Facts, seat_at}
 use Rattle.dutch_bracket.specs.declared.colours_missed.Miss.TheVariants.{Preference}
-use Rattle.dutch_bracket.specs.Prelude.{all_pairs, Reached, frame_of, downfloaters, quality_of, one_if, misses, count_of_both, count_in, count_in_pairs, quality_with, HasPairsOf, in_both, seated_so, wants, more_missed, quality}
+use Rattle.dutch_bracket.specs.Prelude.{all_pairs, Reached, frame_of, downfloaters, one_if, misses, count_of_both, count_in, count_in_pairs, in_both, seated_so, wants}
 use Rattle.dutch_floors.specs.FloorOf.{more_in, surplus_in}
-use Rattle.dutch_bracket.proofs.FixedPairs.{Beside, beside, none_known, sum_beside}
+use Rattle.dutch_bracket.proofs.FixedPairs.{Beside, sum_beside}
 use Rattle.dutch_floors.proofs.FreePlayers.{free_served}
 use Rattle.dutch_floors.proofs.GrantedColours.{at_most_one}
 
@@ -77,11 +77,3 @@ module _ (facts : Facts) (reached : Reached) (shape : Shape) (known : List (ℕ 
   pub more_miss : count_in_pairs facts (misses Preference) known + more_in false facts reached shape (seated_so facts reached known gone) ≤ count_in_pairs facts (misses Preference) (all_pairs reached.seats a)
   more_miss =
       omega (arith, served White, served Black, sum_beside (count_in facts (misses Preference)) known (all_pairs reached.seats a) others)
-
-pub beginning_misses : (facts : Facts) (reached : Reached) (lower : List ℕ) (shape : Shape) (b a : Arrangement) → reached.mdps ≤ length reached.seats
-    → IsIn a (arrangements (frame_of facts reached) shape) → HasPairsOf b a
-    → count_in_pairs facts (misses Preference) (all_pairs reached.seats b) + more_missed facts reached shape b ≤ (quality_of facts reached lower a).missed_preferences
-unfolding quality_of quality quality_with
-beginning_misses facts reached lower shape b a within m begins =
-    let least = more_miss facts reached shape (all_pairs reached.seats b) [] a within m (beside reached.seats b a begins) (none_known (downfloaters facts reached a)) in
-    omega (arith, least)

@@ -13,9 +13,9 @@ use Rattle.dutch_order.specs.Prelude.{IsIn, Arrangement}
 use Rattle.dutch_player.specs.declared.preference.Pref.{Pref}
 use Rattle.dutch_player.specs.Prelude.{is_same, preference, clash, have_met, are_apart, colours_allow, may_meet, with_colour, colour_of_higher, SeatFacts, Facts, seat_at}
 use Rattle.dutch_bracket.specs.declared.colours_missed.Miss.TheVariants.{Wide, Third, StrongPreference}
-use Rattle.dutch_bracket.specs.Prelude.{all_pairs, Reached, candidates_of, downfloaters, quality_of, misses, count_of_both, count_in, has_topscorer, count_in_pairs, count_with_topscorers, quality_with, HasPairsOf, in_both, seated_so, is_firm, wants_firmly, adds_top, more_missed_strong, quality}
+use Rattle.dutch_bracket.specs.Prelude.{all_pairs, Reached, candidates_of, downfloaters, misses, count_of_both, count_in, has_topscorer, count_in_pairs, count_with_topscorers, in_both, seated_so, is_firm, wants_firmly, adds_top}
 use Rattle.dutch_floors.specs.FloorOf.{more_in, surplus_in}
-use Rattle.dutch_bracket.proofs.FixedPairs.{Beside, beside, none_known, sum_beside}
+use Rattle.dutch_bracket.proofs.FixedPairs.{Beside, sum_beside}
 use Rattle.dutch_floors.proofs.FreePlayers.{free_served}
 use Rattle.dutch_floors.proofs.GrantedColours.{at_most_one, adds, firm_served}
 use Rattle.dutch_bracket.proofs.LegalPairs.{legal_of, others_meet}
@@ -141,13 +141,3 @@ module _ (facts : Facts) (reached : Reached) (shape : Shape) (known : List (ℕ 
         sum_beside (alone facts (misses Third)) known all others,
         sum_beside (count_in facts (misses StrongPreference)) known all others,
       )
-
-pub beginning_misses_strongly : (facts : Facts) (reached : Reached) (lower : List ℕ) (shape : Shape) (b a : Arrangement) → reached.mdps ≤ length reached.seats
-    → IsIn a (candidates_of facts reached shape) → HasPairsOf b a
-    → (quality_of facts reached lower a).wide_differences ≡ count_with_topscorers facts (misses Wide) (all_pairs reached.seats b)
-    → (quality_of facts reached lower a).third_colours ≡ count_with_topscorers facts (misses Third) (all_pairs reached.seats b)
-    → count_in_pairs facts (misses StrongPreference) (all_pairs reached.seats b) + more_missed_strong facts reached shape b ≤ (quality_of facts reached lower a).missed_strong
-unfolding quality_of quality quality_with
-beginning_misses_strongly facts reached lower shape b a within m begins no_wider no_third =
-    let least = more_miss_strongly facts reached shape (all_pairs reached.seats b) [] a within m (beside reached.seats b a begins) (none_known (downfloaters facts reached a)) no_wider no_third in
-    omega (arith, least)

@@ -6,7 +6,8 @@ use Rattle.dutch_order.specs.declared.prefix.Filling.{Filling}
 use Rattle.dutch_order.specs.declared.prefix.Filling.TheVariants.{S1, S2, S2r}
 use Rattle.dutch_order.specs.Prelude.{Fits, numbers_from, Beginning}
 use Rattle.dutch_bracket.specs.Prelude.{IsOf, frame_of, AllNumbers, HasNumbers, fixed_lists, is_of_shape}
-use Rattle.dutch_floors.specs.FloorOf.{Basis, is_known, s1_by, s1_of}
+use Rattle.dutch_floors.specs.Behind.{Basis}
+use Rattle.dutch_floors.specs.FloorOf.{is_known, s1_by, s1_of}
 use Rattle.dutch_bracket.proofs.ShapeNumbers.{first_few, first_length, first_numbers, numbers_fit}
 
 -- where a floor is known, its lists are of the bracket and the shape

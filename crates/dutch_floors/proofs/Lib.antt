@@ -10,3 +10,5 @@ pub mod C11StrongPreferences
 pub mod FreePlayers
 pub mod C10Lonely
 pub mod C07Outlook
+pub mod FloorOfBeginning
+pub mod FloorGiven

@@ -1,4 +1,5 @@
--- The floor of a beginning, by what is fixed in it: a quality that no candidate with it is better than (C.04.3 C.6 to C.19).
+-- The floor of a beginning, by what is fixed in it (C.04.3 C.6 to C.19). Only private functions' clauses cite these: what is promised of a floor
+-- stands in `Behind`.
 use Rattle.std.specs.Prelude.{◌≤◌, ◌≡◌, ℕ, ◌+◌, ◌-◌, ◌*◌, Bool, true, false, ◌&&◌, ◌||◌, ◌==◌, nat_lt, if◌then◌else◌, List, length, max, sum_by}
 use Rattle.trf16.specs.declared.cell.Colour.{Colour}
 use Rattle.trf16.specs.declared.cell.Colour.TheVariants.{White, Black}
@@ -8,25 +9,12 @@ use Rattle.dutch_order.specs.declared.prefix.Filling.TheVariants.{S1, S2, S2r}
 use Rattle.dutch_order.specs.Prelude.{Arrangement, numbers_from, Beginning}
 use Rattle.dutch_order.specs.declared.numbers.TheConstants.{LIMIT}
 use Rattle.dutch_player.specs.Prelude.{Facts}
-use Rattle.dutch_bracket.specs.declared.shaped.ShapedBracket.{ShapedBracket}
 use Rattle.dutch_bracket.specs.Prelude.{Quality, psd, Reached, Seated, seat_of, score_at, all_pairs, fixed, in_both, fixed_lists, is_of_shape, has_s1, wants, wants_firmly, lonely, psd_with, is_uniform, floor_over}
-use Rattle.dutch_floors.specs.declared.outlook.Outlook.{Outlook}
-use Rattle.dutch_floors.specs.Outlooks.{IsOutlook, awaited}
+use Rattle.dutch_floors.specs.Behind.{Basis}
+use Rattle.dutch_floors.specs.Outlooks.{awaited}
 use Rattle.dutch_floors.specs.declared.colour_floor.Wants.{Wants}
 use Rattle.dutch_floors.specs.declared.premise.Premise.{Premise}
 use Rattle.dutch_floors.specs.Premises.{seated_given}
-
--- a bracket of a field, the shape of its arrangements, and what the next bracket can be at best
-pub record Basis : Type 0 where
-  pub facts : Facts
-  pub reached : Reached
-  pub shape : Shape
-  pub outlook : Outlook
-
--- that of a bracket above its lower seats with a shape
-abbrev pub basis_for : ShapedBracket → Outlook → Basis
-basis_for shaped outlook =
-    record { facts = shaped.context.now.facts; reached = shaped.context.now.reached; shape = shaped.shape; outlook = outlook }
 
 -- S1; the first one, if none is chosen
 abbrev pub s1_by : Filling → Shape → List ℕ → List ℕ
@@ -111,14 +99,3 @@ floor_of basis b =
 abbrev pub is_known : Basis → Beginning → Bool
 is_known basis b =
     is_of_shape basis.reached basis.shape (fixed_lists b) && (has_s1 b.filling || is_uniform basis.facts basis.reached basis.shape)
-
--- floors stand on this bracket and shape, and on an outlook that holds of it
-pub record IsBasis (facts : Facts) (reached : Reached) (lower : List ℕ) (shape : Shape) (basis : Basis) : Type 0 where
-  pub facts_are : basis.facts ≡ facts
-  pub stand_is : basis.reached ≡ reached
-  pub shape_is : basis.shape ≡ shape
-  pub outlook : IsOutlook facts reached lower shape basis.outlook
-
--- the same of a bracket above its lower seats with a shape
-abbrev pub IsBasisFor : ShapedBracket → Basis → Type 0
-IsBasisFor shaped = IsBasis shaped.context.now.facts shaped.context.now.reached shaped.context.now.lower shaped.shape

@@ -1,6 +1,7 @@
--- What the contracts of dutch_floors name: what a beginning owes by counts, ghosts, and what the next bracket can be at best.
+-- What the contracts of dutch_floors name: `Behind` and `Premises` what floors promise, the others how they are counted.
 pub mod GhostRules
 pub mod GhostValues
+pub mod Behind
 pub mod FloorOf
 pub mod Outlooks
 pub mod Premises

@@ -1,14 +1,16 @@
 // The floor of a beginning: a quality that no candidate with this beginning is better than (C.04.3 C.6 to C.19). It is
 // asked for at each beginning that a choice comes to, so it takes no memory and looks at each player only a few times.
 ghost use Rattle.std.specs.Prelude.{◌≡◌, ◌<◌, ◌≤◌, ◌||◌, ◌&&◌, IfSome, true, length};
-ghost use Rattle.dutch_order.specs.Prelude.{Fits};
+ghost use Rattle.std.specs.Result.{MatchResult};
+ghost use Rattle.dutch_order.specs.Prelude.{Fits, Spends};
 ghost use Rattle.dutch_order.specs.declared.numbers.TheConstants.{LIMIT};
-ghost use Rattle.dutch_bracket.specs.Prelude.{next_in, quality_in, fixed, HasNumbers, fixed_lists, has_s1, psd_with};
-ghost use Rattle.dutch_bracket.specs.Prelude.{is_uniform, IsOf, frame_of, AllNumbers, HasSeats, IsNoBetter};
-ghost use Rattle.dutch_bracket.specs.Prelude.{floor_over};
-ghost use Rattle.dutch_floors.specs.Outlooks.{awaited};
+ghost use Rattle.dutch_bracket.specs.Prelude.{next_in, quality_in, fixed, HasNumbers, fixed_lists, psd_with};
+ghost use Rattle.dutch_bracket.specs.Prelude.{IsOf, frame_of, AllNumbers, HasSeats, floor_over, has_s1, is_uniform};
+ghost use Rattle.dutch_bracket.specs.Prelude.{IsNoBetter};
+ghost use Rattle.dutch_floors.specs.Outlooks.{IsOutlook, IsOutlookFrom, awaited};
 ghost use Rattle.dutch_floors.specs.FloorOf.{AreWants, is_flat, is_known, residents_score, psd_over, more_by, s1_of};
-ghost use Rattle.dutch_floors.specs.FloorOf.{basis_for, floor_by, floor_by_seats, floor_given, floor_of};
+ghost use Rattle.dutch_floors.specs.FloorOf.{floor_by, floor_by_seats, floor_given, floor_of};
+ghost use Rattle.dutch_floors.specs.Behind.{IsBasisFor, NoneBeats, NoneGivenBeats, NoneHasBetterNext};
 ghost use Rattle.dutch_floors.specs.Premises.{IsPremise};
 
 use crate::colour_floor::{Wants, missed, missed_strong, more_missed, wants_in};
@@ -21,7 +23,7 @@ use dutch_bracket::psd_floor::{FlatShape, is_uniform};
 use dutch_bracket::quality::{NextValue, Quality, Room, fill_others};
 use dutch_bracket::seated::Seated;
 use dutch_bracket::shaped::ShapedBracket;
-use dutch_order::{Filling, LIMIT, Numbers, Prefix, Shape, numbered_from};
+use dutch_order::{Budget, Filling, LIMIT, Numbers, Prefix, Shape, Stopped, numbered_from};
 use std::marker::Model;
 
 /// What the floors of a bracket and a shape stand on, read once for a choice.
@@ -45,13 +47,16 @@ impl<'a> Model for Floors<'a> {
     ghost use Rattle.std.specs.Prelude.{◌≡◌, true, false};
     ghost use Rattle.dutch_order.specs.Prelude.{numbers_from};
     ghost use Rattle.dutch_bracket.specs.Prelude.{IsOf, is_uniform};
-    ghost use Rattle.dutch_floors.specs.FloorOf.{AreWants, Basis, basis_for, is_flat};
+    ghost use Rattle.dutch_floors.specs.Behind.{Basis, basis_for};
+    ghost use Rattle.dutch_floors.specs.FloorOf.{AreWants, is_flat};
+    ghost use Rattle.dutch_floors.specs.Outlooks.{IsOutlookFrom};
 
     ghost Value = { Basis };
 
     ghost view = { λ f. basis_for f.shaped f.outlook };
 
     ghost invariant = { λ f. let context = f.shaped.context.now in (IsOf context.facts context.reached)
+        × (IsOutlookFrom f.shaped f.outlook)
         × (f.flat ≡ is_flat context.facts context.reached)
         × (f.uniform ≡ is_uniform context.facts context.reached f.shaped.shape)
         × (f.first.items ≡ numbers_from 1 f.shaped.shape.mdps)
@@ -62,9 +67,9 @@ impl<'a> Model for Floors<'a> {
 impl<'a> Floors<'a> {
     /// The floors of a shape, for what the next bracket can be at best.
     #[tactic(auto, using(dutch_bracket::proofs::ShapeNumbers::small_mdps))]
-    pub fn new(shaped: &ShapedBracket<'a>, outlook: Outlook) -> Floors<'a>
-        ensures value { result ≡ basis_for shaped.now outlook }
-        ensures of { IsOf shaped.now.context.now.facts shaped.now.context.now.reached }
+    fn new(shaped: &ShapedBracket<'a>, outlook: Outlook) -> Floors<'a>
+        requires { IsOutlookFrom shaped.now outlook }
+        ensures { IsBasisFor shaped.now result }
     {
         let context = shaped.context;
         let flat = is_flat(context);
@@ -78,6 +83,22 @@ impl<'a> Floors<'a> {
             wants: wants_in(context, false),
             firm_wants: wants_in(context, true),
         }
+    }
+
+    /// The floors of a shape. What the next bracket can be at best is looked for first.
+    pub fn find(shaped: &ShapedBracket<'a>, budget: &mut Budget) -> Result<Floors<'a>, Stopped>
+        ensures answer { MatchResult result (IsBasisFor shaped.now) (λ _. budget.new.used ≡ budget.new.limit) }
+        ensures spends { Spends budget.old budget.new }
+    {
+        let outlook = Outlook::find(shaped, budget)?;
+        Ok(Floors::new(shaped, outlook))
+    }
+
+    /// The floors of a shape, where counts alone tell of the next bracket.
+    pub fn by_counts(shaped: &ShapedBracket<'a>) -> Floors<'a>
+        ensures { IsBasisFor shaped.now result }
+    {
+        Floors::new(shaped, Outlook::by_counts(shaped))
     }
 
     /// The shape, and that the bracket has room for it.
@@ -147,16 +168,27 @@ impl<'a> Floors<'a> {
         self.awaited(&self.first)
     }
 
-    /// Whether the next bracket is never better behind a beginning than a quality says, as far as that is known (C.7).
-    pub fn has_no_better_next(&self, prefix: &Prefix<'_>, quality: &Quality) -> bool
-        ensures { result ≡ true →
+    /// Whether what is awaited of the next bracket behind a beginning is known, and not better than a quality says (C.7).
+    fn awaits_no_better(&self, prefix: &Prefix<'_>, quality: &Quality) -> bool
+        ensures of { IsOf self.now.facts self.now.reached }
+        ensures outlook { IsOutlook self.now.facts self.now.reached self.now.lower self.now.shape self.now.outlook }
+        ensures none { result ≡ true →
             ((has_s1 prefix.now.filling || is_uniform self.now.facts self.now.reached self.now.shape) ≡ true)
             × IsNoBetter (awaited self.now.facts self.now.reached self.now.shape self.now.outlook
             (s1_of self.now prefix.now))
             (next_in (quality_in quality.now)) }
     {
-        (has_s1(prefix.filling()) || self.uniform)
+        let uniform = self.uniform;
+        (has_s1(prefix.filling()) || uniform)
             && self.awaited(self.s1(prefix)).is_no_better_than(quality)
+    }
+
+    /// Whether no candidate with a beginning has a better value of the next bracket than a quality says (C.7). A no says
+    /// nothing.
+    pub fn has_no_better_next(&self, prefix: &Prefix<'_>, quality: &Quality) -> bool
+        ensures { result ≡ true → NoneHasBetterNext self.now prefix.now (next_in (quality_in quality.now)) }
+    {
+        self.awaits_no_better(prefix, quality)
     }
 
     /// How many more miss than in the pairs that are fixed (C.10).
@@ -237,6 +269,8 @@ impl<'a> Floors<'a> {
     #[tactic(auto, using(crate::proofs::FloorLemmas::known_numbers, crate::proofs::FloorLemmas::s1_numbers, crate::proofs::FloorLemmas::s1_few))]
     fn is_known(&self, prefix: &Prefix<'_>) -> bool
         ensures known { result ≡ is_known self.now prefix.now }
+        ensures of { IsOf self.now.facts self.now.reached }
+        ensures outlook { IsOutlook self.now.facts self.now.reached self.now.lower self.now.shape self.now.outlook }
         ensures numbers { is_known self.now prefix.now ≡ true → HasNumbers self.now.reached (fixed_lists prefix.now) }
         ensures s1 { is_known self.now prefix.now ≡ true
             → AllNumbers self.now.reached.seats (s1_of self.now prefix.now) }
@@ -247,10 +281,12 @@ impl<'a> Floors<'a> {
             && (has_s1(prefix.filling()) || self.uniform)
     }
 
-    /// Fills the floor of a beginning, if one is known.
+    /// Fills what is known by counts behind a beginning, if something is.
     #[tactic(auto, unfolding(crate::specs::FloorOf::floor_of))]
-    pub fn floor(&self, prefix: &Prefix<'_>, room: &mut Room) -> bool
+    fn fill_known(&self, prefix: &Prefix<'_>, room: &mut Room) -> bool
         ensures known { result ≡ is_known self.now prefix.now }
+        ensures of { IsOf self.now.facts self.now.reached }
+        ensures outlook { IsOutlook self.now.facts self.now.reached self.now.lower self.now.shape self.now.outlook }
         ensures value { result ≡ true → quality_in room.new.quality ≡ floor_of self.now prefix.now }
     {
         if !self.is_known(prefix) {
@@ -262,11 +298,20 @@ impl<'a> Floors<'a> {
         true
     }
 
-    /// Fills the floor of a beginning under a premise, if a floor is known.
+    /// Fills a quality that no candidate with a beginning is better than. A no says that none is known.
+    pub fn floor(&self, prefix: &Prefix<'_>, room: &mut Room) -> bool
+        ensures { result ≡ true → NoneBeats self.now prefix.now (quality_in room.new.quality) }
+    {
+        self.fill_known(prefix, room)
+    }
+
+    /// Fills what is known by counts behind a beginning under a premise, if something is.
     #[tactic(auto, unfolding(crate::specs::FloorOf::floor_given))]
-    pub fn floor_given(&self, premise: Premise, prefix: &Prefix<'_>, room: &mut Room) -> bool
+    fn fill_known_given(&self, premise: Premise, prefix: &Prefix<'_>, room: &mut Room) -> bool
         requires { IsPremise self.now.facts premise }
         ensures known { result ≡ true → is_known self.now prefix.now ≡ true }
+        ensures of { IsOf self.now.facts self.now.reached }
+        ensures outlook { IsOutlook self.now.facts self.now.reached self.now.lower self.now.shape self.now.outlook }
         ensures value { result ≡ true → quality_in room.new.quality ≡ floor_given self.now premise prefix.now }
     {
         if !self.is_known(prefix) {
@@ -278,6 +323,15 @@ impl<'a> Floors<'a> {
         }
         self.fill_by_seats(self.s1(prefix), room);
         true
+    }
+
+    /// Fills a quality that no candidate with a beginning is better than for which a premise holds. A no says that none
+    /// is known.
+    pub fn floor_given(&self, premise: Premise, prefix: &Prefix<'_>, room: &mut Room) -> bool
+        requires { IsPremise self.now.facts premise }
+        ensures { result ≡ true → NoneGivenBeats self.now prefix.now premise (quality_in room.new.quality) }
+    {
+        self.fill_known_given(premise, prefix, room)
     }
 
     /// The quality that a first pass aims at, if all residents have one score: what a beginning with the first S1, and

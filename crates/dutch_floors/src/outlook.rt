@@ -17,7 +17,7 @@ use dutch_order::{Budget, Numbers, Stopped};
 
 /// What the next bracket can be at best.
 #[derive(Drop)]
-pub struct Outlook {
+pub(crate) struct Outlook {
     /// What it can be if the Limbo has the scores of the first one; none if that is not known.
     pub(crate) first: Option<NextValue>,
     /// What it can be in any case.
@@ -79,7 +79,7 @@ impl Outlook {
     /// The best that the next bracket of a bracket and a shape can be. In brackets that are not ordinary the next one
     /// does not count.
     #[tactic(auto, using(crate::proofs::C07Outlook::none_counts))]
-    pub fn find(shaped: &ShapedBracket<'_>, budget: &mut Budget) -> Result<Outlook, Stopped>
+    pub(crate) fn find(shaped: &ShapedBracket<'_>, budget: &mut Budget) -> Result<Outlook, Stopped>
         ensures answer { MatchResult result (IsOutlookFrom shaped.now) (λ _. budget.new.used ≡ budget.new.limit) }
         ensures spends { Spends budget.old budget.new }
     {
@@ -94,7 +94,7 @@ impl Outlook {
 
     /// What counts alone tell of it.
     #[tactic(auto, using(crate::proofs::C07Outlook::none_counts))]
-    pub fn by_counts(shaped: &ShapedBracket<'_>) -> Outlook
+    pub(crate) fn by_counts(shaped: &ShapedBracket<'_>) -> Outlook
         ensures { IsOutlookFrom shaped.now result }
     {
         match shaped.context.reached().kind() {

@@ -1,5 +1,6 @@
 // What of a round of a player looks like a mistake.
 ghost use Rattle.std.specs.Prelude.{◌≡◌, ◌<◌, ◌∷◌, [], MatchOption};
+ghost use Rattle.std.specs.List.{list_any};
 ghost use Rattle.trf16.specs.Prelude.{cells_of, is_unfinished};
 ghost use Rattle.report_notes.specs.PlayerRounds.{bars_bye, bye_note, cell_note, cells_before, few_points, is_allocated};
 ghost use Rattle.report_notes.specs.PlayerRounds.{is_filled, is_game_against, meeting_note, opponent_of_game};
@@ -146,12 +147,18 @@ fn meeting_note(cells: &[Cell], round: u8) -> Option<RoundNote>
     ensures { result ≡ meeting_note cells.now round }
 {
     let player = opponent_of_game(&cell_at(cells, round))?;
-    let before = cells_before(cells, round);
-    if before.iter().any(|cell| is_game_against(cell, player)) {
+    if is_met(cells_before(cells, round), player) {
         Some(RoundNote::MeetsAgain { player })
     } else {
         None
     }
+}
+
+// Whether one of some cells is a game against a player.
+fn is_met(cells: &[Cell], player: u16) -> bool
+    ensures { result ≡ list_any (is_game_against player) cells.now }
+{
+    cells.iter().any(|cell| is_game_against(cell, player))
 }
 
 // Whether a cell bars its player from the pairing-allocated bye (C.2).
@@ -180,12 +187,18 @@ fn bye_note(cells: &[Cell], round: u8) -> Option<RoundNote>
     requires { 0 < round }
     ensures { result ≡ bye_note cells.now round }
 {
-    let before = cells_before(cells, round);
-    if is_allocated(&cell_at(cells, round)) && before.iter().any(|cell| bars_bye(cell)) {
+    if is_allocated(&cell_at(cells, round)) && has_bar(cells_before(cells, round)) {
         Some(RoundNote::AnotherBye)
     } else {
         None
     }
+}
+
+// Whether one of some cells bars the player from it.
+fn has_bar(cells: &[Cell]) -> bool
+    ensures { result ≡ list_any bars_bye cells.now }
+{
+    cells.iter().any(|cell| bars_bye(cell))
 }
 
 // That a game that was played gives both players together less than a point.
@@ -229,10 +242,16 @@ fn cell_note(report: &Report<'_>, start: u16, cells: &[Cell], round: u8) -> Opti
     if round != report.rounds_played() || is_filled(&cell_at(cells, round)) {
         return None;
     }
-    let before = cells_before(cells, round);
-    if before.iter().any(|cell| is_filled(cell)) && !report.is_named_absent(start) {
+    if has_filled(cells_before(cells, round)) && !report.is_named_absent(start) {
         Some(RoundNote::NoCell)
     } else {
         None
     }
+}
+
+// Whether one of some cells says something.
+fn has_filled(cells: &[Cell]) -> bool
+    ensures { result ≡ list_any is_filled cells.now }
+{
+    cells.iter().any(|cell| is_filled(cell))
 }

@@ -10,18 +10,17 @@ use Rattle.dutch_order.proofs.Orders.{IsIn-append, IsIn-back, IsIn-front}
 use Rattle.dutch_player.specs.Prelude.{Facts}
 use Rattle.dutch_floors.specs.declared.premise.Premise.{Premise}
 use Rattle.dutch_floors.specs.declared.premise.Premise.TheVariants.{Down, Meet}
-use Rattle.dutch_bracket.specs.declared.shaped.ShapedBracket.{ShapedBracket}
-use Rattle.dutch_bracket.specs.Prelude.{seated_so, is_uniform, has_s1, lists_by, is_lower, quality, psd_with, Quality, is_better, psd, quality_with, OfEachWithBeginning, quality_here, IsOf, Reached, frame_of, candidates_of, downfloaters, quality_of, all_pairs, floor_over}
-use Rattle.dutch_floors.specs.FloorOf.{Basis, IsBasisFor, floor_by_seats, floor_given, is_flat, is_known, more_in, psd_over, residents_score, s1_by}
+use Rattle.dutch_bracket.specs.Prelude.{seated_so, is_uniform, has_s1, lists_by, is_lower, quality, psd_with, Quality, is_better, psd, quality_with, IsOf, Reached, frame_of, candidates_of, downfloaters, quality_of, all_pairs, floor_over}
+use Rattle.dutch_floors.specs.Behind.{Basis, NoneGivenBeats}
+use Rattle.dutch_floors.specs.FloorOf.{floor_by_seats, floor_given, is_flat, is_known, more_in, psd_over, residents_score, s1_by}
 use Rattle.dutch_floors.specs.Premises.{Holds, seated_given, with_pair}
 use Rattle.dutch_floors.specs.Outlooks.{IsOutlook, awaited}
-use Rattle.dutch_choice.specs.Prelude.{HoldsHere}
 use Rattle.dutch_bracket.proofs.C06Psd.{psd_of_known}
 use Rattle.dutch_floors.proofs.C07Outlook.{awaited_holds}
 use Rattle.dutch_floors.proofs.C10Preferences.{more_miss}
 use Rattle.dutch_floors.proofs.C11StrongPreferences.{more_miss_strongly}
 use Rattle.dutch_bracket.proofs.FixedPairs.{Beside, beside, none_known}
-use Rattle.dutch_choice.proofs.FloorOfBeginning.{from_basis, known_s1, psd_holds, within}
+use Rattle.dutch_floors.proofs.FloorOfBeginning.{known_s1, psd_holds, within}
 use Rattle.dutch_bracket.proofs.FixedListsLemmas.{has_fixed_pairs}
 use Rattle.dutch_bracket.proofs.FloorOrder.{floor_stays}
 use Rattle.dutch_bracket.proofs.LegalPairs.{legal_of}
@@ -120,15 +119,11 @@ module _ (basis : Basis) (lower : List ℕ) (filling : Filling) (lists a : Arran
   stays_given (Down p) holds =
       stays fixed_pairs (p ∷ []) fixed_beside (known_more p [] (downfloaters facts reached a) (none_known (downfloaters facts reached a)) holds (λ none. none))
 
--- the same of the bracket that floors are for
-pub none_better : (shaped : ShapedBracket) (basis : Basis) (known : Premise) (b : Beginning) (floor : Quality)
-    → IsBasisFor shaped basis → IsOf shaped.context.now.facts shaped.context.now.reached → is_known basis b ≡ true → floor ≡ floor_given basis known b
-    → OfEachWithBeginning shaped b (λ a. HoldsHere shaped.context.now known a → is_better (quality_here shaped.context.now a) floor ≡ false)
+-- so it is a floor
+pub none_given_beats : (basis : Basis) (known : Premise) (b : Beginning) (floor : Quality) → IsOf basis.facts basis.reached
+    → IsOutlook basis.facts basis.reached basis.lower basis.shape basis.outlook → is_known basis b ≡ true → floor ≡ floor_given basis known b
+    → NoneGivenBeats basis b known floor
 unfolding floor_given floor_by_seats
-none_better shaped basis known b floor is of' there' e a m h holds =
-    let context = shaped.context.now in
-    from_basis context.facts context.reached context.lower shaped.shape basis is
-    (λ fs st sh. IsOf fs st → IsOutlook fs st context.lower sh basis.outlook → IsIn a (candidates_of fs st sh) → Holds fs st known a
-    → is_better (quality_of fs st context.lower a) floor ≡ false)
-    (λ of'' outlook m' holds'. ap (is_better (quality_of basis.facts basis.reached context.lower a)) e
-    ∙ stays_given basis context.lower b.filling b.lists a of'' m' h (known_s1 basis b there') outlook known holds') of' is.outlook m holds
+none_given_beats basis known b floor of' outlook there' e a m h holds =
+    ap (is_better (quality_of basis.facts basis.reached basis.lower a)) e
+    ∙ stays_given basis basis.lower b.filling b.lists a of' m h (known_s1 basis b there') outlook known holds

@@ -1,7 +1,13 @@
--- No candidate that begins so beats the floor of a beginning (C.04.3 C.6 to C.19). The floor is what S1 tells of the PSD, or else the PSD of
--- the fixed pairs; the best that the next bracket can be; the items of the fixed pairs, and how many more must miss their colours.
+-- No candidate that begins so beats the floor of a beginning (C.04.3 C.6 to C.19), nor what is awaited behind it of the next bracket (C.7). The
+-- floor is what S1 tells of the PSD, or else the PSD of the fixed pairs; the best that the next bracket can be; the items of the fixed pairs,
+-- and how many more must miss their colours.
 use Rattle.std.proofs.Common.{◌≡◌, ℕ, ◌+◌, ◌-◌, ◌≤◌, Bool, true, false, ◌||◌, List, [], ◌++◌, map, length, refl, sym, ap, subst, ◌∙◌, cond, append-nil, arith}
-use Rattle.std.proofs.lemmas.Bool.{and_parts}
+use Rattle.std.specs.declared.cmp.Ordering.{Ordering}
+use Rattle.std.specs.declared.cmp.Ordering.TheVariants.{Less, Equal, Greater}
+use Rattle.std.specs.Ordering.{nat_cmp, is_lt, ordering_reverse}
+use Rattle.std.specs.Cmp.Lexicographic.{slice_cmp}
+use Rattle.std.proofs.lemmas.Bool.{and_parts, false_from_ne_true, true≢false}
+use Rattle.std.proofs.lemmas.Cmp.{nat_list_cmp_total}
 use Rattle.std.proofs.lemmas.List.{length-map}
 use Rattle.dutch_order.specs.declared.bracket.Shape.{Shape}
 use Rattle.dutch_order.specs.declared.prefix.Filling.{Filling}
@@ -9,9 +15,9 @@ use Rattle.dutch_order.specs.declared.prefix.Filling.TheVariants.{S1, S2, S2r}
 use Rattle.dutch_order.specs.Prelude.{Arrangement, arrangements, left_of, remainder_pairs, numbers_from, IsIn, Begins, BeginsAt, Beginning}
 use Rattle.dutch_player.specs.Prelude.{Facts}
 use Rattle.dutch_bracket.specs.declared.colours_missed.Miss.TheVariants.{Preference}
-use Rattle.dutch_bracket.specs.declared.shaped.ShapedBracket.{ShapedBracket}
-use Rattle.dutch_bracket.specs.Prelude.{HasPairsOf, fixed, fixed_lists, has_s1, is_of_shape, lists_by, residents_down, is_uniform, psd_with, repeated, IsFlat, is_lower, quality, Quality, count_in_pairs, highest_first, is_better, misses, psd, quality_with, OfEachWithBeginning, quality_here, IsOf, Reached, frame_of, candidates_of, downfloaters, quality_of, all_pairs, difference, score_at, seat_of, floor_over}
-use Rattle.dutch_floors.specs.FloorOf.{Basis, IsBasis, IsBasisFor, floor_of, is_flat, is_known, more_by, more_in, psd_over, residents_score, s1_by, s1_of}
+use Rattle.dutch_bracket.specs.Prelude.{HasPairsOf, fixed, fixed_lists, has_s1, is_of_shape, lists_by, residents_down, is_uniform, psd_with, repeated, IsFlat, is_lower, quality, Quality, count_in_pairs, highest_first, is_better, misses, psd, quality_with, IsNoBetter, HasNoBetter, NextValue, IsOf, Reached, frame_of, candidates_of, downfloaters, quality_of, all_pairs, difference, score_at, seat_of, floor_over}
+use Rattle.dutch_floors.specs.Behind.{Basis, NoneBeats, NoneHasBetterNext}
+use Rattle.dutch_floors.specs.FloorOf.{floor_of, is_flat, is_known, more_by, more_in, psd_over, residents_score, s1_by, s1_of}
 use Rattle.dutch_floors.specs.Outlooks.{IsOutlook, awaited}
 use Rattle.dutch_bracket.proofs.C06Psd.{psd_by_first, psd_of_all, psd_of_beginning, uniform_of}
 use Rattle.dutch_floors.proofs.C07Outlook.{awaited_holds, flat_residents}
@@ -22,6 +28,7 @@ use Rattle.dutch_floors.proofs.C11StrongPreferences.{more_miss_strongly}
 use Rattle.dutch_bracket.proofs.FixedPairs.{beside, none_known}
 use Rattle.dutch_bracket.proofs.FloorOrder.{floor_holds}
 use Rattle.dutch_bracket.proofs.LegalPairs.{legal_of}
+use Rattle.dutch_bracket.proofs.QualityOrder.{less, lists_tied}
 use Rattle.dutch_bracket.proofs.FixedListsLemmas.{has_fixed_pairs}
 
 same_not_lower : (xs : List ℕ) → is_lower (highest_first xs) (highest_first xs) ≡ false
@@ -34,12 +41,6 @@ known_not_lower facts reached shape s s1 =
     same_not_lower (map (λ i. score_at facts (seat_of reached.seats i) - s) s1
     ++ (map (λ i. (score_at facts (seat_of reached.seats i) - s) + 2) (left_of (numbers_from 1 reached.mdps) s1)
     ++ (repeated 0 (remainder_pairs shape) ++ repeated 2 (residents_down reached shape))))
-
--- what holds of the bracket that floors stand on holds of the one that they are for
-pub from_basis : (facts : Facts) (reached : Reached) (lower : List ℕ) (shape : Shape) (basis : Basis) → IsBasis facts reached lower shape basis
-    → (P : Facts → Reached → Shape → Type 0) → P basis.facts basis.reached basis.shape → P facts reached shape
-from_basis facts reached lower shape basis is P holds =
-    subst (λ fs. P fs reached shape) is.facts_are (subst (λ st. P basis.facts st shape) is.stand_is (subst (P basis.facts basis.reached) is.shape_is holds))
 
 module _ (basis : Basis) (lower : List ℕ) (a : Arrangement) (of' : IsOf basis.facts basis.reached) (m : IsIn a (candidates_of basis.facts basis.reached basis.shape)) where
   abbrev facts : Facts
@@ -121,13 +122,37 @@ module _ (basis : Basis) (lower : List ℕ) (a : Arrangement) (of' : IsOf basis.
 pub known_s1 : (basis : Basis) (b : Beginning) → is_known basis b ≡ true → (has_s1 b.filling || is_uniform basis.facts basis.reached basis.shape) ≡ true
 known_s1 basis b h = (and_parts (is_of_shape basis.reached basis.shape (fixed_lists b)) _ h).1
 
--- the same of the bracket that floors are for
-pub no_better : (shaped : ShapedBracket) (basis : Basis) (b : Beginning) (floor : Quality) → IsBasisFor shaped basis
-    → IsOf shaped.context.now.facts shaped.context.now.reached → is_known basis b ≡ true → floor ≡ floor_of basis b
-    → OfEachWithBeginning shaped b (λ a. is_better (quality_here shaped.context.now a) floor ≡ false)
-no_better shaped basis b floor is of' known e a m h =
-    let context = shaped.context.now in
-    from_basis context.facts context.reached context.lower shaped.shape basis is
-    (λ fs st sh. IsOf fs st → IsOutlook fs st context.lower sh basis.outlook → IsIn a (candidates_of fs st sh) → is_better (quality_of fs st context.lower a) floor ≡ false)
-    (λ of'' outlook m'. ap (is_better (quality_of basis.facts basis.reached context.lower a)) e
-    ∙ floor_stands basis context.lower a of'' m' b h (known_s1 basis b known) outlook) of' is.outlook m
+-- so it is a floor
+pub none_beats : (basis : Basis) (b : Beginning) (floor : Quality) → IsOf basis.facts basis.reached
+    → IsOutlook basis.facts basis.reached basis.lower basis.shape basis.outlook → is_known basis b ≡ true → floor ≡ floor_of basis b → NoneBeats basis b floor
+none_beats basis b floor of' outlook known e a m h =
+    ap (is_better (quality_of basis.facts basis.reached basis.lower a)) e ∙ floor_stands basis basis.lower a of' m b h (known_s1 basis b known) outlook
+
+-- ---- values of the next bracket
+
+not_lower_by : (xs ys zs : List ℕ) (o : Ordering) → slice_cmp nat_cmp ys zs ≡ o → is_lower xs ys ≡ false → is_lower ys zs ≡ false → is_lower xs zs ≡ true → ⊥
+not_lower_by xs ys zs Less e first second low = true≢false (sym (ap is_lt e) ∙ second)
+not_lower_by xs ys zs Equal e first second low = true≢false (sym low ∙ ap (is_lower xs) (sym (lists_tied ys zs e)) ∙ first)
+not_lower_by xs ys zs Greater e first second low =
+    true≢false
+    (sym (ap is_lt (nat_list_cmp_total.trans xs zs ys (less (slice_cmp nat_cmp xs zs) low) (nat_list_cmp_total.antisymm zs ys ∙ ap ordering_reverse e))) ∙ first)
+
+-- who has no better value than one, has no better value than another that the one is no better than
+none_better_on : (q : Quality) (next other : NextValue) → HasNoBetter q next → IsNoBetter next other → HasNoBetter q other
+none_better_on q next other first second = (
+  omega (arith, first.0, second.0),
+  λ same.
+      let here : q.next_pairs ≡ next.pairs = omega (arith, first.0, second.0, same) in
+      let there : next.pairs ≡ other.pairs = omega (arith, first.0, second.0, same) in
+      false_from_ne_true (is_lower q.next_psd other.psd)
+      (not_lower_by q.next_psd next.psd other.psd (slice_cmp nat_cmp next.psd other.psd) refl (first.1 here) (second.1 there)),
+)
+
+-- C.7: where what is awaited behind a beginning is not better than another value, no candidate's is
+pub none_has_better_next : (basis : Basis) (b : Beginning) (other : NextValue) → IsOf basis.facts basis.reached
+    → IsOutlook basis.facts basis.reached basis.lower basis.shape basis.outlook → (has_s1 b.filling || is_uniform basis.facts basis.reached basis.shape) ≡ true
+    → IsNoBetter (awaited basis.facts basis.reached basis.shape basis.outlook (s1_of basis b)) other → NoneHasBetterNext basis b other
+none_has_better_next basis b other of' outlook known none a m begins =
+    none_better_on (quality_of basis.facts basis.reached basis.lower a) (awaited basis.facts basis.reached basis.shape basis.outlook (s1_of basis b)) other
+    (awaited_holds basis.facts basis.reached basis.lower basis.shape basis.outlook of' outlook b.filling b.lists a
+    (legal_of basis.facts basis.reached basis.shape a m).arranged begins known) none
