@@ -60,13 +60,22 @@ fn put_blocked(text: &mut Page, telling: &Telling<'_>, barrier: &Barrier) -> Res
         (blocked_line telling.now barrier.now) (blocked_words telling.now barrier.now)) }
 {
     let seats = labelled(text.allocator(), telling, barrier, 0)?;
-    let seats = seats.as_slice();
-    let words = [Text("Blocking players: "), Seats(seats), Text(".\n")];
-    let (front, end) = (Text("blocked by"), Text("\n"));
     if barrier.has_blockers(telling.field) {
-        return say(text, telling, &[front, Ranks(seats), end], &words);
+        let (line, words) = (Ranks(seats.as_slice()), Seats(seats.as_slice()));
+        return say(
+            text,
+            telling,
+            &[Text("blocked by"), line, Text("\n")],
+            &[Text("Blocking players: "), words, Text(".\n")],
+        );
     }
-    say(text, telling, &[front, Text(" -"), end], &words)
+    let words = Seats(seats.as_slice());
+    say(
+        text,
+        telling,
+        &[Text("blocked by"), Text(" -"), Text("\n")],
+        &[Text("Blocking players: "), words, Text(".\n")],
+    )
 }
 
 // Puts the odd groups, in the order of their first players.
