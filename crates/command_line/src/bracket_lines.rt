@@ -10,8 +10,10 @@ use crate::item_lines::put_items;
 use dutch_pair::{Reached, Stage};
 use round_lines::bracket_texts::put_bracket;
 use round_lines::page::Page;
+use round_lines::pieces::Piece::Text;
+use round_lines::pieces::say;
 use round_lines::put_members;
-use round_lines::telling::{Telling, in_wording};
+use round_lines::telling::Telling;
 use std::alloc::AllocError;
 
 /// Puts the brackets, in the order in which the round reaches them: all of them, or those of one seat and what in them
@@ -57,11 +59,9 @@ fn put_stage(
     put_bracket(text, telling, stage.reached(), stage.shape())?;
     put_members(text, telling, stage.reached())?;
     if stage.is_again() {
-        return text.push_str(in_wording(
-            telling.wording,
-            "again C.4\n",
-            "Those it leaves over could not all be paired with the players below, so it is paired again as the next bracket (C.4).\n",
-        ));
+        let words =
+            "Those it leaves over could not all be paired with the players below, so it is paired again as the next bracket (C.4).\n";
+        return say(text, telling, &[Text("again C.4\n")], &[Text(words)]);
     }
     put_chosen(text, telling, stage, whose)
 }

@@ -115,6 +115,7 @@ fn put_best(
     ensures { OnOk result (text.new ≡ text.old ++ (best_front telling.now.wording ++ candidate_text telling.now.wording
         candidate.now.lists (quality_in of.entry.0.now) (quality_in of.entry.1.now))) }
 {
-    text.push_str(in_wording(telling.wording, "", "the best candidate that allows it "))?;
+    let words = [Text("the best candidate that allows it ")];
+    say(text, telling, &[Text("")], &words)?;
     put_candidate(text, telling, candidate, of)
 }
