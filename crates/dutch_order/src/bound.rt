@@ -1,13 +1,13 @@
 // What can tell that no candidate with a given beginning is of interest. Then a listing may leave them all out.
 ghost use Rattle.std.specs.Prelude.{◌≡◌, ℕ, Bool, true};
 ghost use Rattle.dutch_order.specs.Arrangements.{Arrangement, Frame, candidates};
-ghost use Rattle.dutch_order.specs.Exchanged.{IsExchange};
-ghost use Rattle.dutch_order.specs.Keys.{IsIn};
+ghost use Rattle.dutch_sequence.specs.Exchanged.{IsExchange};
+ghost use Rattle.dutch_sequence.specs.Keys.{IsIn};
 ghost use Rattle.dutch_order.specs.Prefixes.{Begins};
 ghost use Rattle.dutch_order.specs.declared.bracket.Shape.{Shape};
 
-use crate::exchanged::Exchange;
 use crate::prefix::Prefix;
+use dutch_sequence::Exchange;
 
 /// Tells by how candidates of a bracket and a shape begin that they are without interest. It answers for all
 /// beginnings.

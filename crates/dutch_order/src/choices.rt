@@ -7,24 +7,23 @@
 ghost use Rattle.std.specs.Prelude.{◌≡◌, ◌+◌, ◌≤◌, ℕ, List, None, [], ◌∷◌, length, option_copied, true};
 ghost use Rattle.std.specs.List.{AllByRecursion};
 ghost use Rattle.std.specs.List.Sorted.{IsStrictlyIncreasing};
-ghost use Rattle.dutch_order.specs.Arrangements.{Arrangement, arrangements, left_of};
-ghost use Rattle.dutch_order.specs.Keys.{IsIn};
-ghost use Rattle.dutch_order.specs.Levels.{HasS1r, HasS2, HasS2r, Of, if_own, in_bracket, in_s1, in_s1r, in_s2, joined};
+ghost use Rattle.dutch_order.specs.Arrangements.{Arrangement, arrangements};
+ghost use Rattle.dutch_sequence.specs.Choices.{left_of, joined};
+ghost use Rattle.dutch_sequence.specs.Keys.{IsIn};
+ghost use Rattle.dutch_order.specs.Levels.{HasS1r, HasS2, HasS2r, Of, if_own, in_bracket, in_s1, in_s1r, in_s2};
 ghost use Rattle.dutch_order.specs.Levels.{without_own};
-ghost use Rattle.dutch_order.specs.Steps.{MatchDrawn, Passes, Spends};
+ghost use Rattle.dutch_sequence.specs.Steps.{MatchDrawn, Passes, Spends};
 
 use crate::arrangement::Arrangement;
 use crate::bracket::FittingShape;
 use crate::cursor::Cursor;
-use crate::cuts::{Cuts, CutsTuples, OfS1r, OfS2, OfS2r, Unless};
-use crate::exchange::Exchanges;
-use crate::generator::Generator;
+use crate::cuts::{Cuts, OfS1r, OfS2, OfS2r, Unless};
 use crate::levels::{Arranges, Blocks, Level};
-use crate::limbo::LimboExchanges;
-use crate::numbers::{Numbers, is_same, put_left_of, refill};
-use crate::rules::Rule;
-use crate::steps::{Budget, Drawn};
-use crate::transposition::{Meeting, Transpositions};
+use dutch_sequence::numbers::{is_same, put_left_of, refill};
+use dutch_sequence::{
+    Budget, CutsTuples, Drawn, Exchanges, Generator, LimboExchanges, Meeting, Numbers, Rule,
+    Transpositions,
+};
 use std::marker::Model;
 
 /// Arrangements with the same S1, S2 and S1R: one for each S2R, by article D.1.
@@ -318,7 +317,8 @@ impl<'a, R: Rule> Model for ByS2<'a, R> {
     ghost use Rattle.std.specs.Prelude.{◌≤◌, List, length, option_copied};
     ghost use Rattle.std.specs.List.{AllByRecursion};
     ghost use Rattle.std.specs.List.Sorted.{IsStrictlyIncreasing};
-    ghost use Rattle.dutch_order.specs.Arrangements.{Arrangement, left_of};
+    ghost use Rattle.dutch_order.specs.Arrangements.{Arrangement};
+    ghost use Rattle.dutch_sequence.specs.Choices.{left_of};
     ghost use Rattle.dutch_order.specs.Levels.{HasS1r, Of, s2_blocks};
 
     ghost Value = { List (List Arrangement) };

@@ -4,7 +4,7 @@ use Rattle.std.specs.List.Sorted.{IsStrictlyIncreasing}
 use Rattle.dutch_order.specs.Prelude.{Arrangement, left_of, HasS1r, HasS2, Of, choices_from, in_s1, joined, s2_blocks, all_meet, from_on, all_tuples}
 use Rattle.dutch_order.specs.contracts.cursor.Cursor.{the_view}
 use Rattle.dutch_order.proofs.Blocks.{of-both}
-use Rattle.dutch_order.proofs.Counts.{opponents-leave, opponents-leave-from}
+use Rattle.dutch_sequence.proofs.Counts.{opponents-leave, opponents-leave-from}
 use Rattle.dutch_order.proofs.choices.ByS2.start.Goals as goal
 
 -- the same lists have the same blocks

@@ -2,7 +2,7 @@ use Rattle.std.proofs.Common.{◌≡◌, ◌≤◌, sym, subst, ap, ◌∙◌, �
 use Rattle.std.specs.List.{AllByRecursion}
 use Rattle.dutch_order.specs.Prelude.{left_of, HasS1r, Of, if_own, in_s2, joined, s2_blocks}
 use Rattle.dutch_order.proofs.Blocks.{IdleS2, comes, ends, idle-in-s2, some-lent, stops, taken}
-use Rattle.dutch_order.proofs.Skipping.{passes-none, passes-more, passes-keeps, drawn, drawn-stopped}
+use Rattle.dutch_sequence.proofs.Skipping.{passes-none, passes-more, passes-keeps, drawn, drawn-stopped}
 use Rattle.dutch_order.proofs.choices.ByS2Blocks.next_block.Goals as goal
 
 pub invariant_of-self : goal.invariant_of-self
