@@ -73,7 +73,7 @@ cell_text (Unfinished opponent colour) = meeting_text opponent (Some colour) (by
 abbrev pub round_text : Cell → List ℕ
 round_text cell = codes "  " ++ cell_text cell
 
--- the line of a player
+-- the line of a player in TRF16's columns, with numbers and points at the right of their fields [with written]
 abbrev pub player_text : Bool → Entry → List ℕ
 player_text utf8 entry =
     codes "001 " ++ (right_in_four (decimal entry.start) ++ (left_in utf8 72 entry.left ++ (points_field entry.points
@@ -86,6 +86,6 @@ lines_text utf8 (Some line ∷ rest) players = line ++ (byte "\n" ∷ lines_text
 lines_text utf8 (None ∷ rest) [] = lines_text utf8 rest []
 lines_text utf8 (None ∷ rest) (entry ∷ players) = player_text utf8 entry ++ (byte "\n" ∷ lines_text utf8 rest players)
 
--- the canonical text of a report
+-- the canonical text of a report: carried lines as they stand and the players' lines, each ended by LF, and no byte order mark [TRF16; own]
 abbrev pub written : Sheet → List ℕ
 written sheet = lines_text sheet.utf8 sheet.carried sheet.players
