@@ -69,7 +69,7 @@ those_with_topscorers facts holds pairs = those_in_pairs facts holds (filter (ha
 abbrev pub seats_of : List Floater → List ℕ
 seats_of floaters = map (λ floater. floater.seat) floaters
 
--- C.8 to C.15: the players of a candidate whom an item counts; the other items count no players
+-- the players of a candidate whom one of C.8 to C.15 counts; the other items count no players [C.8 to C.15, E]
 abbrev pub counted : Facts → Seated → Item → List ℕ
 counted facts candidate WideDifferences = those_with_topscorers facts (misses Wide) candidate.pairs
 counted facts candidate ThirdColours = those_with_topscorers facts (misses Third) candidate.pairs
@@ -85,11 +85,11 @@ counted facts candidate item = []
 abbrev pub by_rank : List ℕ → List ℕ
 by_rank seats = reverse (highest_first seats)
 
--- C.8 to C.15: the players whom an item counts of a candidate of a bracket, by rank
+-- the players whom an item counts of a candidate of a bracket, by rank [with counted]
 abbrev pub who_counts : Facts → Reached → Candidate → Item → List ℕ
 who_counts facts reached candidate item = by_rank (counted facts (by_seats facts reached.seats candidate) item)
 
--- C.8 to C.15: how many players an item says that it counts; the other items count no players
+-- how many players an item says that it counts; the other items count no players [with counted]
 abbrev pub players_counted : Item → Quality → ℕ
 players_counted WideDifferences q = q.wide_differences
 players_counted ThirdColours q = q.third_colours
