@@ -13,7 +13,7 @@ moved_down reached = take reached.mdps reached.seats
 abbrev pub NoTwoMayMeet : Facts → List ℕ → Type 0
 NoTwoMayMeet facts players = (a b : ℕ) → IsIn a players → IsIn b players → seats_meet facts a b ≡ false
 
--- A.9: a list of pairs of those who may meet pairs some players out: it leaves out at most one of them, who may be left out
+-- a list of pairs of those who may meet pairs some players out: it leaves out at most one of them, who may be left out [A.9, C.1 to C.3]
 pub record PairOut (facts : Facts) (players : List ℕ) (pairs : List (ℕ × ℕ)) : Type 0 where
   pub out : List ℕ
   pub covered : Covers (seats_meet facts) players pairs out
