@@ -38,7 +38,7 @@ pair_fits start round mine theirs =
     if not (are_opposite (colour_in_cell mine) (colour_in_cell theirs) || (is_forfeit mine && is_forfeit theirs)) then Err (Colours start round)
     else (if not (are_of_one_class mine theirs && nat_le (game_points mine + game_points theirs) 2) then Err (Results start round) else Ok tt)
 
--- a cell of a player in a round names another player of the report, who names the first one too [own]
+-- a cell of a player in a round names another player of the report, who names the first one too [with pair_fits]
 unfoldable pub cell_fits : Sheet → ℕ → ℕ → Cell → Result (Unit {0}) Fault
 cell_fits sheet start round mine =
     option_map_or (λ opponent.

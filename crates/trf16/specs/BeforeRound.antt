@@ -11,7 +11,7 @@ use Rattle.trf16.specs.declared.cell.Cell.{Cell}
 use Rattle.trf16.specs.declared.cell.Cell.TheVariants.{Blank, Bye}
 
 -- what a cell of a round was before the round was paired: H, F and Z stay, a pairing was not made yet, and whom it left blank was absent,
--- which Z says [own]
+-- which Z says [with taken_back]
 abbrev pub cell_back : Cell → Cell
 cell_back cell = if is_blank_cell cell then Bye Zero else (if is_paired cell then Blank else cell)
 
@@ -27,7 +27,7 @@ entry_back bye before entry = record entry {
   cells = cells_back before entry.cells;
 }
 
--- a line that is carried: of a line XXZ its first three columns stay, and whom it names does not (the cells say who was absent) [own]
+-- a line that is carried: of a line XXZ its first three columns stay, and whom it names does not [with taken_back]
 abbrev pub line_back : Bool → List ℕ → List ℕ
 line_back utf8 line = if is_kind (codes "XXZ") (columns utf8 line) then text (columns utf8 line) 1 3 else line
 

@@ -9,7 +9,7 @@ use Rattle.trf16.specs.Fields.{words, number_of, number_in}
 use Rattle.trf16.specs.declared.cell.Colour.{Colour}
 use Rattle.trf16.specs.declared.cell.Colour.TheVariants.{White, Black}
 
--- two words are the same but for the case of their letters [TRF16 extensions]
+-- two words are the same but for the case of their letters [with colour_in]
 abbrev pub is_word : List ℕ → List ℕ → Bool
 is_word word capitals = bytes_eq (map to_ascii_lowercase word) (map to_ascii_lowercase capitals)
 
@@ -29,7 +29,7 @@ positive n = if n == 0 then None else Some n
 abbrev pub rounds_in : List (List ℕ) → Option ℕ
 rounds_in all = option_and_then positive (number_in all)
 
--- XXC: what a word names: white1 the initial colour white, black1 black, and rank no colour [with colour_in]
+-- what a word of XXC names: white1 the initial colour white, black1 black, and rank no colour [with colour_in]
 abbrev pub colour_named : List ℕ → Option (Option Colour)
 colour_named word =
     if is_word word (codes "WHITE1") then Some (Some White)

@@ -23,6 +23,6 @@ abbrev pub AreSum : Sheet → Entry → ℕ → Type 0
 AreSum sheet entry points = (points ≡ sum_by (half_points sheet.bye) (take (rounds_played sheet) entry.cells))
     ⊎ ((points ≡ sum_by (half_points sheet.bye) entry.cells) ⊎ ((has_other_points sheet ≡ true) × (points < 200)))
 
--- each points field that is not blank is a sum of its player's points, as `points_fit` says [own]
+-- each points field that is not blank is a sum of its player's points [with points_fit]
 abbrev pub HavePoints : Sheet → Type 0
 HavePoints sheet = (entry : Entry) → Contains sheet.players entry → IfSome entry.points (AreSum sheet entry)

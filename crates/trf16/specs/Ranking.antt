@@ -16,7 +16,7 @@ abbrev pub NoneBefore : {T : Type 0} → (T → T → Bool) → T → List T →
 NoneBefore before x [] = Unit {0}
 NoneBefore before x (other ∷ rest) = (before other x ≡ false) × NoneBefore before x rest
 
--- none goes before one that stands in front of it [own]
+-- none goes before one that stands in front of it [with ranked_by]
 abbrev pub IsRankedBy : {T : Type 0} → (T → T → Bool) → List T → Type 0
 IsRankedBy before [] = Unit {0}
 IsRankedBy before (x ∷ rest) = NoneBefore before x rest × IsRankedBy before rest

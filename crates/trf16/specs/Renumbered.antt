@@ -42,7 +42,7 @@ abbrev pub names_start_ranks : List (List ℕ) → Bool
 names_start_ranks line = is_kind (codes "XXZ") line || is_kind (codes "XXP") line
 
 -- a line XXZ or XXP with the new numbers of those that have one, each behind a blank, behind its first three columns; other lines as they
--- stand [own]
+-- stand [with renumbered]
 abbrev pub renumbered_line : Bool → (ℕ → ℕ) → List ℕ → List ℕ
 renumbered_line utf8 new line =
     let cols = columns utf8 line in

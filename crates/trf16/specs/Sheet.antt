@@ -117,7 +117,7 @@ half_points bye cell = game_points cell
 abbrev pub points_upto : Sheet → ℕ → ℕ → ℕ
 points_upto sheet start upto = sum_by (half_points sheet.bye) (take upto (cells_of sheet.players start))
 
--- the opponent that a cell names, in a forfeit too [TRF16, columns 92 to 95]
+-- the opponent that a cell names, in a forfeit too [TRF16, columns 92 to 97]
 abbrev pub opponent_in_cell : Cell → Option ℕ
 opponent_in_cell Blank = None
 opponent_in_cell (Bye bye) = None

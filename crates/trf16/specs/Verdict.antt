@@ -60,7 +60,7 @@ rounds_at n line before (suc more) = do
   others ← rounds_at n line (before + 1) more
   Ok (cell ∷ others)
 
--- a cell that says nothing of its round [TRF16]
+-- a cell that says nothing of its round [with cell_from]
 abbrev pub is_blank_cell : Cell → Bool
 is_blank_cell Blank = true
 is_blank_cell _ = false
