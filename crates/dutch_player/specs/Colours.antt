@@ -39,7 +39,7 @@ alternated (mine ∷ before) (theirs ∷ their_before) = if is_same mine theirs 
 abbrev pub by : ColourRule → Colour → Decision
 by rule colour = record { rule = rule; colour = colour }
 
--- the colours alternate, if there is a game from which they can; else E.4: the higher ranked gets what they want [with contested]
+-- E.3: the colours alternate, if there is a game from which they can; else E.4: the higher ranked gets what they want
 abbrev pub by_history : Option Colour → Colour → Decision
 by_history (Some alternate) wanted = by Alternation alternate
 by_history None wanted = by HigherRank wanted
