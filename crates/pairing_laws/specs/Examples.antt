@@ -19,7 +19,7 @@ boards_of facts = option_map (boards facts) (round facts).pairing
 abbrev pub pairs_reached : Facts → List ℕ
 pairs_reached facts = map (λ visit. visit.shape.pairs) (round facts).reached
 
--- a player who may have the bye: start rank, score, colours, opponents, and the float in the last round [own]
+-- a player who may have the bye: start rank, score, colours, opponents, and the float in the last round [with boards_of]
 abbrev pub player : ℕ → ℕ → List Colour → List ℕ → Option Float → SeatFacts
 player start score played opponents latest = record {
   start = start;
@@ -49,19 +49,19 @@ idle_winner start score = record {
 abbrev pub before : ℕ → ℕ → List SeatFacts → Facts
 before round total seats = record { seats = seats; round = round; total = total; initial = White }
 
--- five players before the first round [own]
+-- five players before the first round [with boards_of]
 abbrev pub five_players : Facts
 five_players =
     before 1 5 (player 1 0 [] [] None ∷ player 2 0 [] [] None ∷ player 3 0 [] [] None ∷ player 4 0 [] [] None ∷ player 5 0 [] [] None ∷ [])
 
--- one player leads, moves down alone, and meets the one with whom both get their colour [own]
+-- one player leads, moves down alone, and meets the one with whom both get their colour [with boards_of]
 abbrev pub leader_moves_down : Facts
 leader_moves_down =
     before 2 5
     (player 1 2 (White ∷ []) (3 ∷ []) None ∷ player 2 1 (Black ∷ []) (4 ∷ []) None ∷ player 4 1 (White ∷ []) (2 ∷ []) None
     ∷ player 3 0 (Black ∷ []) (1 ∷ []) None ∷ [])
 
--- its second bracket: the leader above the two with one half point, who are followed by the last player [own]
+-- the second bracket of `leader_moves_down`: the leader above the two with one half point, who are followed by the last player [own]
 abbrev pub leader_above_two : Reached
 leader_above_two = bracket 2 Ordinary (0 ∷ []) (1 ∷ 2 ∷ [])
 
@@ -89,20 +89,20 @@ leader_quality missed = record {
   up_again_before_by = [];
 }
 
--- two with a full-point bye above two who have met: the first bracket cannot keep its pair [own]
+-- two with a full-point bye above two who have met: the first bracket cannot keep its pair [with boards_of]
 abbrev pub pair_given_up : Facts
 pair_given_up =
     before 2 3
     (idle_winner 1 2 ∷ idle_winner 2 2 ∷ player 3 1 (White ∷ []) (4 ∷ []) None ∷ player 4 1 (Black ∷ []) (3 ∷ []) None ∷ [])
 
--- four players who have all met [own]
+-- four players who have all met [with boards_of]
 abbrev pub all_met : Facts
 all_met =
     before 4 4
     (player 1 3 (White ∷ Black ∷ White ∷ []) (4 ∷ 2 ∷ 3 ∷ []) None ∷ player 2 3 (White ∷ White ∷ Black ∷ []) (3 ∷ 1 ∷ 4 ∷ []) None
     ∷ player 3 3 (Black ∷ White ∷ Black ∷ []) (2 ∷ 4 ∷ 1 ∷ []) None ∷ player 4 3 (Black ∷ Black ∷ White ∷ []) (1 ∷ 3 ∷ 2 ∷ []) None ∷ [])
 
--- two leaders who both had white twice, before a third round of some total; in the last round they are topscorers [own]
+-- two leaders who both had white twice, before a third round of some total; in the last round they are topscorers [with boards_of]
 abbrev pub two_leaders : ℕ → Facts
 two_leaders total =
     before 3 total
@@ -110,6 +110,6 @@ two_leaders total =
     ∷ player 3 1 (White ∷ Black ∷ []) (4 ∷ 1 ∷ []) None ∷ player 4 1 (Black ∷ Black ∷ []) (3 ∷ 2 ∷ []) None
     ∷ player 5 1 (Black ∷ White ∷ []) (1 ∷ 6 ∷ []) (Some Up) ∷ player 6 1 (Black ∷ Black ∷ []) (2 ∷ 5 ∷ []) (Some Up) ∷ [])
 
--- three players, of whom the one with a forfeit win has no colour history and cannot have the bye [own]
+-- three players, of whom the one with a forfeit win has no colour history and cannot have the bye [with boards_of]
 abbrev pub forfeit_winner : Facts
 forfeit_winner = before 2 5 (player 1 2 (White ∷ []) (5 ∷ []) None ∷ player 2 2 (Black ∷ []) (6 ∷ []) None ∷ idle_winner 3 2 ∷ [])
