@@ -42,7 +42,7 @@ number_notes sheet n (Some number) =
     if not (known sheet number) then NoPlayer n number ∷ []
     else (if played_last sheet number then PlayedLast n number ∷ [] else [])
 
--- XXZ: of each number, that no player has it, or that its player played the last round [own]
+-- XXZ: of each number, that no player has it, or that its player played the last round [with carried_notes]
 abbrev pub absent_notes : Sheet → ℕ → List (List ℕ) → List Noted
 absent_notes sheet n [] = []
 absent_notes sheet n (word ∷ rest) = number_notes sheet n (number_of word) ++ absent_notes sheet n rest
@@ -56,7 +56,7 @@ abbrev pub names_one : List (List ℕ) → Bool
 names_one [] = false
 names_one (word ∷ rest) = option_map_or (λ number. are_all number rest) (number_of word) false
 
--- XXP: each number that no player has; then, where it is so, that the line names one player [own]
+-- XXP: each number that no player has; then, where it is so, that the line names one player [with carried_notes]
 abbrev pub name_notes : Sheet → ℕ → List (List ℕ) → Bool → List Noted
 name_notes sheet n names alone = map (NoPlayer n) (strangers sheet names) ++ (if alone then OnePlayer n ∷ [] else [])
 
@@ -65,7 +65,7 @@ abbrev pub note_if : Bool → Noted → List Noted
 note_if false note = []
 note_if true note = note ∷ []
 
--- a line XXR names at least as many rounds as there are players, though nobody has as many opponents [own]
+-- a line XXR names at least as many rounds as there are players [with carried_notes]
 abbrev pub has_many_rounds : Sheet → Bool
 has_many_rounds sheet = option_map_or (λ total. nat_le (length sheet.players) total) sheet.total false
 
@@ -77,7 +77,7 @@ extension_notes sheet n line =
     else (if is_kind (codes "XXR") line then note_if (has_many_rounds sheet) (ManyRounds n) else []))
 
 -- of line n, which is carried: nothing where it is blank; else that its kind is not known; else that blanks stand before the kind; else
--- whom XXZ and XXP name in vain, or that XXR names as many rounds as players [own]
+-- what `absent_notes`, `name_notes` and `has_many_rounds` say of XXZ, XXP and XXR [own]
 abbrev pub carried_notes : Sheet → ℕ → List ℕ → List Noted
 carried_notes sheet n line =
     if is_blank line then []

@@ -65,7 +65,7 @@ line_of (Misaligned line column) = Some line
 line_of (BadCell line round) = Some line
 line_of fault = None
 
--- a line alone as a text whose columns are bytes: behind it stands a byte that is in no UTF-8 [own]
+-- a line alone as a text whose columns are bytes: behind it stands a byte that is in no UTF-8 [with are_lines_read]
 abbrev pub alone_in_bytes : List ℕ → List ℕ
 alone_in_bytes line = line ++ (byte "\n" ∷ 0xFF ∷ [])
 
@@ -101,7 +101,7 @@ sums_among sheet entries start = option_and_then (sums_of sheet) (player_of entr
 
 -- ---- the encoding
 
--- which byte order a text in UTF-16 has, by the two bytes at its front [own]
+-- which byte order a text in UTF-16 has, by the two bytes at its front [with first_kind_note]
 abbrev pub byte_order : List ℕ → Option ByteOrder
 byte_order (a ∷ b ∷ rest) =
     if (a == 0xFF) && (b == 0xFE) then Some Little else (if (a == 0xFE) && (b == 0xFF) then Some Big else None)
@@ -140,17 +140,17 @@ player_columns bytes start first last =
     let utf8 = is_utf8 (without_marks bytes) in
     text (columns utf8 (line_with utf8 start (lines (without_marks bytes)))) first last
 
--- what a player's line holds of a round: opponent, colour and result [own]
+-- what a player's line holds of a round: opponent, colour and result [with held]
 abbrev pub cell_held : List ℕ → ℕ → ℕ → List ℕ
 cell_held bytes start round = player_columns bytes start (82 + 10 * round) (89 + 10 * round)
 
--- the opponent whom it names in a round; 0 where it names none [with cell_held]
+-- the opponent whom it names in a round; 0 where it names none [with held]
 abbrev pub opponent_held : List ℕ → ℕ → ℕ → ℕ
 opponent_held bytes start round = option_map_or (λ n. n) (number_in (words (player_columns bytes start (82 + 10 * round) (85 + 10 * round)))) 0
 
 -- ---- extensions
 
--- the kind of line n, if it is one of an extension that is read [own]
+-- the kind of line n, if it is one of an extension that is read [with first_kind_note]
 abbrev pub extension_at : List ℕ → ℕ → Option Extension
 extension_at bytes n =
     if is_kind (codes "XXR") (columns_in bytes n) then Some Xxr
