@@ -72,7 +72,7 @@ has_s1 S1 = false
 has_s1 S2 = true
 has_s1 S2r = true
 
--- lists of numbers of a bracket that make at most 1,024 pairs, where of those who meet the second is not the longer one [own]
+-- lists of numbers of a bracket that make at most 1,024 pairs, where of those who meet the second is not the longer one [with is_of_shape]
 pub record HasNumbers (reached : Reached) (lists : Arrangement) : Type 0 where
   pub s1 : AllNumbers reached.seats lists.s1
   pub s2 : AllNumbers reached.seats lists.s2

@@ -63,7 +63,7 @@ abbrev pub collide : Option Pref → Option Pref → Bool
 collide (Some a) (Some b) = is_same a.colour b.colour
 collide _ _ = false
 
--- neither of two numbers misses a preference, and they may meet [own]
+-- neither of two numbers misses a preference, and they may meet [with wants]
 unfoldable pub suits : Facts → Reached → ℕ → ℕ → Bool
 suits facts reached x y =
     (count_in facts (misses Preference) (seat_of reached.seats x, seat_of reached.seats y) == 0) && numbers_meet facts reached x y

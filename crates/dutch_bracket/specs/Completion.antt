@@ -67,7 +67,8 @@ most_taking (suc zero) k bye = most_of_one (λ j. 0) k + most_of_bye 0 bye
 most_taking (suc (suc n)) k bye =
     (n + 1) * (1 + most_taking n k bye) + (most_of_one (λ j. most_taking (suc n) j bye) k + most_of_bye (most_taking (suc n) k false) bye)
 
--- the most steps that it takes to tell whether n players are completable, where one may be left out and where none may: with no taker [own]
+-- the most steps that it takes to tell whether n players are completable, where one may be left out and where none may: with no taker [with
+-- SpendsAtMost]
 abbrev pub most : ℕ → Bool → ℕ
 most n bye = most_taking n 0 bye
 
@@ -82,13 +83,13 @@ pub record IsStopped (n : ℕ) (old new : Budget) : Type 0 where
   pub reached : new.used ≡ new.limit
   pub needed : old.limit < old.used + n
 
--- an answer takes steps: Yes at least one for each two players, and No one for each trial of the first player [own]
+-- an answer takes steps: Yes at least one for each two players, and No one for each trial of the first player [with SpendsAtMost]
 abbrev pub Takes : Answer → ℕ → ℕ → Budget → Budget → Type 0
 Takes Yes players trials old new = 2 * old.used + players ≤ 2 * new.used
 Takes No players trials old new = old.used + trials ≤ new.used
 Takes Undecided players trials old new = Unit {0}
 
--- a fact for each answer: yes, no, stopped [own]
+-- a fact for each answer: yes, no, stopped [with SpendsAtMost]
 abbrev pub MatchAnswer : Answer → Type 0 → Type 0 → Type 0 → Type 0
 MatchAnswer Yes completed failed undecided = completed
 MatchAnswer No completed failed undecided = failed

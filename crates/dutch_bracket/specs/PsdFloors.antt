@@ -8,7 +8,7 @@ use Rattle.dutch_bracket.specs.Reached.{Reached}
 use Rattle.dutch_bracket.specs.Seated.{seat_of, score_at}
 use Rattle.dutch_bracket.specs.ColourFloors.{residents_down}
 
--- a number so many times [with placed_all]
+-- a number so many times [with psd]
 abbrev pub repeated : ℕ → ℕ → List ℕ
 repeated x zero = []
 repeated x (suc n) = x ∷ repeated x n

@@ -22,9 +22,9 @@ use Rattle.dutch_bracket.specs.Seated.{Seated, difference, difference_down, goin
 pub record Quality : Type 0 where
   -- the differences of pairs and downfloaters, the highest first [C.6]
   pub psd : List ℕ
-  -- the most pairs of the next bracket [C.7]
+  -- the most pairs of the next bracket, and in `next_psd` the least PSD with so many [C.7]
   pub next_pairs : ℕ
-  -- the least PSD of the next bracket with so many pairs [C.7]
+  -- the least PSD of the next bracket with so many pairs
   pub next_psd : List ℕ
   -- players in pairs with a topscorer who get a colour difference over +2 or under -2 [C.8]
   pub wide_differences : ℕ
@@ -56,12 +56,12 @@ pub record NextValue : Type 0 where
   pub pairs : ℕ
   pub psd : List ℕ
 
--- a number put behind all that are higher [with placed_all]
+-- a number put behind all that are higher [with psd]
 abbrev pub placed : ℕ → List ℕ → List ℕ
 placed x [] = x ∷ []
 placed x (y ∷ ys) = if nat_lt x y then y ∷ placed x ys else x ∷ y ∷ ys
 
--- numbers put one by one to their places among some that are there, the highest first [own]
+-- numbers put one by one to their places among some that are there, the highest first [with psd]
 abbrev pub placed_all : List ℕ → List ℕ → List ℕ
 placed_all front [] = front
 placed_all front (x ∷ rest) = placed_all (placed x front) rest

@@ -14,13 +14,13 @@ pub record Scope : Type 0 where
   pub s1 : List ℕ
   pub s1r : List ℕ
 
--- all arrangements with a beginning are among those of a scope
+-- the same, by the list that is being filled in the scope
 abbrev pub CoversBy : Filling → Scope → Beginning → Type 0
 CoversBy S1 scope b = Unit {0}
 CoversBy S2 scope b = (has_s1 b.filling ≡ true) × (b.lists.s1 ≡ scope.s1)
 CoversBy S2r scope b = (b.filling ≡ S2r) × (b.lists.s1 ≡ scope.s1) × (b.lists.s1r ≡ scope.s1r)
 
--- the same of the beginnings of a scope [with Scope]
+-- all arrangements with a beginning are among those of a scope [with Scope]
 abbrev pub Covers : Scope → Beginning → Type 0
 Covers scope = CoversBy scope.filling scope
 

@@ -73,12 +73,12 @@ abbrev pub goes_up : Facts → ℕ × ℕ → Floater
 goes_up facts pair =
     record { seat = if nat_lt (score_at facts pair.0) (score_at facts pair.1) then pair.0 else pair.1; by = difference facts pair }
 
--- the player of a pair with different scores who floats so: the one with the higher score goes down, and the other one goes up [A.4]
+-- the player of a pair with different scores who floats so: the one with the higher score goes down, and the other one goes up [A.4; own]
 abbrev pub goes : Facts → Float → ℕ × ℕ → Floater
 goes facts Up = goes_up facts
 goes facts Down = goes_down facts
 
--- whoever is in no pair goes down too [A.4; own]
+-- whoever is in no pair goes down too [with goes]
 abbrev pub floats_down : Facts → ℕ → ℕ → Floater
 floats_down facts least seat = record { seat = seat; by = difference_down facts least seat }
 
@@ -103,13 +103,13 @@ IsPair facts pair = (pair.0 < length facts.seats) × (pair.1 < length facts.seat
 abbrev pub AllPairs : Facts → List (ℕ × ℕ) → Type 0
 AllPairs facts pairs = AllByRecursion (λ pair. (pair.0 < length facts.seats) × (pair.1 < length facts.seats)) pairs
 
--- a candidate of seats of a field, with at most 1,024 pairs and as many downfloaters [own]
+-- a candidate of seats of a field, with at most 1,024 pairs and as many downfloaters [with AreSeats]
 pub record HasSeats (facts : Facts) (candidate : Seated) : Type 0 where
   pub pairs : AllPairs facts candidate.pairs
   pub down : AreSeats facts candidate.down
   pub few : length candidate.pairs + length candidate.down ≤ LIMIT
 
--- numbers that a bracket with these seats has [own]
+-- numbers that a bracket with these seats has [with IsCandidate]
 abbrev pub AllNumbers : List ℕ → List ℕ → Type 0
 AllNumbers seats numbers = AllByRecursion (λ number. (0 < number) × (number ≤ length seats)) numbers
 

@@ -3,7 +3,7 @@ use Rattle.std.specs.Prelude.{ℕ, Bool, not, ◌&&◌, ◌==◌, nat_lt, length
 use Rattle.dutch_player.specs.Prelude.{Facts, seat_at, may_meet}
 use Rattle.dual.specs.Prelude.{Costs}
 
--- a place among the present players by rank, from 0 [with seats_meet]
+-- a place among the present players by rank, from 0 [with AreSeats]
 abbrev pub is_seat : Facts → ℕ → Bool
 is_seat facts a = nat_lt a (length facts.seats)
 

@@ -83,11 +83,11 @@ abbrev pub written : ℕ → List (ℕ × ℕ) → ℕ
 written front [] = front
 written front (digit ∷ digits) = written (digit.0 * front + digit.1) digits
 
--- so many units as the number with the digits of a quality says, those of C.7 as they are given [with weight_of]
+-- so many units as the number with the digits of a quality says, those of C.7 as they are given
 unfoldable pub weight_with : Scale → ℕ → List ℕ → Quality → ℕ
 weight_with scale alone psd quality = scale.unit * written 0 (digits_with scale alone psd quality)
 
--- how many players of the next bracket are in none of so many pairs; 0 if C.7 is not measured [C.7; own]
+-- how many players of the next bracket are in none of so many pairs; 0 if C.7 is not measured [with Scale]
 abbrev pub alone_by : Option NextScale → ℕ → ℕ
 alone_by None pairs = 0
 alone_by (Some next) pairs = next.players - 2 * pairs
@@ -120,7 +120,7 @@ nobody = record {
   up_again_before_by = [];
 }
 
--- what so many players of the next bracket who are in no pair, and its differences, weigh [C.7; own]
+-- what so many players of the next bracket who are in no pair, and its differences, weigh [with weight_of]
 abbrev pub weight_below : Scale → ℕ → List ℕ → ℕ
 weight_below scale alone psd = weight_with scale alone psd nobody
 
@@ -160,7 +160,7 @@ pub record Weighing : Type 0 where
 abbrev pub numbers : Reached → List ℕ
 numbers reached = numbers_from 1 (length reached.seats)
 
--- the pairs of an arrangement by number: S1 with S2, then S1R with S2R [B.3]
+-- the pairs of an arrangement by number: S1 with S2, then S1R with S2R [with weighing]
 abbrev pub number_pairs : Arrangement → List (ℕ × ℕ)
 number_pairs a = zip a.s1 a.s2 ++ zip a.s1r a.s2r
 
@@ -184,7 +184,7 @@ pub record IsOnNext (next : NextScale) (quality : Quality) : Type 0 where
   pub psd : IsAmong next.psd quality.next_psd
   pub within : 2 * quality.next_pairs ≤ next.players
 
--- a scale has a digit for each difference of a quality [own]
+-- a scale has a digit for each difference of a quality [with IsScale]
 pub record IsOn (scale : Scale) (quality : Quality) : Type 0 where
   pub psd : IsAmong scale.psd quality.psd
   pub next : ForSome scale.next (λ next. IsOnNext next quality)
@@ -193,7 +193,8 @@ pub record IsOn (scale : Scale) (quality : Quality) : Type 0 where
   pub down_again_before_by : IsAmong scale.floats quality.down_again_before_by
   pub up_again_before_by : IsAmong scale.floats quality.up_again_before_by
 
--- each digit of a quality is less than its base, and, if C.7 is measured, its next bracket has no more pairs than players for them [own]
+-- each digit of a quality is less than its base, and, if C.7 is measured, its next bracket has no more pairs than players for them [with
+-- IsScale]
 pub record HasDigits (scale : Scale) (quality : Quality) : Type 0 where
   pub small : AllByRecursion (λ digit. digit.1 < digit.0) (digits scale quality)
   pub within : IsWithin scale.next quality
@@ -216,7 +217,7 @@ pub record IsNextScale (facts : Facts) (reached : Reached) (lower : List ℕ) (s
   pub players : next.players ≡ (length reached.seats - 2 * shape.pairs) + length (first_group facts (scoregroups facts lower))
   pub high : next.players < next.base
 
--- a scale is one for the candidates of a shape: the base of each digit is above what they can have there [own]
+-- a scale is one for the candidates of a shape: the base of each digit is above what they can have there [with IsScale]
 pub record IsScaleFor (facts : Facts) (reached : Reached) (lower : List ℕ) (shape : Shape) (scale : Scale) : Type 0 where
   pub high : length reached.seats < scale.base
   pub floats : HasFloatBases facts reached.seats scale.float_bases
