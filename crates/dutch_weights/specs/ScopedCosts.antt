@@ -131,13 +131,13 @@ costs_by Next = next_costs
 abbrev pub costs_in : Scoped → Costs
 costs_in s = costs_by s.reach s
 
--- how many players they are [with IsReached]
+-- how many players they go over [with IsReached]
 abbrev pub size_by : Reach → Weighing → ℕ
 size_by Bracket w = length w.reached.seats
 size_by Lower w = length w.reached.seats + length w.lower
 size_by Next w = count_below w.facts w.reached w.lower
 
--- a number of one of them [own]
+-- a number of one of the players over whom the matchings go [own]
 abbrev pub IsReached : Scoped → ℕ → Type 0
 IsReached s a = (0 < a) × (a ≤ size_by s.reach s.weighing)
 

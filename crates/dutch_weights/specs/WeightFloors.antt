@@ -133,7 +133,7 @@ HasNoBetterOn (Some next) quality other = Unit {0}
 abbrev pub KnowsNext : Option Weighed → Quality → NextValue → Type 0
 KnowsNext weights quality other = ForSome weights (λ w. HasNoBetterOn w.scale.next quality other)
 
--- two qualities have one value of the next bracket, or the scale measures it (C.7) [C.7; own]
+-- two qualities have one value of the next bracket, or the scale measures it [C.7; own]
 abbrev pub HasSameNextOn : Option NextScale → Quality → Quality → Type 0
 HasSameNextOn None q r = next_in q ≡ next_in r
 HasSameNextOn (Some next) q r = Unit {0}
