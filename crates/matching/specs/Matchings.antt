@@ -23,7 +23,7 @@ pub record IsMatching (size : ℕ) (joined : ℕ → ℕ → Bool) (partners : L
 abbrev pub HasPairs : (ℕ → ℕ → Bool) → List (Option ℕ) → List (Option ℕ) → Type 0
 HasPairs joined links partners = (a b : ℕ) → IsPair joined links a b → Gives partners a b
 
--- each vertex has a label, none of them above the greatest [own]
+-- each vertex has a label, none of them above the greatest [with IsMatching]
 pub record AreLabels (size most : ℕ) (labels : List ℕ) : Type 0 where
   pub places : length labels ≡ size
   pub within : All (λ label. label ≤ most) labels
