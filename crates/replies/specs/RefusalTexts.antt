@@ -49,7 +49,7 @@ fault_text OutOfMemory = memory_text
 abbrev pub unread_text : ℕ → List ℕ
 unread_text line = line_text line (codes ": unsupported\n")
 
--- why the next round cannot be paired from a report [with field_refusal]
+-- why the next round cannot be paired from a report [with fault_text]
 abbrev pub field_text : FieldFault → List ℕ
 field_text (Unfinished player round) = round_text player round (codes ": unfinished\n")
 field_text (Unsupported line) = line_text line (codes ": unsupported\n")
@@ -57,7 +57,7 @@ field_text RoundsUnknown = codes "refused: rounds unknown\n"
 field_text RoundsOver = codes "refused: all rounds are played\n"
 field_text FieldMemory = memory_text
 
--- why a report has no standings [with tie_refusal]
+-- why a report has no standings [with fault_text]
 abbrev pub tie_text : TieFault → List ℕ
 tie_text (TieUnfinished player round) = round_text player round (codes ": unfinished\n")
 tie_text (TieUnsupported line) = line_text line (codes ": unsupported\n")

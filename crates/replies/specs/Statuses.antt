@@ -61,24 +61,24 @@ abbrev pub refusal : Fault → Answer
 refusal OutOfMemory = out_of_memory
 refusal fault = plain Refused (fault_text fault)
 
--- a report cannot be renumbered, since a line names players in a way that is not read [own]
+-- a report cannot be renumbered, since a line names players in a way that is not read [with refusal]
 abbrev pub unread_refusal : ℕ → Answer
 unread_refusal line = plain Refused (unread_text line)
 
--- the next round cannot be paired from a report [own]
+-- the next round cannot be paired from a report [with refusal]
 abbrev pub field_refusal : FieldFault → Answer
 field_refusal FieldMemory = out_of_memory
 field_refusal fault = plain Refused (field_text fault)
 
--- the players whom a question names are refused [own]
+-- the players whom a question names are refused [with refusal]
 abbrev pub question_refusal : QuestionFault → Answer
 question_refusal fault = plain BadWords (question_text fault)
 
--- no pairing meets the absolute criteria [own]
+-- no pairing meets the absolute criteria [with refusal]
 abbrev pub no_pairing : Answer
 no_pairing = plain NoPairing (codes "no pairing\n")
 
--- the steps of a bracket reached the limit before it was decided [own]
+-- the steps of a bracket reached the limit before it was decided [with refusal]
 abbrev pub undecided : ℕ → ℕ → Answer
 undecided number used = plain Undecided (undecided_text number used)
 
@@ -86,7 +86,7 @@ undecided number used = plain Undecided (undecided_text number used)
 abbrev pub not_reached : ℕ → Answer
 not_reached number = plain BadWords (not_reached_text number)
 
--- the report does not reach the round that is asked for [own]
+-- the report does not reach the round that is asked for [with refusal]
 abbrev pub round_not_reached : ℕ → Answer
 round_not_reached round = plain BadWords (round_not_reached_text round)
 
@@ -94,7 +94,7 @@ round_not_reached round = plain BadWords (round_not_reached_text round)
 abbrev pub not_of_bracket : ℕ → Answer
 not_of_bracket number = plain BadWords (not_of_bracket_text number)
 
--- a report has no standings [own]
+-- a report has no standings [with refusal]
 abbrev pub tie_refusal : TieFault → Answer
 tie_refusal TieMemory = out_of_memory
 tie_refusal fault = plain Refused (tie_text fault)

@@ -12,7 +12,7 @@ use Rattle.replies.specs.StandingsTexts.{value_text}
 use Rattle.replies.specs.Tables.{LabelFacts, left, right, table_text}
 use Rattle.replies.specs.Texts.{halves_text}
 
--- a name as it is shown: a question mark in place of each control character, and a dash where it is blank [own]
+-- a name as it is shown: a question mark in place of each control character, and a dash where it is blank [with without_controls]
 abbrev pub shown : List ℕ → List ℕ
 shown [] = codes "-"
 shown (first ∷ rest) = without_controls (first ∷ rest)
