@@ -180,7 +180,7 @@ explain_app = with_option (with_option (with_round_rules (with_option (with_opti
 unfoldable pub standings_app : App
 standings_app = with_option (with_table_rules (new_app (codes "standings"))) bye_rule
 
--- a command of the command line with its options, as clap is told of them [own]
+-- a command of the command line with its options, as clap is told of them [with arbiter_app]
 abbrev pub app_for : CommandName → App
 app_for CheckName = check_app
 app_for FormatName = format_app
