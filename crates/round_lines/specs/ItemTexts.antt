@@ -14,7 +14,7 @@ use Rattle.round_lines.specs.CandidateTexts.{rank_text}
 use Rattle.round_lines.specs.Tellings.{TellingFacts, in_wording, seats_words}
 use Rattle.replies.specs.Prelude.{halves_text}
 
--- the article of an item [own]
+-- the article of an item [with item_words]
 abbrev pub article_text : Item → List ℕ
 article_text Psd = codes "C.6"
 article_text NextBracket = codes "C.7"
@@ -105,7 +105,7 @@ next_words quality =
     said_words NextBracket ++ (codes ": " ++ (decimal quality.next_pairs
     ++ (codes ". Score differences there: " ++ (points_text Words quality.next_psd ++ closing_words NextBracket))))
 
--- what is told of C.7, in an ordinary bracket alone: the pairs of the next bracket and its PSD [own]
+-- what is told of C.7, in an ordinary bracket alone: the pairs of the next bracket and its PSD [with psd_text]
 abbrev pub next_text : Wording → BracketKind → Quality → List ℕ
 next_text wording Ordinary quality = in_wording wording (next_line quality) (next_words quality)
 next_text wording Last quality = []
@@ -123,7 +123,7 @@ who_line facts item count who =
 unfoldable pub who_words : TellingFacts → Item → List ℕ → List ℕ
 who_words telling item who = item_words item (seats_words telling who)
 
--- what is told of C.8 to C.15: how many count, and who, or in a sentence who [own]
+-- what is told of C.8 to C.15: how many count, and who, or in a sentence who [with psd_text]
 abbrev pub who_text : TellingFacts → Item → ℕ → List ℕ → List ℕ
 who_text telling item count who = in_wording telling.wording (who_line telling.facts item count who) (who_words telling item who)
 

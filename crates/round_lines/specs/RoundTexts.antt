@@ -93,7 +93,7 @@ module _ (telling : TellingFacts) where
   members_words reached =
       moved_words (take reached.mdps reached.seats) ++ (codes "Residents: " ++ (all_scored_words (drop reached.mdps reached.seats) ++ codes ".\n"))
 
-  -- the players of a bracket with their scores, those who were moved down first [own]
+  -- the players of a bracket with their scores, those who were moved down first [with round_text]
   abbrev pub members_text : Reached → List ℕ
   members_text reached = in_wording telling.wording (members_line reached) (members_words reached)
 
@@ -113,6 +113,6 @@ module _ (telling : TellingFacts) where
       ++ (codes ". Black: " ++ (seat_words telling (colours telling.facts pair.0 pair.1).1
       ++ (codes ". " ++ (rule_words (colour_rule telling.facts pair.0 pair.1) ++ codes "\n")))))
 
-  -- a board: who has white, who has black, and the rule of article E that decided [own]
+  -- a board: who has white, who has black, and the rule of article E that decided [with round_text]
   abbrev pub colours_text : ℕ × ℕ → List ℕ
   colours_text pair = in_wording telling.wording (colours_line pair) (colours_words pair)
