@@ -2,7 +2,7 @@
 use Rattle.std.specs.Prelude.{ℕ, zero, suc, Bool, true, false, not, eqb, ◌&&◌, List, [], ◌∷◌, ◌++◌, map, filter, flat_map, if◌then◌else◌}
 use Rattle.std.specs.List.{list_any}
 
--- so many numbers from a first one on [own]
+-- so many numbers from a first one on [with subsets]
 abbrev pub numbers_from : ℕ → ℕ → List ℕ
 numbers_from first zero = []
 numbers_from first (suc count) = first ∷ numbers_from (suc first) count
@@ -39,7 +39,7 @@ is_same [] (y ∷ ys) = false
 is_same (x ∷ xs) [] = false
 is_same (x ∷ xs) (y ∷ ys) = eqb x y && is_same xs ys
 
--- the choices from a given one on [own]
+-- the choices from a given one on [with subsets]
 abbrev pub from_on : List ℕ → List (List ℕ) → List (List ℕ)
 from_on choice [] = []
 from_on choice (other ∷ others) = if is_same other choice then other ∷ others else from_on choice others

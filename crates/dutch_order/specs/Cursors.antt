@@ -76,7 +76,7 @@ arrangement_of _ = None
 abbrev pub parsed : List ℕ → Option Arrangement
 parsed bytes = arrangement_of (parts (byte "/") bytes)
 
--- whether a text is four such lists, of whatever bracket [own]
+-- whether a text is four such lists, of whatever bracket [with cursor_text]
 abbrev pub has_syntax : List ℕ → Bool
 has_syntax bytes = is_some (parsed bytes)
 
@@ -102,7 +102,7 @@ is_set_of pool k set = (length set == k) && (are_of pool set && ascends_above 0 
 abbrev pub is_tuple_of : List ℕ → ℕ → List ℕ → Bool
 is_tuple_of pool k tuple = (length tuple == k) && (are_of pool tuple && are_different tuple)
 
--- the moved-down players of a bracket [A.3]
+-- the numbers of the moved-down players [with players_of]
 abbrev pub moved_down_of : Frame → List ℕ
 moved_down_of frame = numbers_from 1 frame.mdps
 

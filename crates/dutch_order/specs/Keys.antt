@@ -6,11 +6,11 @@ use Rattle.std.specs.Ordering.{nat_cmp, flip_args, is_lt}
 use Rattle.std.specs.Cmp.Lexicographic.{slice_cmp}
 use Rattle.std.specs.List.{AllByRecursion}
 
--- of two lists the one with the lower number at the first difference goes first, or the one that has ended there [D.1]
+-- of two lists the one with the lower number at the first difference goes first, or the one that has ended there [D]
 abbrev pub lower_first : List ℕ → List ℕ → Ordering
 lower_first = slice_cmp nat_cmp
 
--- of two lists the one with the higher number at the first difference goes first, or the one that has ended there [D.2, D.3]
+-- of two lists the one with the higher number at the first difference goes first, or the one that has ended there [with lower_first]
 abbrev pub higher_first : List ℕ → List ℕ → Ordering
 higher_first = slice_cmp (flip_args nat_cmp)
 
@@ -25,7 +25,7 @@ module _ (order : List ℕ → List ℕ → Ordering) where
   sorted [] = []
   sorted (choice ∷ others) = put choice (sorted others)
 
--- something is a member of a list [own]
+-- something is a member of a list [with subsets]
 abbrev pub IsIn : {X : Type 0} → X → List X → Type 0
 IsIn x [] = ⊥
 IsIn x (y ∷ ys) = (x ≡ y) ⊎ IsIn x ys

@@ -52,7 +52,7 @@ abbrev pub EndsAtOnce : {T : Type 0} → Step T → Budget → Budget → Type 0
 EndsAtOnce step old new = MatchStep step (λ _. ⊥) (new.used ≡ old.used) ⊥
 
 module _ {R : Type 0} (old new : Listing R) where
-  -- a listing has told its end where a call answers it, and otherwise is as it was [own]
+  -- a listing has told its end where a call answers it, and otherwise is as it was [with leaves_too_many]
   abbrev pub TellsEnd : {T : Type 0} → Step T → Type 0
   TellsEnd step = MatchStep step (λ _. new.ended ≡ old.ended) (new.ended ≡ true) (new.ended ≡ old.ended)
 
