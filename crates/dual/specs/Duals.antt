@@ -44,7 +44,7 @@ pub record IsFeasible (costs : Costs) (players : List ℕ) (certificate : Certif
 abbrev pub slack : Costs → Certificate → ℕ × ℕ → ℕ
 slack costs certificate pair = bears costs certificate pair - in_both certificate.potential pair
 
--- what a player left over has beyond the potential; 0 where it has less
+-- what a player left over has beyond the potential; 0 where it has less [with IsFloorOf]
 abbrev pub slack_left : Costs → Certificate → ℕ → ℕ
 slack_left costs certificate v = bears_left costs certificate v - certificate.potential v
 

@@ -23,7 +23,7 @@ pub record IsMatching (costs : Costs) (players : List ℕ) (pairs : List (ℕ ×
   pub may_meet : All (λ pair. costs.meets pair.0 pair.1 ≡ true) pairs
   pub may_be_left : All (λ v. costs.may_be_left v ≡ true) left
 
--- some members of a list, each at most as often as in the list: with others they come to what all do
+-- some members of a list, each at most as often as in the list: with others they come to what all do [with IsFloor]
 pub record IsPartOf {X : Type 0} (known all : List X) : Type 0 where
   pub others : List X
   pub whole : (f : X → ℕ) → sum_by f known + sum_by f others ≡ sum_by f all
@@ -32,7 +32,7 @@ pub record IsPartOf {X : Type 0} (known all : List X) : Type 0 where
 abbrev pub cost : Costs → List (ℕ × ℕ) → List ℕ → ℕ
 cost costs pairs left = sum_by (λ pair. costs.weight pair.0 pair.1) pairs + sum_by costs.left_cost left
 
--- two costs at once, the second so many times
+-- two costs at once: the first, and so many times the second [with Costs]
 abbrev pub beside_times : Costs → ℕ → Costs → Costs
 beside_times costs factor more =
     record {
