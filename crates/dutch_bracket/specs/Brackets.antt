@@ -54,7 +54,7 @@ module _ (facts : Facts) where
   unfoldable pub completable : List ℕ → Bool
   completable seats = can_complete (seats_meet facts) (seats_may_be_left facts) seats
 
-  -- the downfloaters of an arrangement, by seat
+  -- the downfloaters of an arrangement, by seat [with can_be_chosen]
   abbrev pub downfloaters : Reached → Arrangement → List ℕ
   downfloaters reached lists = map (seat_of reached.seats) (down (frame_of facts reached) lists)
 

@@ -35,11 +35,11 @@ article UpAgainBeforeBy = 19
 abbrev pub AreSameIn : Item → Quality → Quality → Type 0
 AreSameIn item a b = compared_in item a b ≡ Equal
 
--- one quality stands in front of another in an item
+-- one quality stands in front of another in an item [with compared_in]
 abbrev pub IsInFrontIn : Item → Quality → Quality → Type 0
 IsInFrontIn item a b = compared_in item a b ≡ Less
 
--- an item is the first in which two qualities differ: they do in it, and not in any that counts before it
+-- an item is the first in which two qualities differ: they do in it, and not in any that counts before it [with first_difference]
 pub record DifferFirstIn (item : Item) (a b : Quality) : Type 0 where
   pub differ : ¬ AreSameIn item a b
   pub before : (other : Item) → article other < article item → AreSameIn other a b

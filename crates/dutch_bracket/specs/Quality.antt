@@ -66,7 +66,7 @@ abbrev pub placed_all : List ℕ → List ℕ → List ℕ
 placed_all front [] = front
 placed_all front (x ∷ rest) = placed_all (placed x front) rest
 
--- numbers in order, the highest first
+-- numbers in order, the highest first [with psd]
 abbrev pub highest_first : List ℕ → List ℕ
 highest_first numbers = placed_all [] numbers
 

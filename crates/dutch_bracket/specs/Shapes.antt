@@ -26,7 +26,7 @@ shapes_with pairs = shapes_upto pairs pairs
 abbrev pub shapes : Frame → List Shape
 shapes frame = filter (fits frame) (flat_map shapes_with (down_from (length frame.scores / 2)))
 
--- some arrangement is there
+-- some arrangement is there [with greatest_shape]
 abbrev pub has_member : List Arrangement → Bool
 has_member [] = false
 has_member (a ∷ rest) = true
