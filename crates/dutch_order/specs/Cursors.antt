@@ -115,7 +115,7 @@ is_among moved_down residents shape a =
     && (is_set_of (left_of residents a.s2) (remainder_pairs shape) a.s1r
     && is_tuple_of (left_of (left_of residents a.s2) a.s1r) (remainder_pairs shape) a.s2r))
 
--- whether an arrangement is one of the bracket and shape
+-- whether an arrangement is one of the bracket and shape [with cursor_of]
 abbrev pub is_of : Frame → Shape → Arrangement → Bool
 is_of frame shape a = is_among (moved_down_of frame) (residents_of frame) shape a
 

@@ -5,16 +5,16 @@ use Rattle.std.specs.Ordering.{nat_cmp, on, then_cmp}
 use Rattle.dutch_order.specs.Choices.{subsets, is_member}
 use Rattle.dutch_order.specs.Keys.{sorted, lower_first, higher_first}
 
--- the sum of a list
+-- the sum of a list [with exchange_cmp]
 abbrev pub sum_of : List ℕ → ℕ
 sum_of [] = 0
 sum_of (x ∷ xs) = x + sum_of xs
 
--- what an exchange moves out of the original set, which is the first k of the pool, the lowest first
+-- what an exchange moves out of the original set, which is the first k of the pool, the lowest first [with exchange_cmp]
 abbrev pub moved_out : List ℕ → ℕ → List ℕ → List ℕ
 moved_out pool k set = filter (λ x. not (is_member x set)) (take k pool)
 
--- what an exchange moves in, the lowest first
+-- what an exchange moves in, the lowest first [with exchange_cmp]
 abbrev pub moved_in : List ℕ → ℕ → List ℕ → List ℕ
 moved_in pool k set = filter (λ x. not (is_member x (take k pool))) set
 

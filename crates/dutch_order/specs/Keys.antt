@@ -30,12 +30,12 @@ abbrev pub IsIn : {X : Type 0} → X → List X → Type 0
 IsIn x [] = ⊥
 IsIn x (y ∷ ys) = (x ≡ y) ⊎ IsIn x ys
 
--- no member of a list comes twice
+-- no member of a list comes twice [with subsets]
 abbrev pub HasEachOnce : {X : Type 0} → List X → Type 0
 HasEachOnce [] = Unit {0}
 HasEachOnce (x ∷ xs) = (¬ IsIn x xs) × HasEachOnce xs
 
--- choices ascend in an order: each goes before all later ones
+-- choices ascend in an order: each goes before all later ones [with lower_first]
 abbrev pub Ascends : (List ℕ → List ℕ → Ordering) → List (List ℕ) → Type 0
 Ascends order [] = Unit {0}
 Ascends order (choice ∷ others) = AllByRecursion (λ other. order choice other ≡ Less) others × Ascends order others
