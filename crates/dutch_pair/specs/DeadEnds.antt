@@ -5,11 +5,11 @@ use Rattle.dutch_player.specs.Prelude.{Facts}
 use Rattle.dutch_bracket.specs.Completion.{Covers, MayBeLeftOut}
 use Rattle.dutch_bracket.specs.Prelude.{Reached, seats_meet, seats_may_be_left}
 
--- A.3: the players who were moved down into a bracket
+-- the players who were moved down into a bracket [with PairOut]
 abbrev pub moved_down : Reached → List ℕ
 moved_down reached = take reached.mdps reached.seats
 
--- no two of some players may meet
+-- no two of some players may meet [with PairOut]
 abbrev pub NoTwoMayMeet : Facts → List ℕ → Type 0
 NoTwoMayMeet facts players = (a b : ℕ) → IsIn a players → IsIn b players → seats_meet facts a b ≡ false
 
@@ -19,6 +19,6 @@ pub record PairOut (facts : Facts) (players : List ℕ) (pairs : List (ℕ × �
   pub covered : Covers (seats_meet facts) players pairs out
   pub left_out : MayBeLeftOut (seats_may_be_left facts) out
 
--- no pair is of two of some players
+-- no pair is of two of some players [with PairOut]
 abbrev pub HasNoPairOf : List ℕ → List (ℕ × ℕ) → Type 0
 HasNoPairOf players pairs = (a b : ℕ) → IsIn a players → IsIn b players → ¬ IsIn (a, b) pairs

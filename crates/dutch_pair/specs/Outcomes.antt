@@ -23,12 +23,12 @@ visit_at place [] = None
 visit_at zero (visit ∷ visits) = Some visit
 visit_at (suc place) (visit ∷ visits) = visit_at place visits
 
--- the bracket of a number, the first has 1; none has 0
+-- the bracket of a number, the first has 1; none has 0 [with IsBracketAt]
 abbrev pub visit_of : ℕ → List Visit → Option Visit
 visit_of zero visits = None
 visit_of (suc place) visits = visit_at place visits
 
--- a bracket that was reached, with its shape
+-- a bracket that was reached, with its shape [with IsBracketAt]
 abbrev pub shown : Option Visit → Option (Reached × Shape)
 shown found = option_map (λ visit. (visit.bracket, visit.shape)) found
 
