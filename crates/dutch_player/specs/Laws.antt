@@ -29,11 +29,11 @@ pub record TellsRule (facts : Facts) (a b : ℕ) : Type 0 where
   pub higher : colour_rule facts a b ≡ HigherRank → a < b → (wish : Pref) → preference (seat_at facts a).played ≡ Some wish → Gets facts a b wish.colour
   pub nobody : colour_rule facts a b ≡ InitialColour → (preference (seat_at facts a).played ≡ None) × (preference (seat_at facts b).played ≡ None)
 
--- the start ranks of the present players, by rank
+-- the start ranks of the present players, by rank [with IsFieldOf]
 abbrev pub start_ranks : Facts → List ℕ
 start_ranks facts = map (λ seat. seat.start) facts.seats
 
--- start ranks count from 1: on a board 0 stands for nobody
+-- start ranks count from 1: on a board 0 stands for nobody [with IsFieldOf]
 abbrev pub CountFromOne : Facts → Type 0
 CountFromOne facts = All (λ start. 0 < start) (start_ranks facts)
 
