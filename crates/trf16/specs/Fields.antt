@@ -26,7 +26,7 @@ is_number word = nat_le 1 (length word) && nat_le (length word) 4 && list_all is
 abbrev pub number_of : List ℕ → Option ℕ
 number_of word = if is_number word then Some (number_after 0 word) else None
 
--- a number field: blanks, digits, blanks
+-- a number field: blanks, digits, blanks [with number_of]
 abbrev pub number_in : List (List ℕ) → Option ℕ
 number_in (word ∷ []) = number_of word
 number_in _ = None
@@ -66,7 +66,8 @@ without_first test (x ∷ rest) = if test x then without_first test rest else x 
 abbrev pub without_blanks : List ℕ → List ℕ
 without_blanks bytes = trimmed (without_first (λ b. b == byte " ") bytes)
 
--- the points that the words of a field name, in half points: none where there is no word; no answer where they are no points
+-- the points that the words of a field name, in half points: none where there is no word; no answer where they are no points [with
+-- points_of]
 abbrev pub points_in : List (List ℕ) → Option (Option ℕ)
 points_in [] = Some None
 points_in (word ∷ []) = option_and_then (λ points. Some (Some points)) (points_of word)

@@ -10,7 +10,7 @@ use Rattle.trf16.specs.declared.cell.Cell.{Cell}
 use Rattle.trf16.specs.declared.cell.Cell.TheVariants.{Blank, Bye, Unfinished}
 use Rattle.trf16.specs.declared.limits.TheConstants.{MOST_ROUNDS}
 
--- the start ranks that some boards name, white and then black; where black is 0, white has the bye
+-- the start ranks that some boards name, white and then black; where black is 0, white has the bye [with CanBePaired]
 abbrev pub named_by : List (ℕ × ℕ) → List ℕ
 named_by [] = []
 named_by (board ∷ rest) = if board.1 == 0 then board.0 ∷ named_by rest else board.0 ∷ board.1 ∷ named_by rest

@@ -23,7 +23,7 @@ verdict_unsummed bytes bye = do
   _ ← all_cells_fit sheet sheet.players
   Ok sheet
 
--- a verdict is another one, or else it is that the points field of a player is no sum of their points
+-- a verdict is another one, or else it is that the points field of a player is no sum of their points [with verdict_unsummed]
 abbrev pub IsButForPoints : Result Sheet Fault → Result Sheet Fault → Type 0
 IsButForPoints verdict other = (verdict ≡ other) ⊎ ((start : ℕ) × (verdict ≡ Err (Points start)))
 

@@ -18,7 +18,7 @@ use Rattle.trf16.specs.declared.cell.Cell.TheVariants.{Blank, Bye, Game, Forfeit
 abbrev pub blanks : ℕ → List ℕ
 blanks n = replicate n (byte " ")
 
--- a text at the right of four columns
+-- a text at the right of four columns [with written]
 abbrev pub right_in_four : List ℕ → List ℕ
 right_in_four text = blanks (4 - length text) ++ text
 
@@ -26,7 +26,7 @@ right_in_four text = blanks (4 - length text) ++ text
 abbrev pub left_in : Bool → ℕ → List ℕ → List ℕ
 left_in utf8 width text = text ++ blanks (width - length (columns utf8 text))
 
--- half points as points with one decimal
+-- half points as points with one decimal [with written]
 abbrev pub points_text : ℕ → List ℕ
 points_text points = decimal (points / 2) ++ (byte "." ∷ (if points % 2 == 0 then byte "0" else byte "5") ∷ [])
 
@@ -61,7 +61,7 @@ outcome_letter false Loss = byte "L"
 abbrev pub meeting_text : ℕ → Option Colour → ℕ → List ℕ
 meeting_text opponent colour result = right_in_four (decimal opponent) ++ (byte " " ∷ colour_letter colour ∷ byte " " ∷ result ∷ [])
 
--- the eight columns of a cell
+-- the eight columns of a cell [with written]
 abbrev pub cell_text : Cell → List ℕ
 cell_text Blank = blanks 8
 cell_text (Bye bye) = codes "0000 - " ++ (bye_letter bye ∷ [])
