@@ -103,7 +103,7 @@ IsPair facts pair = (pair.0 < length facts.seats) × (pair.1 < length facts.seat
 abbrev pub AllPairs : Facts → List (ℕ × ℕ) → Type 0
 AllPairs facts pairs = AllByRecursion (λ pair. (pair.0 < length facts.seats) × (pair.1 < length facts.seats)) pairs
 
--- a candidate of seats of a field, with at most 1,024 pairs and as many downfloaters [with AreSeats]
+-- a candidate of seats of a field, with at most 1,024 pairs and at most 1,024 downfloaters [with AreSeats]
 pub record HasSeats (facts : Facts) (candidate : Seated) : Type 0 where
   pub pairs : AllPairs facts candidate.pairs
   pub down : AreSeats facts candidate.down
