@@ -46,8 +46,8 @@ IsOutcome facts limit (Undecided bracket used) = IsStoppedIn facts limit bracket
 abbrev pub visit : Stage → Visit
 visit stage = record { bracket = stage.reached; shape = stage.shape; lists = stage.candidate.lists; again = stage.again }
 
--- a stage stands above all players below it; above them its candidate is the choice, and the quality that it tells is that of its candidate
--- [B.8, C.6 to C.19; own]
+-- a stage's bracket stands above all players below it; above them its candidate is the choice, and the quality that it tells is that of its
+-- candidate [B.8, C.6 to C.19; own]
 pub record IsStage (facts : Facts) (stage : Stage) : Type 0 where
   pub bracket : IsOf facts stage.reached
   pub candidate : IsOfBracket facts stage.reached stage.candidate
@@ -55,7 +55,8 @@ pub record IsStage (facts : Facts) (stage : Stage) : Type 0 where
   pub choice : choice facts stage.reached (lower_of facts stage.reached) ≡ Some (record { shape = stage.shape; lists = stage.candidate.lists })
   pub value : quality_in stage.quality ≡ quality_of facts stage.reached (lower_of facts stage.reached) stage.candidate.lists
 
--- the stages of a round are the brackets that it reaches, and who is left over, one of the field, has the bye [own]
+-- what asking for all stages answers: the brackets that the round reaches, in order, each a stage, and who has the bye; that there is no
+-- pairing; or that it stopped [own]
 abbrev pub AreStages : Facts → ℕ → AllStages → Type 0
 AreStages facts limit (StagesPaired stages bye) =
     (map visit stages.items ≡ (round facts).reached) × AllByRecursion (IsStage facts) stages.items
@@ -69,7 +70,8 @@ TellsCompletion facts (Paired all) = Completable (seats_meet facts) (seats_may_b
 TellsCompletion facts NoPairing = ¬ Completable (seats_meet facts) (seats_may_be_left facts) (everybody facts)
 TellsCompletion facts (Undecided bracket used) = Unit {0}
 
--- the bracket of a number, which it bears, with its shape; or why there is none [own]
+-- what asking for a bracket answers: the bracket that bears the number, with its shape; that the round is paired and has none of that
+-- number; that there is no pairing, and none of that number; or that it stopped [own]
 abbrev pub IsBracketAt : Facts → ℕ → ℕ → BracketAt → Type 0
 IsBracketAt facts limit number (Bracket reached shape) =
     (reached.number ≡ number) × (shown (visit_of number (round facts).reached) ≡ Some (reached, shape))

@@ -113,7 +113,7 @@ player_onto sheet n line = do
   Ok (with_player sheet entry)
 
 -- a report with what line n adds to it, or the fault of that line: 001 a player; XXR the total of rounds, which no earlier line may name;
--- XXC the initial colour; each other line only that it is carried [TRF16; own]
+-- XXC the initial colour; each other line, XXZ and XXP among them, only that it is carried [TRF16; own]
 unfoldable pub line_onto : Sheet → ℕ → List (List ℕ) → Result Sheet Fault
 line_onto sheet n line =
     if is_player line then player_onto sheet n line
