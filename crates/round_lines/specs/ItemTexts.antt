@@ -123,7 +123,7 @@ who_line facts item count who =
 unfoldable pub who_words : TellingFacts → Item → List ℕ → List ℕ
 who_words telling item who = item_words item (seats_words telling who)
 
--- what is told of C.8 to C.15: how many count, and who, or in a sentence who [with psd_text]
+-- what is told of C.8 to C.15: how many count and who, and in a sentence only who [with psd_text]
 abbrev pub who_text : TellingFacts → Item → ℕ → List ℕ → List ℕ
 who_text telling item count who = in_wording telling.wording (who_line telling.facts item count who) (who_words telling item who)
 
