@@ -22,6 +22,7 @@ module _ (telling : TellingFacts) where
     abbrev pub labelled : ℕ → List ℕ
     labelled l = filter (λ seat. label barrier seat == l) (everybody telling.facts)
 
+    -- the same by their start ranks
     abbrev pub labelled_text : ℕ → List ℕ
     labelled_text l = flat_map (λ seat. codes " " ++ rank_text telling.facts seat) (labelled l)
 
@@ -29,9 +30,11 @@ module _ (telling : TellingFacts) where
     abbrev pub blockers_text : List ℕ
     blockers_text = if has_blockers telling.facts barrier then labelled_text 0 else codes " -"
 
+    -- the line of those who block
     unfoldable pub blocked_line : List ℕ
     blocked_line = codes "blocked by" ++ (blockers_text ++ codes "\n")
 
+    -- the same in a sentence
     unfoldable pub blocked_words : List ℕ
     blocked_words = codes "Blocking players: " ++ (seats_words telling (labelled 0) ++ codes ".\n")
 
@@ -39,10 +42,12 @@ module _ (telling : TellingFacts) where
     unfoldable pub group_line : ℕ → List ℕ
     group_line l = codes "group" ++ (labelled_text l ++ codes "\n")
 
+    -- the same in a sentence
     unfoldable pub group_words : ℕ → List ℕ
     group_words l =
         codes "Odd group, whose players may meet only each other and the blocking players: " ++ (seats_words telling (labelled l) ++ codes ".\n")
 
+    -- a group, in a line or in a sentence
     abbrev pub group_text : ℕ → List ℕ
     group_text l = in_wording telling.wording (group_line l) (group_words l)
 
@@ -55,7 +60,8 @@ module _ (telling : TellingFacts) where
   abbrev pub lacking_text : List ℕ
   lacking_text = if lacks_bye telling.facts then no_bye_text telling.wording else []
 
-  -- why there is no pairing: who blocks, and each odd group, in the order of their first players
+  -- why there is no pairing: who blocks, each odd group, in the order of their first players, and that nobody may have the bye, where it is
+  -- so [own]
   unfoldable pub barrier_text : Barrier → List ℕ
   barrier_text barrier =
       in_wording telling.wording (blocked_line barrier) (blocked_words barrier) ++ (groups_text barrier (everybody telling.facts) ++ lacking_text)

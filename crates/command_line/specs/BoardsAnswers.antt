@@ -17,7 +17,7 @@ abbrev pub boards_at : Bool → Sheet → ℕ → Answer
 boards_at names sheet round =
     if (round == 0) || nat_lt (rounds_played sheet) round then round_not_reached round else done (round_text names sheet round)
 
--- `boards`: the boards of the round that is asked for, or of the last one that was paired; or why a report is refused
+-- `boards`: the boards of the round that is asked for, or of the last one that was paired; or why a report is refused [own]
 abbrev pub boards_answer : BoardsOptions → Result Sheet Fault → Answer
 boards_answer options (Ok sheet) = boards_at options.names sheet (unwrap_or options.round (rounds_played sheet))
 boards_answer options (Err fault) = refusal fault

@@ -59,7 +59,7 @@ abbrev pub InField : CandidatesOptions → Result Facts FieldFault → Answer �
 InField options (Ok facts) answer = IsAnswerToField options facts answer
 InField options (Err fault) answer = answer ≡ field_refusal fault
 
--- `candidates`: what is answered to a report, or why there is none
+-- `candidates`: the bracket of a number, and then its candidates, or those behind the cursor; or why there are none [own]
 abbrev pub AnswersCandidates : CandidatesOptions → Result Sheet Unseen → Answer → Type 0
 AnswersCandidates options (Ok sheet) answer = InField options (facts_of sheet options.rounds options.initial) answer
 AnswersCandidates options (Err why) answer = answer ≡ unseen_answer why

@@ -12,7 +12,7 @@ use Rattle.requests.specs.declared.words.Request.{Request}
 use Rattle.requests.specs.declared.words.Request.TheVariants.{Check, Format, Pair, Boards, Candidates, Explain, Standings}
 
 -- this is an answer to a request over an input, what the pairing-allocated bye gives, and the report that it is, or over why it is refused;
--- where a request asks for a round it is answered on the report as it stood before that round
+-- where a request asks for a round it is answered on the report as it stood before that round [with Answers]
 abbrev pub AnswersReport : Request → List ℕ → ℕ → Result Sheet Fault → Answer → Type 0
 AnswersReport (Check options) input bye report answer = answer ≡ check_answer report options.notes input bye
 AnswersReport (Format options) input bye report answer = answer ≡ format_answer options.points options.renumber (seen_before options.round report)
@@ -22,11 +22,12 @@ AnswersReport (Candidates options) input bye report answer = AnswersCandidates o
 AnswersReport (Explain options) input bye report answer = AnswersExplain options (seen_before options.round report) answer
 AnswersReport (Standings options) input bye report answer = answer ≡ standings_answer options (seen_before options.round report)
 
--- the verdict that a request goes by, where the pairing-allocated bye gives so many half points
+-- the verdict that a request goes by: of `format` its own, of all others that of the report [with Answers]
 abbrev pub verdict_for : Request → List ℕ → ℕ → Result Sheet Fault
 verdict_for (Format options) input bye = format_verdict options.points input bye
 verdict_for request input bye = verdict input bye
 
--- this is an answer to a task over an input: its request's, over the verdict by what the pairing-allocated bye gives
+-- what each command answers to the bytes of its input, where the pairing-allocated bye gives so many half points; a command with `--round`
+-- for the report before that round [own]
 abbrev pub Answers : Task → List ℕ → Answer → Type 0
 Answers task input answer = AnswersReport task.request input task.bye (verdict_for task.request input task.bye) answer

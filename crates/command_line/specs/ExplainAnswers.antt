@@ -49,7 +49,7 @@ abbrev pub AnswersQuestion : PairedRound → ℕ → ℕ → Option ℕ → Answ
 AnswersQuestion round steps player None answer = answer ≡ done (front_text round player)
 AnswersQuestion round steps player (Some number) answer = IsToldBehind round steps player number answer
 
--- what is told of a round that is paired: all its brackets, or what is asked of a player
+-- what is told of a round that is paired: all its brackets, or what is asked of a player [with AnswersExplain]
 abbrev pub TellsPaired : Option Question → ℕ → PairedRound → Answer → Type 0
 TellsPaired None steps round answer = answer ≡ done (first_text round ++ stages_text round.telling None round.stages)
 TellsPaired (Some question) steps round answer = AnswersQuestion round steps question.player question.instead answer
@@ -71,7 +71,7 @@ abbrev pub no_pairing_with : TellingFacts → Option Question → List ℕ → A
 no_pairing_with telling question why =
     plain no_pairing.status (no_pairing_text telling.wording ++ (why ++ asked_text telling question))
 
--- A.9: no pairing, and why: a barrier that blocks the round, if one was found
+-- no pairing, and why: a barrier that blocks the round, if one was found [A.9; own]
 pub record TellsWhy (telling : TellingFacts) (question : Option Question) (answer : Answer) : Type 0 where
   pub found : Option Barrier
   pub blocks : IfSome found (Blocks telling.facts)
@@ -103,7 +103,8 @@ ExplainsField options sheet (Ok facts) answer =
     ExplainsAsked options (record { sheet = sheet; facts = facts; wording = options.wording }) (question_fault sheet options.question) answer
 ExplainsField options sheet (Err fault) answer = answer ≡ field_refusal fault
 
--- `explain`: what is answered to a report, or why there is none
+-- `explain`: the round as it is paired, or of it what is asked of one player; or why there is none; what is wrong with the question is told
+-- before anything is paired [own]
 abbrev pub AnswersExplain : ExplainOptions → Result Sheet Unseen → Answer → Type 0
 AnswersExplain options (Ok sheet) answer = ExplainsField options sheet (facts_of sheet options.rounds options.initial) answer
 AnswersExplain options (Err why) answer = answer ≡ unseen_answer why

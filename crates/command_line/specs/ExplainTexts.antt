@@ -16,6 +16,7 @@ use Rattle.command_line.specs.StageItems.{items_text}
 abbrev pub again_line : List ℕ
 again_line = codes "again C.4\n"
 
+-- the same in a sentence
 abbrev pub again_words : List ℕ
 again_words = codes "Those it leaves over could not all be paired with the players below, so it is paired again as the next bracket (C.4).\n"
 
@@ -37,10 +38,11 @@ shape_text wording stage =
 module _ (telling : TellingFacts) where
   -- ---- what is chosen in it
 
-  -- two who are paired, and all pairs, in a sentence
+  -- two who are paired, in a sentence
   abbrev pub pair_words : ℕ × ℕ → List ℕ
   pair_words pair = seat_words telling pair.0 ++ (codes " - " ++ seat_words telling pair.1)
 
+  -- all pairs, in a sentence
   abbrev pub all_pairs_words : List (ℕ × ℕ) → List ℕ
   all_pairs_words [] = codes "none"
   all_pairs_words (pair ∷ others) = pair_words pair ++ flat_map (λ other. codes "; " ++ pair_words other) others
@@ -54,9 +56,11 @@ module _ (telling : TellingFacts) where
   abbrev pub candidate_line : Stage → List ℕ
   candidate_line stage = codes "chosen " ++ candidate_text telling.facts stage.reached stage.candidate
 
+  -- the same in a sentence, without its cursor
   unfoldable pub candidate_words : Seated → List ℕ
   candidate_words seated = codes "Pairs: " ++ (all_pairs_words seated.pairs ++ (codes "." ++ (down_words seated.down ++ codes "\n")))
 
+  -- what is chosen in a bracket, in a line or in a sentence
   abbrev pub choice_of_text : Stage → List ℕ
   choice_of_text stage =
       in_wording telling.wording (candidate_line stage) (candidate_words (by_seats telling.facts stage.reached.seats stage.candidate))
@@ -65,9 +69,11 @@ module _ (telling : TellingFacts) where
   unfoldable pub over_line : ℕ → List ℕ
   over_line seat = codes "bye " ++ (rank_text telling.facts seat ++ codes "\n")
 
+  -- the same in a sentence
   unfoldable pub over_words : ℕ → List ℕ
   over_words seat = codes "Bye: " ++ (seat_words telling seat ++ codes ".\n")
 
+  -- one who is left over where the round ends, in a line or in a sentence
   abbrev pub over_text : ℕ → List ℕ
   over_text seat = in_wording telling.wording (over_line seat) (over_words seat)
 
@@ -101,6 +107,7 @@ module _ (telling : TellingFacts) where
     unfoldable pub stage_text : Stage → List ℕ
     stage_text stage = shape_text telling.wording stage ++ (members_text telling stage.reached ++ choice_text stage)
 
-    -- the brackets of which it is told, in the order in which the round reaches them
+    -- the brackets that the round reaches: of each its first line, its players, and that it is paired again, or what is chosen in it; for
+    -- one player only the brackets in which they stand [own]
     abbrev pub stages_text : List Stage → List ℕ
     stages_text stages = flat_map (λ stage. if is_bracket_told whose stage.reached then stage_text stage else []) stages

@@ -47,15 +47,15 @@ number_among seats seat = option_map_or (λ number. number) (position_from (λ o
 abbrev pub number_in : Stage → ℕ → ℕ
 number_in stage seat = number_among stage.reached.seats seat
 
--- what is wished in a bracket behind which one of the two does not stand: that they meet, where it is the last bracket of both; else that the
--- one who was paired in it is left over
+-- what is wished in a bracket behind which one of the two does not stand: that they meet, where it is the last bracket of both; else that
+-- the one who was paired in it is left over [with decided_in]
 abbrev pub wish_in : List Stage → Stage → ℕ → Rival → Wish
 wish_in behind stage player Bye = LeftOver (number_in stage player)
 wish_in behind stage player (Seat other) =
     if stands_in_one behind other then LeftOver (number_in stage player)
     else (if stands_in_one behind player then LeftOver (number_in stage other) else Pair (number_in stage player) (number_in stage other))
 
--- the first bracket behind which one of the two does not stand, and what is wished in it
+-- the bracket in which it was decided, the first behind which one of the two does not stand, and what is wished in it [own]
 abbrev pub decided_in : List Stage → ℕ → Rival → Option (Stage × Wish)
 decided_in [] player rival = None
 decided_in (stage ∷ behind) player rival =
@@ -67,7 +67,7 @@ decided_in (stage ∷ behind) player rival =
 abbrev pub rival_of : Facts → ℕ → Option Rival
 rival_of facts number = if number == 0 then Some Bye else option_map (λ seat. Seat seat) (seat_with facts number)
 
--- who is asked for is one of the field
+-- who is asked for is one of the field [with AnswersInstead]
 abbrev pub IsRival : Facts → Rival → Type 0
 IsRival facts Bye = Unit {0}
 IsRival facts (Seat seat) = seat < length facts.seats
@@ -84,7 +84,7 @@ module _ (telling : TellingFacts) (steps player number : ℕ) where
     pub is : IsInstead (above_lower telling.facts stage.reached) stage.shape wish steps found
     pub tells : answer ≡ search_answer telling player number stage found
 
-  -- what is chosen in a bracket grants the wish; else a candidate that does is searched for
+  -- what is chosen in a bracket grants the wish; else a candidate that does is searched for [with AnswersInstead]
   abbrev pub AnswersWish : Stage → Wish → Bool → Answer → Type 0
   AnswersWish stage wish true answer = answer ≡ done (granted_text telling player number)
   AnswersWish stage wish false answer = IsSearched stage wish answer
@@ -106,7 +106,8 @@ AnswersSeats round steps player number (Some seat) (Some rival) answer =
 AnswersSeats round steps player number seat rival answer =
     answer ≡ done (instead_text round.telling player number (obstacle_text round.telling player number Absent))
 
--- what is answered to a player, by start rank, who asks for another one, or for the bye by 0
+-- `explain --instead`: what stands first against what a player asks for: one of the two is absent, there is an obstacle, or what the
+-- brackets say [own]
 abbrev pub AnswersInstead : PairedRound → ℕ → ℕ → ℕ → Answer → Type 0
 AnswersInstead round player number steps answer =
     AnswersSeats round steps player number (seat_with round.telling.facts player) (rival_of round.telling.facts number) answer

@@ -33,7 +33,8 @@ pub record ColoursClash (facts : Facts) (one other : ℕ) : Type 0 where
   pub one_colour : mine.colour ≡ theirs.colour
   pub no_topscorer : (is_topscorer facts (seat_at facts one) ≡ false) × (is_topscorer facts (seat_at facts other) ≡ false)
 
--- what stands against a meeting of two seats
+-- what stands against a meeting of two: they have played in that round and in none before it, or both have absolute preferences for one
+-- colour and neither is a topscorer [C.1, C.3; own]
 abbrev pub StandsAgainstMeeting : Sheet → Facts → ℕ → ℕ → Obstacle → Type 0
 StandsAgainstMeeting sheet facts one other (Met round) = HaveMetFirst sheet (seat_at facts one).start (seat_at facts other).start round
 StandsAgainstMeeting sheet facts one other Apart = apart sheet (seat_at facts one).start (seat_at facts other).start ≡ true
@@ -42,7 +43,7 @@ StandsAgainstMeeting sheet facts one other Absent = ⊥
 StandsAgainstMeeting sheet facts one other HadBye = ⊥
 StandsAgainstMeeting sheet facts one other Even = ⊥
 
--- what stands against the bye of a seat: its player may not have it (C.2), or nobody has it
+-- what stands against the bye of a seat: its player may not have it, or nobody has it [C.2; own]
 abbrev pub StandsAgainstBye : Facts → List ℕ → ℕ → Obstacle → Type 0
 StandsAgainstBye facts bye seat HadBye = (seat_at facts seat).may_bye ≡ false
 StandsAgainstBye facts bye seat Even = ((seat_at facts seat).may_bye ≡ true) × (bye ≡ [])
@@ -62,7 +63,7 @@ IsLastOfOne player Bye stage behind = IsLastOf player stage behind
 IsLastOfOne player (Seat other) stage behind = IsLastOf player stage behind ⊎ IsLastOf other stage behind
 
 -- where it is decided: in a bracket that is the last of one of the two, while each of them stands in it or in one behind it; so it is the
--- first of the last brackets of the two
+-- first of the last brackets of the two [own]
 pub record IsDecidedIn (stages : List Stage) (player : ℕ) (rival : Rival) (stage : Stage) (wish : Wish) : Type 0 where
   pub front : List Stage
   pub behind : List Stage
@@ -78,7 +79,7 @@ pub record IsLegalWith (facts : Facts) (stage : Stage) (mdps : ℕ) (a : Arrange
   pub room : Fits (frame_of facts stage.reached) (with_mdps stage.shape mdps)
   pub legal : IsIn a (candidates_of facts stage.reached (with_mdps stage.shape mdps))
 
--- C.4: one with no fewer moved-down players than the bracket has to pair grants the wish, but none of these that can be chosen does
+-- one with no fewer moved-down players than the bracket has to pair grants the wish, but none of these that can be chosen does [C.4; own]
 pub record NoneCanBeChosen (facts : Facts) (stage : Stage) (wish : Wish) : Type 0 where
   pub candidate : Arrangement
   pub mdps : ℕ
@@ -88,7 +89,7 @@ pub record NoneCanBeChosen (facts : Facts) (stage : Stage) (wish : Wish) : Type 
   pub none : (many : ℕ) (a : Arrangement) → stage.shape.mdps ≤ many → IsLegalWith facts stage many a
       → can_be_chosen facts stage.reached (lower_of facts stage.reached) a ≡ true → grants wish a ≡ false
 
--- B.1: one with fewer moved-down players than the bracket has to pair grants the wish, but none with as many does
+-- one with fewer moved-down players than the bracket has to pair grants the wish, but none with as many does [B.1; own]
 pub record NoneWithAsManyMovedDown (facts : Facts) (stage : Stage) (wish : Wish) : Type 0 where
   pub candidate : Arrangement
   pub mdps : ℕ
@@ -97,6 +98,6 @@ pub record NoneWithAsManyMovedDown (facts : Facts) (stage : Stage) (wish : Wish)
   pub grants_it : grants wish candidate ≡ true
   pub none : (a : Arrangement) → IsLegalWith facts stage stage.shape.mdps a → grants wish a ≡ false
 
--- C.5: none with as many pairs grants the wish, whatever moved-down players are in them
+-- none with as many pairs grants the wish, whatever moved-down players are in them [C.5; own]
 abbrev pub NoneWithAsManyPairs : Facts → Stage → Wish → Type 0
 NoneWithAsManyPairs facts stage wish = (mdps : ℕ) (a : Arrangement) → IsLegalWith facts stage mdps a → grants wish a ≡ false

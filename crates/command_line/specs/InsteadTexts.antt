@@ -59,27 +59,31 @@ bracket_front wording number =
 -- ---- the line of a player, who asks for a number, 0 for the bye
 
 module _ (telling : TellingFacts) (player number : ℕ) where
-  -- what is chosen grants it
+  -- the line that what is chosen grants it
   abbrev pub granted_line : List ℕ
   granted_line = codes "instead " ++ (decimal number ++ codes " chosen\n")
 
+  -- the same in a sentence
   abbrev pub granted_words : List ℕ
   granted_words =
       if number == 0 then player_words telling.sheet player ++ codes " has the bye.\n"
       else player_words telling.sheet player ++ (codes " meets " ++ (player_words telling.sheet number ++ codes ".\n"))
 
+  -- that what is chosen grants it, in a line or in a sentence
   abbrev pub granted_text : List ℕ
   granted_text = in_wording telling.wording granted_line granted_words
 
-  -- it does not, in front of why
+  -- that what is chosen does not grant it, in front of why
   abbrev pub front_line : List ℕ
   front_line = codes "instead " ++ (decimal number ++ codes " ")
 
+  -- the same in a sentence
   abbrev pub front_words : List ℕ
   front_words =
       if number == 0 then player_words telling.sheet player ++ codes " does not get the bye. "
       else player_words telling.sheet player ++ (codes " does not meet " ++ (player_words telling.sheet number ++ codes ". "))
 
+  -- that what is chosen does not grant it, in a line or in a sentence
   abbrev pub front_text : List ℕ
   front_text = in_wording telling.wording front_line front_words
 
@@ -92,7 +96,8 @@ module _ (telling : TellingFacts) (player number : ℕ) where
   in_bracket stage found =
       front_text ++ (bracket_front telling.wording stage.reached.number ++ (found_text telling.wording stage found ++ codes "\n"))
 
-  -- what a search in a bracket found, or that its steps reached the limit
+  -- what a search in a bracket found: none that can be chosen grants the wish, none with as many moved-down players, none with as many
+  -- pairs, or the best that does; or that its steps reached the limit [own]
   abbrev pub search_answer : Stage → Instead → Answer
   search_answer stage (Best candidate quality) = done (in_bracket stage (Best candidate quality))
   search_answer stage NoneEligible = done (in_bracket stage NoneEligible)

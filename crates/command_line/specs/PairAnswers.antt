@@ -22,7 +22,7 @@ board_text board = decimal board.0 ++ (codes " " ++ (decimal board.1 ++ codes "\
 abbrev pub boards_text : List (ℕ × ℕ) → List ℕ
 boards_text boards = decimal (length boards) ++ (codes "\n" ++ flat_map board_text boards)
 
--- the report whose next round some boards are, however long
+-- the report whose next round some boards are, however long [with AnswersPair]
 abbrev pub TellsReport : Sheet → List (ℕ × ℕ) → Answer → Type 0
 TellsReport sheet boards answer = answer ≡ done (written (with_round boards sheet))
 
@@ -49,7 +49,7 @@ abbrev pub PairsField : PairOptions → Sheet → Result Facts FieldFault → An
 PairsField options sheet (Ok facts) answer = IsPaired options sheet facts answer
 PairsField options sheet (Err fault) answer = answer ≡ field_refusal fault
 
--- `pair`: what is answered to a report, or why there is none
+-- `pair`: how many boards and a line for each, or the boards with names, or the report with them; or why there are none [own]
 abbrev pub AnswersPair : PairOptions → Result Sheet Unseen → Answer → Type 0
 AnswersPair options (Ok sheet) answer = PairsField options sheet (facts_of sheet options.rounds options.initial) answer
 AnswersPair options (Err why) answer = answer ≡ unseen_answer why

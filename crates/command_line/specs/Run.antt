@@ -11,7 +11,7 @@ use Rattle.requests.specs.declared.words.Task.{Task}
 
 -- ---- what is answered
 
--- the bytes that a source had; of one that does not tell them, some bytes
+-- the bytes that a source had; of one that does not tell them, some bytes [with IsRun]
 abbrev pub IsInput : Option (List ℕ) → List ℕ → Type 0
 IsInput None input = Unit {0}
 IsInput (Some bytes) input = input ≡ bytes
@@ -64,14 +64,15 @@ pub record HasWordFault (words : List (List ℕ)) (source : Reading) (answer : A
   pub unread : IsUnread source
   pub tells : answer ≡ plain BadWords (word_text fault)
 
--- what is answered to the words and to what the source gives
+-- what is answered to the words and to what the source gives: the command's answer, help, clap's complaint, a text of the program's own, a
+-- read fault, or want of memory [with IsRun]
 abbrev pub IsAnswer : List (List ℕ) → Reading → Answer → Type 0
 IsAnswer words source answer = IsCarriedOut words source answer ⊎ (IsHelped words source answer ⊎ (IsCorrected words source answer
     ⊎ (HasWordFault words source answer ⊎ IsOutOfMemory source answer)))
 
 -- ---- a run
 
--- a run answers the words and what the source gives, and writes that answer
+-- a run answers the words and the bytes, writes that answer, and calls the source at most 1,048,577 times [own]
 pub record IsRun (words : List (List ℕ)) (source : Reading) (out err : Use) (status : Status) : Type 0 where
   pub answer : Answer
   pub answers : IsAnswer (meant words) source answer

@@ -34,6 +34,7 @@ module _ (telling : TellingFacts) (stage : Stage) where
   item_text DownAgainBeforeBy = list_text telling.wording DownAgainBeforeBy quality.down_again_before_by
   item_text UpAgainBeforeBy = list_text telling.wording UpAgainBeforeBy quality.up_again_before_by
 
-  -- all items, in the order in which they count
+  -- what counts against a choice: C.6 always, C.7 in an ordinary bracket, of C.8 to C.15 those that are not 0 with the players who count,
+  -- of C.16 to C.19 those that are not empty [own]
   unfoldable pub items_text : List ℕ
   items_text = flat_map item_text all_items

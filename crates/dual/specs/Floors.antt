@@ -3,7 +3,7 @@ use Rattle.std.specs.Prelude.{◌≡◌, ℕ, ◌+◌, ◌*◌, ◌<◌, ◌≤�
 use Rattle.dual.specs.Matchings.{Costs, IsMatching, IsPartOf, cost}
 use Rattle.dual.specs.Duals.{Certificate, bears, bears_left, slack, slack_left, gains, losses, pairs_of}
 
--- a base, a debt, and what each pair and each player left over adds: a pair's number stands in the row of its first player
+-- a base, a debt, and what each pair and each player left over adds: a pair's number stands in the row of its first player [own]
 pub record FloorTable : Type 0 where
   pub base : ℕ
   pub debt : ℕ
@@ -11,16 +11,16 @@ pub record FloorTable : Type 0 where
   pub extra : List ℕ
   pub extra_left : List ℕ
 
--- what a pair adds, 0 outside of the table
+-- what a pair adds, 0 outside of the table [with FloorTable]
 abbrev pub extra_in : FloorTable → ℕ × ℕ → ℕ
 extra_in floor pair = if nat_lt pair.1 floor.size then slice_index_or floor.extra (pair.0 * floor.size + pair.1) 0 else 0
 
--- what a player left over adds, 0 outside of the table
+-- what a player left over adds, 0 outside of the table [with FloorTable]
 abbrev pub extra_left_in : FloorTable → ℕ → ℕ
 extra_left_in floor v = slice_index_or floor.extra_left v 0
 
--- no matching that leaves so many players over costs less than the base and what is known of it adds, beside the debt:
--- so much less it may cost
+-- each matching that leaves so many players over costs, with the debt, at least the base and what some of its pairs and players left over
+-- add, each once [own]
 abbrev pub IsFloor : Costs → List ℕ → ℕ → FloorTable → Type 0
 IsFloor costs players left floor =
     (pairs : List (ℕ × ℕ)) (out : List ℕ) → IsMatching costs players pairs out → length out ≡ left
@@ -31,11 +31,12 @@ IsFloor costs players left floor =
 abbrev pub TellsSlack : Costs → Certificate → FloorTable → ℕ → ℕ → Type 0
 TellsSlack costs certificate floor u v = costs.meets u v ≡ true → extra_in floor (u, v) ≡ slack costs certificate (u, v)
 
+-- of one who may be left over the table tells the slack
 abbrev pub TellsSlackLeft : Costs → Certificate → FloorTable → ℕ → Type 0
 TellsSlackLeft costs certificate floor v = costs.may_be_left v ≡ true → extra_left_in floor v ≡ slack_left costs certificate v
 
--- the floor that a certificate is: what its potentials come to, what is given away and paid at most, and the slack of
--- each pair and of each player left over
+-- the floor that a certificate is: what its potentials come to is the base, what it gives away and what is paid for its sets at most is the
+-- debt, and each pair and each player left over adds its slack [own]
 pub record IsFloorOf (costs : Costs) (players : List ℕ) (left : ℕ) (certificate : Certificate) (floor : FloorTable) : Type 0 where
   pub base : floor.base ≡ gains certificate players
   pub debt : floor.debt ≡ losses certificate players (pairs_of players left) left
@@ -46,10 +47,11 @@ pub record IsFloorOf (costs : Costs) (players : List ℕ) (left : ℕ) (certific
 abbrev pub BearsBelow : Costs → Certificate → ℕ → ℕ → ℕ → Type 0
 BearsBelow costs certificate most u v = costs.meets u v ≡ true → bears costs certificate (u, v) < most
 
+-- what one who may be left over bears is below a bound
 abbrev pub BearsLeftBelow : Costs → Certificate → ℕ → ℕ → Type 0
 BearsLeftBelow costs certificate most v = costs.may_be_left v ≡ true → bears_left costs certificate v < most
 
--- all sums of a certificate are below a bound
+-- all sums of a certificate are below a bound [with IsFeasible]
 pub record IsBelow (costs : Costs) (players : List ℕ) (left : ℕ) (certificate : Certificate) (most : ℕ) : Type 0 where
   pub pairs : All (λ u. All (BearsBelow costs certificate most u) players) players
   pub left_over : All (BearsLeftBelow costs certificate most) players

@@ -8,6 +8,7 @@ use Rattle.dual.specs.Duals.{Priced, Certificate, most_inside}
 abbrev pub has_mark : MarkedSet → ℕ → Bool
 has_mark set v = slice_index_or set.marks.items v false
 
+-- a set by its marks, with its price
 abbrev pub priced_by : MarkedSet → Priced
 priced_by set = record { has = has_mark set; price = set.price }
 
@@ -19,7 +20,7 @@ toll_of v set = if has_mark set v then set.price else 0
 abbrev pub potential_in : Table → ℕ → ℕ
 potential_in table v = slice_index_or table.potentials.items v 0
 
--- the certificate that a table holds
+-- the certificate that a table holds by the players' numbers: who has no mark is not in a set, and past its end a potential is 0 [own]
 abbrev pub certificate_in : Table → Certificate
 certificate_in table =
     record {
@@ -29,9 +30,10 @@ certificate_in table =
       sets = map priced_by table.sets.items;
     }
 
--- the most that a set's tolls come to, and those of all sets
+-- the most that a set's tolls come to
 abbrev pub most_toll : List ℕ → MarkedSet → ℕ
 most_toll players set = set.price * most_inside players (priced_by set)
 
+-- the most that the tolls of all sets come to
 abbrev pub most_tolls : Table → List ℕ → ℕ
 most_tolls table players = sum_by (most_toll players) table.sets.items

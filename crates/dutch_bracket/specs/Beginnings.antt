@@ -29,7 +29,7 @@ pub record LacksEndOfS2r (b a : Arrangement) : Type 0 where
 abbrev pub seated_so : Facts → Reached → List (ℕ × ℕ) → List ℕ → Seated
 seated_so facts reached pairs down = record { pairs = pairs; down = down; lowest = lowest facts reached.seats }
 
--- a beginning by seats: its pairs alone
+-- what a beginning fixes by seats: its pairs alone [with fixed_lists]
 abbrev pub fixed : Facts → Reached → Arrangement → Seated
 fixed facts reached b = seated_so facts reached (all_pairs reached.seats b) []
 
@@ -51,6 +51,7 @@ lists_by S1 lists = record { s1 = []; s2 = []; s1r = []; s2r = [] }
 lists_by S2 lists = record { s1 = lists.s1; s2 = lists.s2; s1r = []; s2r = [] }
 lists_by S2r lists = record { s1 = lists.s1; s2 = lists.s2; s1r = lists.s1r; s2r = lists.s2r }
 
+-- the lists of a beginning up to the one that is being filled [B.6, B.7; own]
 abbrev pub fixed_lists : Beginning → Arrangement
 fixed_lists b = lists_by b.filling b.lists
 
@@ -58,20 +59,20 @@ fixed_lists b = lists_by b.filling b.lists
 abbrev pub are_numbers : Reached → List ℕ → Bool
 are_numbers reached numbers = list_all (is_number reached) numbers
 
--- lists of numbers of a bracket that have room in a shape, and of those who meet the second is not the longer one
+-- lists of numbers of a bracket that have room in a shape, and of those who meet the second is not the longer one [B.1]
 abbrev pub is_of_shape : Reached → Shape → Arrangement → Bool
 is_of_shape reached shape lists =
     (are_numbers reached lists.s1 && (are_numbers reached lists.s2 && (are_numbers reached lists.s1r && are_numbers reached lists.s2r)))
     && ((nat_le (length lists.s1) shape.mdps && nat_le (length lists.s2) (length lists.s1))
     && (nat_le (length lists.s1r) (remainder_pairs shape) && nat_le (length lists.s2r) (length lists.s1r)))
 
--- S1 is chosen
+-- S1 is chosen [with fixed_lists]
 abbrev pub has_s1 : Filling → Bool
 has_s1 S1 = false
 has_s1 S2 = true
 has_s1 S2r = true
 
--- lists of numbers of a bracket: of those who meet the second is not the longer one, and they make at most LIMIT pairs
+-- lists of numbers of a bracket that make at most 1,024 pairs, where of those who meet the second is not the longer one [with is_of_shape]
 pub record HasNumbers (reached : Reached) (lists : Arrangement) : Type 0 where
   pub s1 : AllNumbers reached.seats lists.s1
   pub s2 : AllNumbers reached.seats lists.s2

@@ -20,14 +20,14 @@ pub record Choice : Type 0 where
   pub shape : Shape
   pub lists : Arrangement
 
--- A.9: a bracket that is paired again, by C.4
+-- whether a bracket is the penultimate one, which is paired again by C.4 [A.9]
 abbrev pub is_penultimate : BracketKind → Bool
 is_penultimate Ordinary = false
 is_penultimate Last = false
 is_penultimate Penultimate = true
 is_penultimate Collapsed = false
 
--- A.3: a bracket of some moved down and some residents
+-- the seats of those moved down and then of the residents [A.3]
 abbrev pub bracket : ℕ → BracketKind → List ℕ → List ℕ → Reached
 bracket number kind moved_down residents =
     record { number = number; kind = kind; mdps = length moved_down; seats = moved_down ++ residents }
@@ -40,38 +40,38 @@ module _ (facts : Facts) where
   onto_group seat ((first ∷ others) ∷ groups) =
       if score_at facts seat == score_at facts first then (seat ∷ first ∷ others) ∷ groups else (seat ∷ []) ∷ (first ∷ others) ∷ groups
 
-  -- A.3: the scoregroups of seats by rank
+  -- the groups of some seats by rank with one score [A.3]
   abbrev pub scoregroups : List ℕ → List (List ℕ)
   scoregroups [] = []
   scoregroups (seat ∷ seats) = onto_group seat (scoregroups seats)
 
-  -- the first scoregroup of some, if there is one
+  -- the first of some scoregroups, and nobody where there is none [A.3]
   abbrev pub first_group : List (List ℕ) → List ℕ
   first_group [] = []
   first_group (group ∷ groups) = group
 
-  -- A.9: whether seats can be paired out
+  -- whether some seats can be paired out [A.9]
   unfoldable pub completable : List ℕ → Bool
   completable seats = can_complete (seats_meet facts) (seats_may_be_left facts) seats
 
-  -- the downfloaters of an arrangement, by seat
+  -- the downfloaters of an arrangement, by seat [with can_be_chosen]
   abbrev pub downfloaters : Reached → Arrangement → List ℕ
   downfloaters reached lists = map (seat_of reached.seats) (down (frame_of facts reached) lists)
 
-  -- C.1 to C.3: the candidates of a bracket
+  -- the candidates of a bracket and a shape, by the rule of its field [C.1 to C.3]
   unfoldable pub candidates_of : Reached → Shape → List Arrangement
   candidates_of reached shape = candidates (numbers_meet facts reached) (number_may_be_left facts reached) (frame_of facts reached) shape
 
-  -- C.4: whether a candidate can be chosen: in the penultimate bracket only if it leaves players who can be paired out with all lower
-  -- ones
+  -- whether a candidate can be chosen: in the penultimate bracket only if those whom it leaves over can be paired out with all lower
+  -- players [C.4]
   abbrev pub can_be_chosen : Reached → List ℕ → Arrangement → Bool
   can_be_chosen reached lower lists = not (is_penultimate reached.kind) || completable (downfloaters reached lists ++ lower)
 
-  -- C.4: the candidates that can be chosen
+  -- the candidates of a shape that can be chosen [C.4]
   unfoldable pub eligible : Reached → List ℕ → Shape → List Arrangement
   eligible reached lower shape = filter (can_be_chosen reached lower) (candidates_of reached shape)
 
-  -- C.6 to C.19: the quality of a candidate above all lower seats, of which the first scoregroup is the next bracket's
+  -- the quality of a candidate, with the first lower scoregroup as the next bracket's residents [C.6 to C.19]
   unfoldable pub quality_of : Reached → List ℕ → Arrangement → Quality
   quality_of reached lower lists =
       quality facts reached (first_group (scoregroups lower)) (record { lists = lists; down = down (frame_of facts reached) lists })
@@ -80,15 +80,15 @@ module _ (facts : Facts) where
   abbrev pub is_better_in : Reached → List ℕ → Arrangement → Arrangement → Bool
   is_better_in reached lower c d = is_better (quality_of reached lower c) (quality_of reached lower d)
 
-  -- B.8: of the candidates of a shape that can be chosen the first that none is better than
+  -- of the candidates of a shape that can be chosen the first that none is better than [B.8]
   unfoldable pub best_of_shape : Reached → List ℕ → Shape → Option Arrangement
   best_of_shape reached lower shape = best (is_better_in reached lower) (eligible reached lower shape)
 
-  -- C.5: the shape of a bracket
+  -- the shape of a bracket: the greatest that has a candidate that can be chosen [C.5, B.1]
   unfoldable pub shape_of : Reached → List ℕ → Option Shape
   shape_of reached lower = greatest_shape (eligible reached lower) (frame_of facts reached)
 
-  -- the choice in a bracket above all lower seats: its shape, and the best of it; none where no shape has a candidate
+  -- the choice in a bracket above all lower seats: its shape, and the best candidate of it; none where no shape has one [B.8]
   unfoldable pub choice : Reached → List ℕ → Option Choice
   choice reached lower = do
     shape ← shape_of reached lower

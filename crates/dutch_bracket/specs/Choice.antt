@@ -12,7 +12,7 @@ module _ {X : Type 0} (is_better : X → X → Bool) where
   first_unbeaten all [] = None
   first_unbeaten all (c ∷ rest) = if is_unbeaten all c then Some c else first_unbeaten all rest
 
-  -- B.8: the first candidate that none is better than
+  -- the first candidate that none is better than [B.8]
   abbrev pub best : List X → Option X
   best candidates = first_unbeaten candidates candidates
 

@@ -22,11 +22,11 @@ is_firm Absolute = true
 is_firm Strong = true
 is_firm Mild = false
 
--- 1 for a seat whose preference is this colour
+-- 1 for a seat whose preference is this colour [own]
 abbrev pub wants : Facts → Colour → ℕ → ℕ
 wants facts colour seat = one_if (option_map_or (λ wanted. is_same wanted.colour colour) (preference (seat_at facts seat).played) false)
 
--- 1 for a seat whose preference is this colour, and firm
+-- 1 for a seat whose preference is this colour, and absolute or strong [with wants]
 abbrev pub wants_firmly : Facts → Colour → ℕ → ℕ
 wants_firmly facts colour seat =
     one_if (option_map_or (λ wanted. is_firm wanted.strength && is_same wanted.colour colour) (preference (seat_at facts seat).played) false)
@@ -63,7 +63,7 @@ abbrev pub collide : Option Pref → Option Pref → Bool
 collide (Some a) (Some b) = is_same a.colour b.colour
 collide _ _ = false
 
--- neither of two numbers misses a preference, and they may meet
+-- neither of two numbers misses a preference, and they may meet [with wants]
 unfoldable pub suits : Facts → Reached → ℕ → ℕ → Bool
 suits facts reached x y =
     (count_in facts (misses Preference) (seat_of reached.seats x, seat_of reached.seats y) == 0) && numbers_meet facts reached x y
@@ -84,7 +84,7 @@ lonely_first facts reached b = length (filter (λ x. not (list_any (suits facts 
 unfoldable pub lonely_second : Facts → Reached → Arrangement → ℕ
 lonely_second facts reached b = length (filter (λ y. not (list_any (λ x. suits facts reached x y) (waiting b))) (pool facts reached b))
 
--- the residents who go down with a shape
+-- the residents who go down with a shape [with psd_with]
 abbrev pub residents_down : Reached → Shape → ℕ
 residents_down reached shape = (length reached.seats - reached.mdps - shape.mdps) - 2 * remainder_pairs shape
 

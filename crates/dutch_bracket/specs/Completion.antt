@@ -35,16 +35,17 @@ paired a way pick = record { pairs = (a, pick.0) ∷ way.pairs; out = pick.1 }
 abbrev pub with_first : ℕ → Way → List Way
 with_first a way = left_out a way ∷ map (paired a way) (picks way.out)
 
--- all ways to pair the players of a list
+-- all ways to pair the players of a list: the first is left out, or paired with any of those whom a way to pair the later ones leaves out
+-- [A.9]
 abbrev pub all_pairings : List ℕ → List Way
 all_pairings [] = record { pairs = []; out = [] } ∷ []
 all_pairings (a ∷ later) = flat_map (with_first a) (all_pairings later)
 
--- C.1 to C.3: all pairs of a way may meet, and it leaves out at most one player, who may be left out
+-- all pairs of a way may meet, and it leaves out at most one player, who may be left out [with can_complete]
 abbrev pub is_complete : (ℕ → ℕ → Bool) → (ℕ → Bool) → Way → Bool
 is_complete meets may_be_left way = list_all (λ pair. meets pair.0 pair.1) way.pairs && leaves_one may_be_left way.out
 
--- A.9: whether players are completable: one of all ways to pair them is such
+-- whether players are completable: one of all ways to pair them is such [A.9, C.1 to C.3]
 abbrev pub can_complete : (ℕ → ℕ → Bool) → (ℕ → Bool) → List ℕ → Bool
 can_complete meets may_be_left players = list_any (is_complete meets may_be_left) (all_pairings players)
 
@@ -66,28 +67,29 @@ most_taking (suc zero) k bye = most_of_one (λ j. 0) k + most_of_bye 0 bye
 most_taking (suc (suc n)) k bye =
     (n + 1) * (1 + most_taking n k bye) + (most_of_one (λ j. most_taking (suc n) j bye) k + most_of_bye (most_taking (suc n) k false) bye)
 
--- the most steps that it takes to tell whether n players are completable, where one may be left out and where none may: with no taker
+-- the most steps that it takes to tell whether n players are completable, where one may be left out and where none may: with no taker [with
+-- SpendsAtMost]
 abbrev pub most : ℕ → Bool → ℕ
 most n bye = most_taking n 0 bye
 
--- a call made at most n steps and took none back, and the limit stays
+-- a call made at most n steps and took none back, and the limit stays [own]
 pub record SpendsAtMost (n : ℕ) (old new : Budget) : Type 0 where
   pub few : new.used ≤ old.used + n
   pub rises : old.used ≤ new.used
   pub limit : new.limit ≡ old.limit
 
--- a call was stopped at a limit that n steps would have passed
+-- a call was stopped at a limit that n steps would have passed [with SpendsAtMost]
 pub record IsStopped (n : ℕ) (old new : Budget) : Type 0 where
   pub reached : new.used ≡ new.limit
   pub needed : old.limit < old.used + n
 
--- an answer takes steps: Yes at least one for each two players, and No one for each trial of the first player
+-- an answer takes steps: Yes at least one for each two players, and No one for each trial of the first player [with SpendsAtMost]
 abbrev pub Takes : Answer → ℕ → ℕ → Budget → Budget → Type 0
 Takes Yes players trials old new = 2 * old.used + players ≤ 2 * new.used
 Takes No players trials old new = old.used + trials ≤ new.used
 Takes Undecided players trials old new = Unit {0}
 
--- a fact for each answer
+-- a fact for each answer: yes, no, stopped [with SpendsAtMost]
 abbrev pub MatchAnswer : Answer → Type 0 → Type 0 → Type 0 → Type 0
 MatchAnswer Yes completed failed undecided = completed
 MatchAnswer No completed failed undecided = failed

@@ -6,7 +6,7 @@ use Rattle.dutch_bracket.specs.Reached.{Reached, IsAbove, frame_of}
 use Rattle.dutch_bracket.specs.Brackets.{first_group, scoregroups}
 use Rattle.dutch_bracket.specs.Seated.{lowest}
 
--- a field, a bracket of it, and the seats below that bracket, by rank
+-- a field, a bracket of it, and the seats below that bracket, by rank [A.3]
 pub record Context : Type 0 where
   pub facts : Facts
   pub reached : Reached

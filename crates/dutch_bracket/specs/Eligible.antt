@@ -9,13 +9,13 @@ use Rattle.dutch_bracket.specs.Brackets.{eligible}
 use Rattle.dutch_bracket.specs.Shapes.{has_member}
 pub use Rattle.dutch_bracket.specs.Brackets.{can_be_chosen}
 
--- a bracket above some lower seats has a candidate that can be chosen: some shape that it has room for has one
+-- some shape that the bracket has room for has a candidate that can be chosen [C.4, C.5]
 pub record HasCandidate (facts : Facts) (reached : Reached) (lower : List ℕ) : Type 0 where
   pub shape : Shape
   pub room : Fits (frame_of facts reached) shape
   pub candidate : has_member (eligible facts reached lower shape) ≡ true
 
--- a listing is of a bracket of a field, by its numbers
+-- a listing is of a bracket of a field, by the rules on its numbers
 pub record Lists (facts : Facts) (reached : Reached) (listing : Listing ByNumber) : Type 0 where
   pub frame : listing.frame ≡ frame_of facts reached
   pub field : listing.rule.field.now ≡ facts

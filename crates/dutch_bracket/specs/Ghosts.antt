@@ -27,6 +27,7 @@ ghost_pair facts seats k lower i j =
     then (nat_le j k || some_meets facts seats (seat_of lower (j - k)))
     else (if nat_le j k then some_meets facts seats (seat_of lower (i - k)) else may_meet facts (seat_of lower (i - k)) (seat_of lower (j - k)))
 
+-- the same of two different numbers of ghosts and lower players
 unfoldable pub ghosts_meet : Facts → List ℕ → ℕ → List ℕ → ℕ → ℕ → Bool
 ghosts_meet facts seats k lower i j =
     (is_upto (k + length lower) i && is_upto (k + length lower) j) && (not (i == j) && ghost_pair facts seats k lower i j)

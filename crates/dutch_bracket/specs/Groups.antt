@@ -9,7 +9,7 @@ abbrev pub front_with : Facts → ℕ → List ℕ → ℕ
 front_with facts score [] = 0
 front_with facts score (seat ∷ seats) = if score_at facts seat == score then suc (front_with facts score seats) else 0
 
--- A.3: a scoregroup: a seat, and others with its score
+-- a scoregroup: a seat, and others with its score [with scoregroups]
 abbrev pub IsScoregroup : Facts → List ℕ → Type 0
 IsScoregroup facts [] = ⊥
 IsScoregroup facts (first ∷ others) = AllByRecursion (λ seat. score_at facts seat ≡ score_at facts first) others
@@ -19,7 +19,7 @@ abbrev pub group_score : Facts → List ℕ → ℕ
 group_score facts [] = 0
 group_score facts (first ∷ others) = score_at facts first
 
--- neighbours among scoregroups have different scores
+-- neighbours among scoregroups have different scores [with scoregroups]
 abbrev pub NeighboursDiffer : Facts → List (List ℕ) → Type 0
 NeighboursDiffer facts [] = Unit {0}
 NeighboursDiffer facts (group ∷ []) = Unit {0}

@@ -10,7 +10,7 @@ use Rattle.dutch_bracket.specs.Quality.{Quality}
 use Rattle.dutch_bracket.specs.Reached.{frame_of}
 use Rattle.dutch_bracket.specs.Brackets.{candidates_of, can_be_chosen, eligible, first_group, quality_of, scoregroups, shape_of}
 
--- the bracket by scores
+-- the bracket by scores [with Context]
 abbrev pub frame_here : Context → Frame
 frame_here context = frame_of context.facts context.reached
 
@@ -18,23 +18,23 @@ frame_here context = frame_of context.facts context.reached
 abbrev pub group_here : Context → List ℕ
 group_here context = first_group context.facts (scoregroups context.facts context.lower)
 
--- it has room for a shape
+-- it has room for a shape [with Context]
 abbrev pub FitsHere : Context → Shape → Type 0
 FitsHere context shape = Fits (frame_here context) shape
 
--- C.1 to C.3: its candidates
+-- its candidates of a shape [with Context]
 abbrev pub candidates_here : Context → Shape → List Arrangement
 candidates_here context shape = candidates_of context.facts context.reached shape
 
--- C.4: whether a candidate can be chosen in it
+-- whether a candidate can be chosen in it [with Context]
 abbrev pub can_be_chosen_here : Context → Arrangement → Bool
 can_be_chosen_here context a = can_be_chosen context.facts context.reached context.lower a
 
--- C.4: its candidates that can be chosen
+-- its candidates of a shape that can be chosen [with Context]
 abbrev pub eligible_here : Context → Shape → List Arrangement
 eligible_here context shape = eligible context.facts context.reached context.lower shape
 
--- C.5: its shape
+-- its shape [with Context]
 abbrev pub shape_here : Context → Option Shape
 shape_here context = shape_of context.facts context.reached context.lower
 
@@ -42,6 +42,6 @@ shape_here context = shape_of context.facts context.reached context.lower
 abbrev pub ListsHere : Context → Listing ByNumber → Type 0
 ListsHere context listing = Lists context.facts context.reached listing
 
--- C.6 to C.19: the quality of a candidate in it
+-- the quality of a candidate in it [with Context]
 abbrev pub quality_here : Context → Arrangement → Quality
 quality_here context a = quality_of context.facts context.reached context.lower a

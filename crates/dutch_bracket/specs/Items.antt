@@ -35,11 +35,11 @@ article UpAgainBeforeBy = 19
 abbrev pub AreSameIn : Item → Quality → Quality → Type 0
 AreSameIn item a b = compared_in item a b ≡ Equal
 
--- one quality stands in front of another in an item
+-- one quality stands in front of another in an item [with compared_in]
 abbrev pub IsInFrontIn : Item → Quality → Quality → Type 0
 IsInFrontIn item a b = compared_in item a b ≡ Less
 
--- an item is the first in which two qualities differ: they do in it, and not in any that counts before it
+-- an item is the first in which two qualities differ: they do in it, and not in any that counts before it [with first_difference]
 pub record DifferFirstIn (item : Item) (a b : Quality) : Type 0 where
   pub differ : ¬ AreSameIn item a b
   pub before : (other : Item) → article other < article item → AreSameIn other a b
@@ -69,7 +69,7 @@ those_with_topscorers facts holds pairs = those_in_pairs facts holds (filter (ha
 abbrev pub seats_of : List Floater → List ℕ
 seats_of floaters = map (λ floater. floater.seat) floaters
 
--- C.8 to C.15: the players of a candidate whom an item counts; the other items count no players
+-- the players of a candidate whom one of C.8 to C.15 counts; the other items count no players [C.8 to C.15, E]
 abbrev pub counted : Facts → Seated → Item → List ℕ
 counted facts candidate WideDifferences = those_with_topscorers facts (misses Wide) candidate.pairs
 counted facts candidate ThirdColours = those_with_topscorers facts (misses Third) candidate.pairs
@@ -85,11 +85,11 @@ counted facts candidate item = []
 abbrev pub by_rank : List ℕ → List ℕ
 by_rank seats = reverse (highest_first seats)
 
--- C.8 to C.15: the players whom an item counts of a candidate of a bracket, by rank
+-- the players whom an item counts of a candidate of a bracket, by rank [with counted]
 abbrev pub who_counts : Facts → Reached → Candidate → Item → List ℕ
 who_counts facts reached candidate item = by_rank (counted facts (by_seats facts reached.seats candidate) item)
 
--- C.8 to C.15: how many players an item says that it counts; the other items count no players
+-- how many players an item says that it counts; the other items count no players [with counted]
 abbrev pub players_counted : Item → Quality → ℕ
 players_counted WideDifferences q = q.wide_differences
 players_counted ThirdColours q = q.third_colours

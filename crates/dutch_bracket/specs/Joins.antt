@@ -44,6 +44,7 @@ takes_bye joins a = joins.bye && (not (nat_le a joins.reached.mdps) && number_ma
 abbrev pub vertices : Joins → ℕ
 vertices joins = length joins.reached.seats + 1
 
+-- two vertices are joined: who may be in a pair, and the bye with a resident who may have it
 abbrev pub joined : Joins → ℕ → ℕ → Bool
 joined joins a b = if a == 0 then takes_bye joins b else if b == 0 then takes_bye joins a else may_pair joins a b
 
@@ -68,21 +69,23 @@ pub record IsAlwaysShape (facts : Facts) (reached : Reached) (shape : Shape) : T
   pub once : is_penultimate reached.kind ≡ false
   pub always : (lower : List ℕ) → shape_of facts reached lower ≡ Some shape
 
--- the mate of a number by a list of partners: whoever has no partner, or the bye, is their own mate
+-- the mate of a number by its place in a list of partners: whoever has no partner, or the bye, is their own mate
 abbrev pub mate_at : Option (Option ℕ) → ℕ → ℕ
 mate_at None a = a
 mate_at (Some None) a = a
 mate_at (Some (Some b)) a = if b == 0 then a else b
 
+-- the mate of a number by a list of partners
 abbrev pub mate_of : List (Option ℕ) → ℕ → ℕ
 mate_of partners a = mate_at (slice_get partners a) a
 
--- a number has a partner, or the bye
+-- a number has a partner, or the bye, by its place in a list
 abbrev pub is_matched_at : Option (Option ℕ) → Bool
 is_matched_at None = false
 is_matched_at (Some None) = false
 is_matched_at (Some (Some b)) = true
 
+-- a number has a partner, or the bye
 abbrev pub is_matched : List (Option ℕ) → ℕ → Bool
 is_matched partners a = is_matched_at (slice_get partners a)
 
@@ -90,9 +93,11 @@ is_matched partners a = is_matched_at (slice_get partners a)
 abbrev pub AreMatched : Reached → List (Option ℕ) → Type 0
 AreMatched reached partners = All (λ a. is_matched partners a ≡ true) (numbers_from 1 (length reached.seats))
 
+-- a number has a mate
 abbrev pub has_mate : List (Option ℕ) → ℕ → Bool
 has_mate partners a = not (mate_of partners a == a)
 
+-- the mate of a number stands behind it
 abbrev pub goes_first : List (Option ℕ) → ℕ → Bool
 goes_first partners a = nat_lt a (mate_of partners a)
 

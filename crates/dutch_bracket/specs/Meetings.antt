@@ -20,5 +20,6 @@ joined_seats facts (Some a) None = seats_may_be_left facts a
 joined_seats facts None (Some b) = seats_may_be_left facts b
 joined_seats facts None None = false
 
+-- two vertices are joined, by the seats that they stand for
 abbrev pub joined : Meetings → ℕ → ℕ → Bool
 joined meetings a b = joined_seats meetings.facts (slice_get meetings.players a) (slice_get meetings.players b)

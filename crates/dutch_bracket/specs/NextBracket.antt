@@ -28,12 +28,13 @@ abbrev pub lowest_list : List (List ℕ) → List ℕ
 lowest_list [] = []
 lowest_list (xs ∷ others) = lowest_list_upto xs others
 
--- C.7: the next bracket: the downfloaters are its moved-down players, and the next lower scoregroup its residents; it is not a last
--- one, and lower scoregroups are not looked at (our own choice)
+-- the next bracket: a candidate's downfloaters are its moved-down players, and the next lower scoregroup its residents; it is an ordinary
+-- one, and lower scoregroups are not looked at [C.7; own]
 abbrev pub next_bracket : List ℕ → List ℕ → Reached
 next_bracket moved_down next = record { number = 0; kind = Ordinary; mdps = length moved_down; seats = moved_down ++ next }
 
--- the arrangements of a bracket whose pairs meet C.1 and C.3; one that ends the round leaves over at most one player, who meets C.2
+-- the arrangements of a bracket whose pairs may meet, and which, if it ends the round, leave over at most one player, who may have the bye
+-- [C.7, C.1 to C.3]
 abbrev pub legal_in : Facts → Reached → Shape → List Arrangement
 legal_in facts reached = candidates (numbers_meet facts reached) (number_may_be_left facts reached) (frame_of facts reached)
 
@@ -45,7 +46,7 @@ legal_by facts reached frame = candidates (numbers_meet facts reached) (number_m
 abbrev pub psd_in : Facts → Reached → Arrangement → List ℕ
 psd_in facts reached lists = psd facts (by_seats facts reached.seats (record { lists = lists; down = down (frame_of facts reached) lists }))
 
--- C.7: if it does not count, all candidates have the same value (our own choice)
+-- the value where C.7 does not count [with value_in]
 abbrev pub no_value : NextValue
 no_value = record { pairs = 0; psd = [] }
 
@@ -55,18 +56,20 @@ value_of_shape facts reached None = no_value
 value_of_shape facts reached (Some shape) =
     record { pairs = shape.pairs; psd = lowest_list (map (psd_in facts reached) (legal_in facts reached shape)) }
 
--- C.7: what a bracket can be: the most pairs, for them the most moved-down players, and then the least PSD
+-- what a bracket can be: the most pairs, and the least PSD of an arrangement with so many pairs and, among these, with the most moved-down
+-- players [C.7, C.6; own]
 unfoldable pub value_of : Facts → Reached → NextValue
 value_of facts reached = value_of_shape facts reached (greatest_shape (legal_in facts reached) (frame_of facts reached))
 
--- C.7 counts in ordinary brackets alone
+-- what the next bracket of an ordinary bracket can be; in other brackets C.7 does not count, and all candidates have the same value [C.7;
+-- own]
 abbrev pub value_in : BracketKind → Facts → List ℕ → List ℕ → NextValue
 value_in Ordinary facts moved_down next = value_of facts (next_bracket moved_down next)
 value_in Last facts moved_down next = no_value
 value_in Penultimate facts moved_down next = no_value
 value_in Collapsed facts moved_down next = no_value
 
--- C.6 to C.19: the quality of a candidate of a bracket above a next lower scoregroup
+-- the quality of a candidate of a bracket above a next lower scoregroup [C.6 to C.19]
 unfoldable pub quality : Facts → Reached → List ℕ → Candidate → Quality
 quality facts reached next candidate =
     quality_with facts (by_seats facts reached.seats candidate) (value_in reached.kind facts (map (seat_of reached.seats) candidate.down) next)
@@ -76,18 +79,18 @@ pub record IsFlat (facts : Facts) (reached : Reached) : Type 0 where
   pub resident : reached.mdps < length reached.seats
   pub same : (i : ℕ) → reached.mdps < i → i ≤ length reached.seats → score_at facts (seat_of reached.seats i) ≡ score_at facts (seat_of reached.seats (reached.mdps + 1))
 
--- an arrangement of a bracket, with those whom it leaves over
+-- an arrangement of a bracket, with those whom it leaves over [B.3]
 pub record IsOfBracket (facts : Facts) (reached : Reached) (candidate : Candidate) : Type 0 where
   pub lists : (shape : Shape) × IsIn candidate.lists (arrangements (frame_of facts reached) shape)
   pub down : candidate.down ≡ down (frame_of facts reached) candidate.lists
 
--- numbers of a bracket, ascending, as those of its downfloaters
+-- numbers of a bracket, ascending, as those of its downfloaters [B.3]
 pub record AreLeft (reached : Reached) (down : List ℕ) : Type 0 where
   pub numbers : AllNumbers reached.seats down
   pub ascend : IsStrictlyIncreasing down
 
--- the next lower scoregroup: seats with one score, below those of a bracket with which it has at most LIMIT players; below an ordinary
--- bracket there is one
+-- the next lower scoregroup: seats with one score, below those of a bracket with which it has at most 1,024 players; below an ordinary
+-- bracket there is one [A.3]
 pub record IsNext (facts : Facts) (reached : Reached) (next : List ℕ) : Type 0 where
   pub inside : AreSeats facts next
   pub few : length reached.seats + length next ≤ LIMIT
@@ -95,7 +98,7 @@ pub record IsNext (facts : Facts) (reached : Reached) (next : List ℕ) : Type 0
   pub below : (i j : ℕ) → i < length reached.seats → j < length next → score_at facts (slice_index next j) < score_at facts (slice_index reached.seats i)
   pub there : reached.kind ≡ Ordinary → 0 < length next
 
--- C.7: a value of the next bracket is not better than another
+-- a value of the next bracket is not better than another one: no more pairs, and with as many no lower PSD [C.7; own]
 abbrev pub IsNoBetter : NextValue → NextValue → Type 0
 IsNoBetter next other = (next.pairs ≤ other.pairs) × (next.pairs ≡ other.pairs → is_lower next.psd other.psd ≡ false)
 

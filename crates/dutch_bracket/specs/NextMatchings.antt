@@ -12,19 +12,19 @@ use Rattle.dutch_bracket.specs.Brackets.{first_group, quality_of, scoregroups}
 use Rattle.dutch_bracket.specs.Seated.{difference, difference_down, score_at, seat_of}
 use Rattle.dutch_bracket.specs.Weights.{number_pairs}
 
--- the next lower scoregroup
+-- the next lower scoregroup [A.3]
 abbrev pub group_below : Facts → List ℕ → List ℕ
 group_below facts lower = first_group facts (scoregroups facts lower)
 
--- how many numbers the bracket and the next lower scoregroup have
+-- how many numbers the bracket and the next lower scoregroup have [with group_below]
 abbrev pub count_below : Facts → Reached → List ℕ → ℕ
 count_below facts reached lower = length reached.seats + length (group_below facts lower)
 
--- the seat of a number; behind those of the bracket come those of the next lower scoregroup
+-- the seat of a number; behind those of the bracket come those of the next lower scoregroup [with group_below]
 abbrev pub seat_below : Facts → Reached → List ℕ → ℕ → ℕ
 seat_below facts reached lower = seat_of (reached.seats ++ group_below facts lower)
 
--- the score of the next lower scoregroup
+-- the score of the next lower scoregroup [with group_below]
 abbrev pub score_below : Facts → List ℕ → ℕ
 score_below facts lower = score_at facts (slice_index (group_below facts lower) 0)
 
@@ -40,7 +40,7 @@ value_below facts reached lower pairs alone = record {
 abbrev pub GoesBelow : Facts → Reached → Arrangement → ℕ → Type 0
 GoesBelow facts reached a v = IsIn v (down (frame_of facts reached) a) ⊎ (length reached.seats < v)
 
--- two may be a pair of the next bracket: the second one is of the next lower scoregroup, and they may meet (C.1, C.3)
+-- two may be a pair of the next bracket: the second one is of the next lower scoregroup, and they may meet [C.1, C.3, C.7]
 pub record MayPairBelow (facts : Facts) (reached : Reached) (lower : List ℕ) (a : Arrangement) (pair : ℕ × ℕ) : Type 0 where
   pub first : GoesBelow facts reached a pair.0
   pub second : length reached.seats < pair.1
@@ -49,8 +49,8 @@ pub record MayPairBelow (facts : Facts) (reached : Reached) (lower : List ℕ) (
   pub apart : ¬ (pair.0 ≡ pair.1)
   pub meet : may_meet facts (seat_below facts reached lower pair.0) (seat_below facts reached lower pair.1) ≡ true
 
--- pairs of the next bracket, and those of it who are in none: with the pairs of an arrangement they are all numbers of the bracket and the next
--- lower scoregroup, and they have the value that the next bracket can be at best (C.7)
+-- pairs of the next bracket, and those of it who are in none, have the value that the next bracket can be at best; with the pairs of an
+-- arrangement they are all numbers of the bracket and the next lower scoregroup [C.7]
 pub record JoinsBelow (facts : Facts) (reached : Reached) (lower : List ℕ) (a : Arrangement) : Type 0 where
   pub pairs : List (ℕ × ℕ)
   pub alone : List ℕ
@@ -59,12 +59,12 @@ pub record JoinsBelow (facts : Facts) (reached : Reached) (lower : List ℕ) (a 
   pub stay : All (λ v. GoesBelow facts reached a v × (v ≤ count_below facts reached lower)) alone
   pub value : next_in (quality_of facts reached lower a) ≡ value_below facts reached lower pairs alone
 
--- a value of so many players has no more pairs than half of them, and no more differences than players, the highest first
+-- a value of so many players has no more pairs than half of them, and no more differences than players, the highest first [C.7]
 pub record IsSmall (players : ℕ) (next : NextValue) : Type 0 where
   pub pairs : 2 * next.pairs ≤ players
   pub differences : length next.psd ≤ players
   pub order : highest_first next.psd ≡ next.psd
 
--- the players of the next bracket: those whom an arrangement of a shape leaves over, and the next lower scoregroup
+-- the players of the next bracket: those whom an arrangement of a shape leaves over, and the next lower scoregroup [with IsSmall]
 abbrev pub players_below : Facts → Reached → List ℕ → Shape → ℕ
 players_below facts reached lower shape = (length reached.seats - 2 * shape.pairs) + length (group_below facts lower)

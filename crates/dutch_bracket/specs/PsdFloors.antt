@@ -8,13 +8,13 @@ use Rattle.dutch_bracket.specs.Reached.{Reached}
 use Rattle.dutch_bracket.specs.Seated.{seat_of, score_at}
 use Rattle.dutch_bracket.specs.ColourFloors.{residents_down}
 
--- a number so many times
+-- a number so many times [with psd]
 abbrev pub repeated : ℕ → ℕ → List ℕ
 repeated x zero = []
 repeated x (suc n) = x ∷ repeated x n
 
--- the PSD of an arrangement of a bracket whose residents have the score s, by its S1: the differences of those in S1, of the
--- moved-down players who are not in it, of the pairs of residents, and of the residents who are left over
+-- the PSD of an arrangement of a bracket whose residents have the score s, by its S1: the differences of those in S1, of the moved-down
+-- players who are not in it, of the pairs of residents, and of the residents who are left over [C.6; own]
 unfoldable pub psd_with : Facts → Reached → Shape → ℕ → List ℕ → List ℕ
 psd_with facts reached shape s s1 =
     highest_first (map (λ i. score_at facts (seat_of reached.seats i) - s) s1
@@ -33,7 +33,7 @@ floor_psd facts reached s pairs =
     highest_first (map (λ i. score_at facts (seat_of reached.seats i) - s) (numbers_from 1 reached.mdps)
     ++ (repeated 0 (pairs - reached.mdps) ++ repeated 2 (length reached.seats - 2 * pairs)))
 
--- all S1 leave moved-down players with the same scores
+-- all S1 leave moved-down players with the same scores [with psd_with]
 abbrev pub is_uniform : Facts → Reached → Shape → Bool
 is_uniform facts reached shape =
     (shape.mdps == 0) || ((shape.mdps == reached.mdps) || (score_at facts (seat_of reached.seats 1) == score_at facts (seat_of reached.seats reached.mdps)))

@@ -18,72 +18,72 @@ use Rattle.dutch_bracket.specs.declared.colours_missed.Miss.{Miss}
 use Rattle.dutch_bracket.specs.declared.colours_missed.Miss.TheVariants.{Wide, Third, Preference, StrongPreference}
 use Rattle.dutch_bracket.specs.Seated.{Seated, difference, difference_down, going_down, going_up}
 
--- what the items say of a candidate
+-- what the items say of a candidate [C.6 to C.19]
 pub record Quality : Type 0 where
-  -- C.6: the differences of pairs and downfloaters, the highest first
+  -- the differences of pairs and downfloaters, the highest first [C.6]
   pub psd : List ℕ
-  -- C.7: the most pairs of the next bracket
+  -- the most pairs of the next bracket, and in `next_psd` the least PSD with so many [C.7]
   pub next_pairs : ℕ
-  -- C.7: the least PSD with so many
+  -- the least PSD of the next bracket with so many pairs
   pub next_psd : List ℕ
-  -- C.8: in pairs with a topscorer, a colour difference over +2 or under -2
+  -- players in pairs with a topscorer who get a colour difference over +2 or under -2 [C.8]
   pub wide_differences : ℕ
-  -- C.9: in pairs with a topscorer, the colour of the last two games again
+  -- players in pairs with a topscorer who get the colour of their last two games again [C.9]
   pub third_colours : ℕ
-  -- C.10: a preference that is not met
+  -- players in pairs who do not get the colour of their preference [C.10]
   pub missed_preferences : ℕ
-  -- C.11: a strong preference that is not met
+  -- players in pairs who do not get the colour of a strong preference [C.11]
   pub missed_strong : ℕ
-  -- C.12: going down after a downfloat in the last round
+  -- players who go down and had a downfloat in the last round [C.12]
   pub down_again : ℕ
-  -- C.13: going up after an upfloat in the last round
+  -- players who go up and had an upfloat in the last round [C.13]
   pub up_again : ℕ
-  -- C.14: going down after a downfloat in the round before
+  -- players who go down and had a downfloat in the round before that [C.14]
   pub down_again_before : ℕ
-  -- C.15: going up after an upfloat in the round before
+  -- players who go up and had an upfloat in the round before that [C.15]
   pub up_again_before : ℕ
-  -- C.16: the differences of those of C.12
+  -- the differences of the players of C.12, the highest first [C.16]
   pub down_again_by : List ℕ
-  -- C.17: the differences of those of C.13
+  -- the differences of the players of C.13, the highest first [C.17]
   pub up_again_by : List ℕ
-  -- C.18: the differences of those of C.14
+  -- the differences of the players of C.14, the highest first [C.18]
   pub down_again_before_by : List ℕ
-  -- C.19: the differences of those of C.15
+  -- the differences of the players of C.15, the highest first [C.19]
   pub up_again_before_by : List ℕ
 
--- C.7: what the next bracket can be: its number of pairs and the least PSD for it
+-- what the next bracket can be: its number of pairs and the least PSD for it [C.7]
 pub record NextValue : Type 0 where
   pub pairs : ℕ
   pub psd : List ℕ
 
--- a number put behind all that are higher
+-- a number put behind all that are higher [with psd]
 abbrev pub placed : ℕ → List ℕ → List ℕ
 placed x [] = x ∷ []
 placed x (y ∷ ys) = if nat_lt x y then y ∷ placed x ys else x ∷ y ∷ ys
 
--- numbers put one by one to their places among some that are there, the highest first
+-- numbers put one by one to their places among some that are there, the highest first [with psd]
 abbrev pub placed_all : List ℕ → List ℕ → List ℕ
 placed_all front [] = front
 placed_all front (x ∷ rest) = placed_all (placed x front) rest
 
--- numbers in order, the highest first
+-- numbers in order, the highest first [with psd]
 abbrev pub highest_first : List ℕ → List ℕ
 highest_first numbers = placed_all [] numbers
 
--- C.6: the PSD: the differences of all pairs and all downfloaters, the highest first
+-- the differences of all pairs and all downfloaters, the highest first [C.6]
 unfoldable pub psd : Facts → Seated → List ℕ
 psd facts candidate =
     highest_first (map (difference facts) candidate.pairs ++ map (difference_down facts candidate.lowest) candidate.down)
 
--- C.8: with a colour more the colour difference is over +2 or under -2 (each player's own: our own choice)
+-- whether with one colour more a player's own colour difference is over +2 or under -2 [C.8; own]
 abbrev pub is_wide : SeatFacts → Colour → Bool
 is_wide seat colour = nat_lt 2 (distance (colour ∷ seat.played))
 
--- C.9: the colour is that of the last two games
+-- whether a colour is that of the player's own last two games [C.9; own]
 abbrev pub is_third : SeatFacts → Colour → Bool
 is_third seat colour = option_map_or (is_same colour) (last_two seat.played) false
 
--- C.10: the colour is not that of the preference
+-- whether a colour is not that of the player's preference, of whatever strength [C.10; own]
 abbrev pub is_missed : SeatFacts → Colour → Bool
 is_missed seat colour = option_map_or (λ wanted. not (is_same wanted.colour colour)) (preference seat.played) false
 
@@ -93,19 +93,19 @@ is_strong Absolute = false
 is_strong Strong = true
 is_strong Mild = false
 
--- C.11: the colour is not that of a preference that is strong and not absolute
+-- whether a colour is not that of a preference that is strong and not absolute [C.11; own]
 abbrev pub is_strong_missed : SeatFacts → Colour → Bool
 is_strong_missed seat colour =
     option_map_or (λ wanted. is_strong wanted.strength && not (is_same wanted.colour colour)) (preference seat.played) false
 
--- C.8 to C.11
+-- whether one of C.8 to C.11 counts a player who gets a colour [with count_in]
 abbrev pub misses : Miss → SeatFacts → Colour → Bool
 misses Wide = is_wide
 misses Third = is_third
 misses Preference = is_missed
 misses StrongPreference = is_strong_missed
 
--- 1 for yes
+-- 1 for yes [with count_in]
 abbrev pub one_if : Bool → ℕ
 one_if true = 1
 one_if false = 0
@@ -114,11 +114,11 @@ one_if false = 0
 abbrev pub count_of_both : Facts → (SeatFacts → Colour → Bool) → ℕ × ℕ → ℕ
 count_of_both facts holds both = one_if (holds (seat_at facts both.0) White) + one_if (holds (seat_at facts both.1) Black)
 
--- how many players of a pair something holds of, with the colour that each gets (E)
+-- how many players of a pair something holds of, with the colour that each gets [C.8 to C.11, E]
 unfoldable pub count_in : Facts → (SeatFacts → Colour → Bool) → ℕ × ℕ → ℕ
 count_in facts holds pair = count_of_both facts holds (colours facts pair.0 pair.1)
 
--- A.7: one or both of a pair are topscorers
+-- one or both of a pair are topscorers [A.7, C.8, C.9]
 abbrev pub has_topscorer : Facts → ℕ × ℕ → Bool
 has_topscorer facts pair = is_topscorer facts (seat_at facts pair.0) || is_topscorer facts (seat_at facts pair.1)
 
@@ -140,24 +140,24 @@ abbrev pub is_down : Float → Bool
 is_down Up = false
 is_down Down = true
 
--- the float of a round is this one
+-- the float of a round is this one [with float_of]
 abbrev pub is_float : Float → Option Float → Bool
 is_float Up float = option_map_or is_up float false
 is_float Down float = option_map_or is_down float false
 
--- A.4: the float in the last round (1) or in the one before it (2)
+-- a seat's float in the last round (1) or in the one before it (2); before the first round there is none [A.4; own]
 abbrev pub float_of : Facts → ℕ → ℕ → Option Float
 float_of facts back seat = if back == 1 then (seat_at facts seat).latest else (seat_at facts seat).earlier
 
--- C.12 to C.15: those who had this float in the round so far back
+-- of those who move the ones who had this float in the round so far back [C.12 to C.15]
 abbrev pub again : Facts → Float → ℕ → List Floater → List Floater
 again facts float back floaters = filter (λ floater. is_float float (float_of facts back floater.seat)) floaters
 
--- C.16 to C.19: the differences of some who move, the highest first
+-- the differences of some who move, the highest first [C.16 to C.19]
 abbrev pub differences : List Floater → List ℕ
 differences floaters = highest_first (map (λ floater. floater.by) floaters)
 
--- C.6 to C.19: the quality of a candidate, for a value of the next bracket
+-- the items of a candidate, for a value of the next bracket [C.6 to C.19]
 unfoldable pub quality_with : Facts → Seated → NextValue → Quality
 quality_with facts candidate next = record {
   psd = psd facts candidate;
@@ -191,7 +191,8 @@ by_number value = on value nat_cmp
 abbrev pub by_list : (Quality → List ℕ) → Quality → Quality → Ordering
 by_list value = on value (slice_cmp nat_cmp)
 
--- how two qualities stand by one item alone; by C.7 the one with more pairs is in front, and of as many pairs the one with the smaller PSD
+-- how two qualities stand by one item: the smaller value is in front; of two lists the smaller at the first difference, or that ends there;
+-- of C.7 the one with more pairs, and with as many pairs the smaller PSD [C.6 to C.19; own]
 abbrev pub compared_in : Item → Quality → Quality → Ordering
 compared_in Psd = by_list (λ q. q.psd)
 compared_in NextBracket = then_cmp (on (λ q. q.next_pairs) (flip_args nat_cmp)) (by_list (λ q. q.next_psd))
@@ -217,10 +218,10 @@ abbrev pub first_that_differs : List Item → Quality → Quality → Option Ite
 first_that_differs [] a b = None
 first_that_differs (item ∷ items) a b = if differs item a b then Some item else first_that_differs items a b
 
--- the first of all items in which two qualities differ
+-- the first of all items in which two qualities differ [C.6 to C.19]
 abbrev pub first_difference : Quality → Quality → Option Item
 first_difference = first_that_differs all_items
 
--- one quality is better than another: at the first item in which they differ it stands in front
+-- one quality is better than another: at the first item in which they differ it stands in front [C.6 to C.19]
 unfoldable pub is_better : Quality → Quality → Bool
 is_better a b = option_map_or (λ item. is_lt (compared_in item a b)) (first_difference a b) false

@@ -4,7 +4,7 @@ use Rattle.dutch_player.specs.Prelude.{Facts}
 use Rattle.dutch_bracket.specs.Seated.{Seated}
 use Rattle.dutch_bracket.specs.Quality.{Quality, NextValue, quality_with}
 
--- a quality by what stands in its fields
+-- a quality by what stands in its fields [own]
 abbrev pub quality_in : Fields → Quality
 quality_in q = record {
   psd = q.psd.items;
@@ -24,16 +24,16 @@ quality_in q = record {
   up_again_before_by = q.up_again_before_by.items;
 }
 
--- what a quality says of the next bracket: C.7
+-- what a quality says of the next bracket [with quality_in]
 abbrev pub next_in : Quality → NextValue
 next_in q = record { pairs = q.next_pairs; psd = q.next_psd }
 
--- a quality with what is said of the next bracket
+-- a quality with what is said of the next bracket [with quality_in]
 abbrev pub with_next : NextValue → Quality → Quality
 with_next next q = record q { next_pairs = next.pairs; next_psd = next.psd }
 
 -- a quality with the items of a candidate by seats, but for what it says of the differences, of the next bracket, and of missed
--- preferences: C.6, C.7, C.10, C.11
+-- preferences: C.6, C.7, C.10, C.11 [with quality_in]
 unfoldable pub with_others : Facts → Seated → Quality → Quality
 with_others facts candidate q =
     let k = quality_with facts candidate (next_in q) in

@@ -7,22 +7,22 @@ use Rattle.dutch_player.specs.Prelude.{Facts, seat_at, may_meet}
 use Rattle.dutch_bracket.specs.Seated.{seat_of, score_at, AreSeats}
 use Rattle.dutch_order.specs.declared.numbers.TheConstants.{LIMIT}
 
--- A.3: a bracket that is reached: its number, counted from 1, its kind, how many of its players were moved down, and the seats of its
--- players by rank
+-- a bracket that is reached: its number, counted from 1, its kind, how many of its players were moved down, and the seats of its players by
+-- rank [A.3, A.9]
 pub record Reached : Type 0 where
   pub number : ℕ
   pub kind : BracketKind
   pub mdps : ℕ
   pub seats : List ℕ
 
--- A.9: at most one player may be left over in the last bracket and in a collapsed one
+-- whether at most one player may be left over, as in the last bracket and in a collapsed one [A.9]
 abbrev pub ends_round : BracketKind → Bool
 ends_round Ordinary = false
 ends_round Last = true
 ends_round Penultimate = false
 ends_round Collapsed = true
 
--- what dutch_order knows of a bracket: the scores of its players
+-- a bracket as `dutch_order` knows it: scores, moved-down players, and whether it ends the round [A.3]
 abbrev pub frame_of : Facts → Reached → Frame
 frame_of facts reached = record {
   scores = map (score_at facts) reached.seats;
@@ -30,26 +30,26 @@ frame_of facts reached = record {
   last = ends_round reached.kind;
 }
 
--- whether a number is one of the bracket's
+-- a number is one of the bracket's, from 1 to the count of its players [with seat_of]
 abbrev pub is_number : Reached → ℕ → Bool
 is_number reached a = nat_le 1 a && nat_le a (length reached.seats)
 
--- C.1 and C.3 by numbers of the bracket
+-- whether two numbers of the bracket are different and their players may meet [C.1, C.3]
 unfoldable pub numbers_meet : Facts → Reached → ℕ → ℕ → Bool
 numbers_meet facts reached a b =
     (is_number reached a && is_number reached b) && (not (a == b) && may_meet facts (seat_of reached.seats a) (seat_of reached.seats b))
 
--- C.2 by number
+-- whether the player of a number may have the bye [C.2]
 unfoldable pub number_may_be_left : Facts → Reached → ℕ → Bool
 number_may_be_left facts reached a = is_number reached a && (seat_at facts (seat_of reached.seats a)).may_bye
 
--- a bracket is one of a field: its seats are the field's, and their scores are those of a bracket
+-- a bracket is one of a field: its seats are the field's, and their scores are those of a bracket [A.3]
 pub record IsOf (facts : Facts) (reached : Reached) : Type 0 where
   pub inside : AreSeats facts reached.seats
   pub sound : IsBracket (frame_of facts reached).scores reached.mdps
 
--- a bracket of a field above some lower seats, with which it has at most LIMIT: their scores are below those of the bracket, and below
--- an ordinary one there is a seat
+-- a bracket of a field above some lower seats: their scores are below those of the bracket, together they are at most 1,024, and below an
+-- ordinary bracket there is a seat [A.3]
 pub record IsAbove (facts : Facts) (reached : Reached) (lower : List ℕ) : Type 0 where
   pub bracket : IsOf facts reached
   pub inside : AreSeats facts lower

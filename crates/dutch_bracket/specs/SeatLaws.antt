@@ -9,9 +9,11 @@ use Rattle.dutch_bracket.specs.Reached.{Reached, is_number, numbers_meet}
 use Rattle.dutch_bracket.specs.Seated.{seat_of}
 use Rattle.dutch_bracket.specs.Seats.{is_seat, seats_meet}
 
+-- equality of numbers is the same from both sides
 pub equal_sym : (a b : ℕ) → (a == b) ≡ (b == a)
 equal_sym a b = grind (arith, nat_tests)
 
+-- whether two seats may meet is the same from both sides
 pub seats_meet_sym : (facts : Facts) (a b : ℕ) → seats_meet facts a b ≡ seats_meet facts b a
 unfolding seats_meet
 seats_meet_sym facts a b =
@@ -19,6 +21,7 @@ seats_meet_sym facts a b =
     ∙ ap (λ t. is_seat facts b && is_seat facts a && not t && may_meet facts a b) (equal_sym a b)
     ∙ ap (λ t. is_seat facts b && is_seat facts a && not (b == a) && t) (meeting_sym facts a b)
 
+-- whether two numbers may meet is the same from both sides
 pub numbers_meet_sym : (facts : Facts) (reached : Reached) (a b : ℕ) → numbers_meet facts reached a b ≡ numbers_meet facts reached b a
 unfolding numbers_meet
 numbers_meet_sym facts reached a b =

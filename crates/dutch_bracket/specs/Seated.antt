@@ -8,17 +8,17 @@ use Rattle.dutch_player.specs.Prelude.{Facts, seat_at}
 use Rattle.dutch_bracket.specs.declared.seated.Floater.{Floater}
 use Rattle.dutch_order.specs.declared.numbers.TheConstants.{LIMIT}
 
--- the pairs of a candidate, its downfloaters, and the lowest score in its bracket
+-- the pairs of a candidate, its downfloaters, and the lowest score in its bracket [B.2, B.3]
 pub record Seated : Type 0 where
   pub pairs : List (ℕ × ℕ)
   pub down : List ℕ
   pub lowest : ℕ
 
--- the seat of a number in a bracket, which counts from 1
+-- the seat of a number in a bracket, where numbers count from 1 [A.2]
 abbrev pub seat_of : List ℕ → ℕ → ℕ
 seat_of seats number = slice_index seats (number - 1)
 
--- A.2: the score of a seat
+-- the score of a seat [with seat_of]
 abbrev pub score_at : Facts → ℕ → ℕ
 score_at facts seat = (seat_at facts seat).score
 
@@ -37,12 +37,12 @@ abbrev pub lowest_upto : Facts → ℕ → List ℕ → ℕ
 lowest_upto facts least [] = least
 lowest_upto facts least (seat ∷ seats) = lowest_upto facts (min least (score_at facts seat)) seats
 
--- the lowest score of some seats
+-- the lowest score of some seats [with seat_of]
 abbrev pub lowest : Facts → List ℕ → ℕ
 lowest facts [] = 0
 lowest facts (seat ∷ seats) = lowest_upto facts (score_at facts seat) seats
 
--- a candidate of a bracket with these seats
+-- a candidate of a bracket by the seats of its players: its pairs, S1 with S2 and then S1R with S2R, and its downfloaters [with Seated]
 abbrev pub by_seats : Facts → List ℕ → Candidate → Seated
 by_seats facts seats candidate = record {
   pairs = all_pairs seats candidate.lists;
@@ -50,16 +50,16 @@ by_seats facts seats candidate = record {
   lowest = lowest facts seats;
 }
 
--- A.8: the difference of a pair: that of its scores
+-- the difference of a pair: that of its scores [A.8]
 abbrev pub difference : Facts → ℕ × ℕ → ℕ
 difference facts pair =
     (score_at facts pair.0 - score_at facts pair.1) + (score_at facts pair.1 - score_at facts pair.0)
 
--- A.8: the difference of a downfloater: their score minus a score two half points below the lowest one in the bracket
+-- the difference of a downfloater: their score less the lowest score in the bracket, and 2 half points more [A.8]
 abbrev pub difference_down : Facts → ℕ → ℕ → ℕ
 difference_down facts least seat = (score_at facts seat - least) + 2
 
--- the players of a pair have different scores
+-- the players of a pair have different scores [with goes]
 abbrev pub is_uneven : Facts → ℕ × ℕ → Bool
 is_uneven facts pair = not (score_at facts pair.0 == score_at facts pair.1)
 
@@ -73,12 +73,12 @@ abbrev pub goes_up : Facts → ℕ × ℕ → Floater
 goes_up facts pair =
     record { seat = if nat_lt (score_at facts pair.0) (score_at facts pair.1) then pair.0 else pair.1; by = difference facts pair }
 
--- A.4: the player of such a pair who floats so
+-- the player of a pair with different scores who floats so: the one with the higher score goes down, and the other one goes up [A.4; own]
 abbrev pub goes : Facts → Float → ℕ × ℕ → Floater
 goes facts Up = goes_up facts
 goes facts Down = goes_down facts
 
--- who is in no pair goes down too (our own choice)
+-- whoever is in no pair goes down too [with goes]
 abbrev pub floats_down : Facts → ℕ → ℕ → Floater
 floats_down facts least seat = record { seat = seat; by = difference_down facts least seat }
 
@@ -91,11 +91,11 @@ going_down facts candidate =
 unfoldable pub going_up : Facts → Seated → List Floater
 going_up facts candidate = map (goes_up facts) (filter (is_uneven facts) candidate.pairs)
 
--- all of these are seats of the field
+-- all of these are seats of the field [own]
 abbrev pub AreSeats : Facts → List ℕ → Type 0
 AreSeats facts seats = (i : ℕ) → i < length seats → slice_index seats i < length facts.seats
 
--- both of a pair are seats
+-- both of a pair are seats of the field [with AreSeats]
 abbrev pub IsPair : Facts → ℕ × ℕ → Type 0
 IsPair facts pair = (pair.0 < length facts.seats) × (pair.1 < length facts.seats)
 
@@ -103,18 +103,18 @@ IsPair facts pair = (pair.0 < length facts.seats) × (pair.1 < length facts.seat
 abbrev pub AllPairs : Facts → List (ℕ × ℕ) → Type 0
 AllPairs facts pairs = AllByRecursion (λ pair. (pair.0 < length facts.seats) × (pair.1 < length facts.seats)) pairs
 
--- a candidate of players of a field: pairs and downfloaters are at most LIMIT
+-- a candidate of seats of a field, with at most 1,024 pairs and at most 1,024 downfloaters [with AreSeats]
 pub record HasSeats (facts : Facts) (candidate : Seated) : Type 0 where
   pub pairs : AllPairs facts candidate.pairs
   pub down : AreSeats facts candidate.down
   pub few : length candidate.pairs + length candidate.down ≤ LIMIT
 
--- numbers that a bracket with these seats has
+-- numbers that a bracket with these seats has [with IsCandidate]
 abbrev pub AllNumbers : List ℕ → List ℕ → Type 0
 AllNumbers seats numbers = AllByRecursion (λ number. (0 < number) × (number ≤ length seats)) numbers
 
--- a candidate of a bracket with these seats: its numbers are the bracket's, the lists of those who meet have one length, and pairs
--- and downfloaters are at most LIMIT
+-- a candidate of a bracket with these seats: its numbers are the bracket's, the lists of those who meet have one length, and pairs and
+-- downfloaters are at most LIMIT [B.2, B.3]
 pub record IsCandidate (seats : List ℕ) (candidate : Candidate) : Type 0 where
   pub moved_down : length candidate.lists.s1 ≡ length candidate.lists.s2
   pub residents : length candidate.lists.s1r ≡ length candidate.lists.s2r

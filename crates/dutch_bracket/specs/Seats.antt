@@ -3,15 +3,15 @@ use Rattle.std.specs.Prelude.{ℕ, Bool, not, ◌&&◌, ◌==◌, nat_lt, length
 use Rattle.dutch_player.specs.Prelude.{Facts, seat_at, may_meet}
 use Rattle.dual.specs.Prelude.{Costs}
 
--- a seat of the field
+-- a place among the present players by rank, from 0 [with AreSeats]
 abbrev pub is_seat : Facts → ℕ → Bool
 is_seat facts a = nat_lt a (length facts.seats)
 
--- C.1 and C.3: two seats that differ, whose players may meet
+-- two different seats whose players may meet [C.1, C.3]
 unfoldable pub seats_meet : Facts → ℕ → ℕ → Bool
 seats_meet facts a b = is_seat facts a && is_seat facts b && not (a == b) && may_meet facts a b
 
--- C.2: a seat whose player may have the bye
+-- a seat whose player may have the bye [C.2]
 unfoldable pub seats_may_be_left : Facts → ℕ → Bool
 seats_may_be_left facts a = is_seat facts a && (seat_at facts a).may_bye
 

@@ -12,6 +12,6 @@ candidates_in shaped = candidates_here shaped.context.now shaped.shape
 abbrev pub eligible_in : ShapedBracket → List Arrangement
 eligible_in shaped = eligible_here shaped.context.now shaped.shape
 
--- something is said of each of its candidates that have a beginning
+-- something is said of each of its candidates that have a beginning [own]
 abbrev pub OfEachWithBeginning : ShapedBracket → Beginning → (Arrangement → Type 0) → Type 0
 OfEachWithBeginning shaped beginning says = (a : Arrangement) → IsIn a (candidates_in shaped) → Begins beginning a → says a

@@ -8,7 +8,7 @@ abbrev pub down_from : ℕ → List ℕ
 down_from zero = 0 ∷ []
 down_from (suc n) = suc n ∷ down_from n
 
--- a bracket has room for a shape
+-- whether a bracket has room for a shape, as `Fits` says [B.1]
 abbrev pub fits : Frame → Shape → Bool
 fits frame shape =
     not (nat_lt shape.pairs shape.mdps)
@@ -22,11 +22,11 @@ shapes_upto pairs most = map (λ mdps. record { pairs = pairs; mdps = mdps }) (d
 abbrev pub shapes_with : ℕ → List Shape
 shapes_with pairs = shapes_upto pairs pairs
 
--- the shapes that a bracket has room for, those with more pairs first
+-- the shapes that a bracket has room for, those with more pairs first, and among these those with more moved-down players [B.1, C.5]
 abbrev pub shapes : Frame → List Shape
 shapes frame = filter (fits frame) (flat_map shapes_with (down_from (length frame.scores / 2)))
 
--- some arrangement is there
+-- some arrangement is there [with greatest_shape]
 abbrev pub has_member : List Arrangement → Bool
 has_member [] = false
 has_member (a ∷ rest) = true
@@ -42,7 +42,7 @@ abbrev pub first_with : (Shape → List Arrangement) → List Shape → Option S
 first_with eligible [] = None
 first_with eligible (shape ∷ rest) = if has_member (eligible shape) then Some shape else first_with eligible rest
 
--- C.5, B.1: the greatest number of pairs for which some arrangement is there, and for it the greatest number of moved-down players
+-- the greatest number of pairs for which some arrangement is there, and for it the greatest number of moved-down players [C.5, B.1]
 abbrev pub greatest_shape : (Shape → List Arrangement) → Frame → Option Shape
 greatest_shape eligible frame = first_with eligible (shapes frame)
 
@@ -52,6 +52,6 @@ IsFound eligible frame found drawn =
     MatchOption found (greatest_shape eligible frame ≡ None)
     (λ shape. (greatest_shape eligible frame ≡ Some shape) × IsFirst (eligible shape) frame drawn)
 
--- C.5, B.1: a shape is greater than another one: it has more pairs, or as many and more moved-down players in them
+-- a shape has more pairs than another one, or as many and more moved-down players in them [C.5, B.1]
 abbrev pub IsGreater : Shape → Shape → Type 0
 IsGreater t s = (s.pairs < t.pairs) ⊎ ((s.pairs ≡ t.pairs) × (s.mdps < t.mdps))

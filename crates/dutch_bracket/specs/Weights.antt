@@ -33,8 +33,8 @@ pub record FloatBases : Type 0 where
   pub down_again_before : ℕ
   pub up_again_before : ℕ
 
--- which differences have a digit of their own in C.6, and which in C.16 to C.19; what C.7 is measured by, if it is; and the bases of the digits,
--- for C.6 and C.8 to C.15 one alone
+-- which differences have a digit of their own in C.6, and which in C.16 to C.19; what C.7 is measured by, if it is; the bases of the
+-- digits, for C.6 and C.8 to C.15 one alone; and what the last digit is worth [own]
 pub record Scale : Type 0 where
   pub psd : List ℕ
   pub next : Option NextScale
@@ -71,7 +71,8 @@ float_digits scale q =
     ++ (in_base scale.float_bases.down_again_before (counts scale.floats q.down_again_before_by)
     ++ in_base scale.float_bases.up_again_before (counts scale.floats q.up_again_before_by)))
 
--- the digits of a quality, each with its base, the first one counts most: C.6, C.7, C.8 to C.15, and C.16 to C.19; those of C.7 are given
+-- the digits of a quality, each with its base, the first one counts most: C.6, C.7 if it is measured, C.8 to C.15, and C.16 to C.19; those
+-- of C.7 are given [with weight_of]
 abbrev pub digits_with : Scale → ℕ → List ℕ → Quality → List (ℕ × ℕ)
 digits_with scale alone psd q =
     in_base scale.base (counts scale.psd q.psd)
@@ -86,7 +87,7 @@ written front (digit ∷ digits) = written (digit.0 * front + digit.1) digits
 unfoldable pub weight_with : Scale → ℕ → List ℕ → Quality → ℕ
 weight_with scale alone psd quality = scale.unit * written 0 (digits_with scale alone psd quality)
 
--- C.7: how many players of the next bracket are in none of so many pairs
+-- how many players of the next bracket are in none of so many pairs; 0 if C.7 is not measured [with Scale]
 abbrev pub alone_by : Option NextScale → ℕ → ℕ
 alone_by None pairs = 0
 alone_by (Some next) pairs = next.players - 2 * pairs
@@ -95,7 +96,7 @@ alone_by (Some next) pairs = next.players - 2 * pairs
 abbrev pub digits : Scale → Quality → List (ℕ × ℕ)
 digits scale q = digits_with scale (alone_by scale.next q.next_pairs) q.next_psd q
 
--- the weight of a quality
+-- the weight of a quality: as many units, which are what the last digit is worth, as the number with its digits says [own]
 abbrev pub weight_of : Scale → Quality → ℕ
 weight_of scale q = weight_with scale (alone_by scale.next q.next_pairs) q.next_psd q
 
@@ -119,7 +120,7 @@ nobody = record {
   up_again_before_by = [];
 }
 
--- C.7: what so many players of the next bracket who are in no pair, and its differences, weigh
+-- what so many players of the next bracket who are in no pair, and its differences, weigh [with weight_of]
 abbrev pub weight_below : Scale → ℕ → List ℕ → ℕ
 weight_below scale alone psd = weight_with scale alone psd nobody
 
@@ -139,7 +140,7 @@ weight_of_pair facts reached scale a b =
 abbrev pub weight_of_one_down : Facts → Reached → Scale → ℕ → ℕ
 weight_of_one_down facts reached scale a = weight_with scale 0 [] (quality_with facts (seated_so facts reached [] (seat_of reached.seats a ∷ [])) no_value)
 
--- C.1 to C.3: who may meet and who may be left over, by number, and what each pair and each downfloater weighs
+-- who may meet and who may be left over, by number, and what each pair and each downfloater weighs [C.1 to C.3; own]
 abbrev pub weighing : Facts → Reached → Scale → Costs
 weighing facts reached scale = record {
   meets = numbers_meet facts reached;
@@ -159,7 +160,7 @@ pub record Weighing : Type 0 where
 abbrev pub numbers : Reached → List ℕ
 numbers reached = numbers_from 1 (length reached.seats)
 
--- the pairs of an arrangement by number: S1 with S2, then S1R with S2R
+-- the pairs of an arrangement by number: S1 with S2, then S1R with S2R [with weighing]
 abbrev pub number_pairs : Arrangement → List (ℕ × ℕ)
 number_pairs a = zip a.s1 a.s2 ++ zip a.s1r a.s2r
 
@@ -167,7 +168,7 @@ number_pairs a = zip a.s1 a.s2 ++ zip a.s1r a.s2r
 abbrev pub IsAmong : List ℕ → List ℕ → Type 0
 IsAmong differences list = (highest_first list ≡ list) × AllByRecursion (λ by. IsIn by differences) list
 
--- a scale names differences from the highest on, and its last digit is worth something
+-- a scale names differences from the highest on, and its last digit is worth something [own]
 pub record IsScale (scale : Scale) : Type 0 where
   pub psd : highest_first scale.psd ≡ scale.psd
   pub next : ForSome scale.next (λ next. highest_first next.psd ≡ next.psd)
@@ -183,7 +184,7 @@ pub record IsOnNext (next : NextScale) (quality : Quality) : Type 0 where
   pub psd : IsAmong next.psd quality.next_psd
   pub within : 2 * quality.next_pairs ≤ next.players
 
--- a scale has a digit for each difference of a quality
+-- a scale has a digit for each difference of a quality [with IsScale]
 pub record IsOn (scale : Scale) (quality : Quality) : Type 0 where
   pub psd : IsAmong scale.psd quality.psd
   pub next : ForSome scale.next (λ next. IsOnNext next quality)
@@ -192,7 +193,8 @@ pub record IsOn (scale : Scale) (quality : Quality) : Type 0 where
   pub down_again_before_by : IsAmong scale.floats quality.down_again_before_by
   pub up_again_before_by : IsAmong scale.floats quality.up_again_before_by
 
--- each digit of a quality is less than its base, and it has no more pairs of the next bracket than that has players for (C.7)
+-- each digit of a quality is less than its base, and, if C.7 is measured, its next bracket has no more pairs than players for them [with
+-- IsScale]
 pub record HasDigits (scale : Scale) (quality : Quality) : Type 0 where
   pub small : AllByRecursion (λ digit. digit.1 < digit.0) (digits scale quality)
   pub within : IsWithin scale.next quality
@@ -215,7 +217,7 @@ pub record IsNextScale (facts : Facts) (reached : Reached) (lower : List ℕ) (s
   pub players : next.players ≡ (length reached.seats - 2 * shape.pairs) + length (first_group facts (scoregroups facts lower))
   pub high : next.players < next.base
 
--- a scale is one for the candidates of a shape: the base of each digit is above what they can have there
+-- a scale is one for the candidates of a shape: the base of each digit is above what they can have there [with IsScale]
 pub record IsScaleFor (facts : Facts) (reached : Reached) (lower : List ℕ) (shape : Shape) (scale : Scale) : Type 0 where
   pub high : length reached.seats < scale.base
   pub floats : HasFloatBases facts reached.seats scale.float_bases

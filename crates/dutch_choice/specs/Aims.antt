@@ -48,6 +48,7 @@ module _ (context : Context) (wish : Option Wish) where
   unfoldable pub best_near : Option Quality → Shape → Option Arrangement
   best_near aim shape = best_yet aim None (candidates_here context shape)
 
-  -- B.8: of the candidates of a shape that can be chosen and grant the wish the first that none of them is better than
+  -- of the candidates of a shape that can be chosen and grant the wish, if something is wished, the first that none of them is better than
+  -- [B.8; own]
   unfoldable pub best_wished : Shape → Option Arrangement
   best_wished shape = best (is_better_here context) (filter (is_wished wish) (eligible_here context shape))

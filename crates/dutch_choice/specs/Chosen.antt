@@ -5,7 +5,7 @@ use Rattle.dutch_choice.specs.declared.choice.Choice.{Choice}
 use Rattle.dutch_choice.specs.declared.choice.Choice.TheVariants.{Chosen as IsChosen, Undecided as ChoiceUndecided}
 use Rattle.dutch_bracket.specs.Prelude.{Context, FitsHere, frame_here, quality_here, quality_in, choice}
 
--- the choice in a bracket above lower seats, with its quality; what a call that was stopped owes is given with it
+-- what choosing in a bracket answers: the choice with its downfloaters and its quality, or that the limit was reached [B.8; own]
 abbrev pub IsChoice : Context → Type 0 → Choice → Type 0
 IsChoice context stopped (IsChosen shape candidate quality) =
     (choice context.facts context.reached context.lower ≡ Some (record { shape = shape; lists = candidate.lists }))

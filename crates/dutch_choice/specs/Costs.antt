@@ -4,7 +4,7 @@ use Rattle.dutch_bracket.specs.Prelude.{Context, Scope, Scale}
 use Rattle.dutch_weights.specs.Prelude.{Order, costs_in}
 use Rattle.dutch_weights.specs.declared.scoped.Reach.{Reach}
 
--- what matchings cost in a bracket above lower seats, on a scale: those of a scope, over so many players, with an order of S1R
+-- `costs_in` for a bracket above its lower seats, on a scale [own]
 abbrev pub costs_here : Context → Scale → Scope → Reach → Order → Costs
 costs_here context scale scope reach order = costs_in (record {
   weighing = record { facts = context.facts; reached = context.reached; lower = context.lower; scale = scale };

@@ -20,7 +20,7 @@ IsKept context None = Unit {0}
 IsKept context (Some best) =
     (best.candidate.down ≡ down (frame_here context) best.candidate.lists) × (quality_in best.quality ≡ quality_here context best.candidate.lists)
 
--- the best of a bracket's candidates in some sense is told, with its downfloaters and its quality
+-- the best of a bracket's candidates in some sense is told, with its downfloaters and its quality [with best_wished]
 abbrev pub IsBest : Context → Option Arrangement → Best → Type 0
 IsBest context best told = (best ≡ Some told.candidate.lists) × IsKept context (Some told)
 

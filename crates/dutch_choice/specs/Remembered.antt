@@ -19,11 +19,11 @@ pub record Remembered : Type 0 where
   pub kept : List (List ℕ)
   pub is_short : Bool
 
--- C.7: what the next bracket can be for downfloaters of a bracket
+-- what the next bracket can be for downfloaters of a bracket [C.7]
 abbrev pub value_below : Facts → Reached → List ℕ → List ℕ → NextValue
 value_below facts reached next down = value_in reached.kind facts (map (seat_of reached.seats) down) next
 
--- whether a list is one of those that are kept
+-- whether a list is one of those that are kept [with IsLook]
 abbrev pub is_kept : List ℕ → List (List ℕ) → Bool
 is_kept down [] = false
 is_kept down (other ∷ kept) = is_same down other || is_kept down kept
@@ -46,7 +46,7 @@ after_use down old =
 abbrev pub after_refusal : Remembered → Remembered
 after_refusal old = record { facts = old.facts; reached = old.reached; next = old.next; kept = old.kept; is_short = true }
 
--- a look-ahead answers the value; or it was stopped, and then owes what is given with it
+-- what a look-ahead answers: the value of a list of downfloaters, or that it was stopped [own]
 abbrev pub IsLook : NextValue → Type 0 → Look → Type 0
 IsLook value stopped (Value pairs psd) = value ≡ record { pairs = pairs; psd = psd.items }
 IsLook value stopped Undecided = stopped
@@ -62,7 +62,7 @@ pub record Recalls (yes : Bool) (value : NextValue) (down : List ℕ) (old new :
   pub none : yes ≡ false → is_kept down old.kept ≡ false
   pub unused : yes ≡ false → new ≡ old
 
--- what is kept after an answer: with a value its list, which was used; where the limit was reached, all is as it was
+-- what is kept after an answer: with a value its list, which was used; where the limit was reached, all is as it was [with IsLook]
 abbrev pub IsKeptAfter : List ℕ → Remembered → Remembered → Look → Type 0
 IsKeptAfter down old new (Value pairs psd) = IsUsed down old new
 IsKeptAfter down old new Undecided = new ≡ old

@@ -9,9 +9,11 @@ use Rattle.dutch_choice.specs.Kept.{wins}
 use Rattle.dutch_weights.specs.Prelude.{BeginsWith, KnowsNext, WeighsNoLess}
 
 module _ (skipper : Skipper) where
+  -- the pass of a skipper
   abbrev pub pass_of : Pass
   pass_of = skipper.search.pass.now
 
+  -- the bracket of a skipper above its lower seats
   abbrev pub context_of : Context
   context_of = pass_of.shaped.context.now
 

@@ -13,7 +13,8 @@ use Rattle.dutch_bracket.specs.Prelude.{Context, eligible_here, quality_here, Re
 abbrev pub are_these : ℕ → ℕ → ℕ × ℕ → Bool
 are_these p q pair = ((pair.0 == p) && (pair.1 == q)) || ((pair.0 == q) && (pair.1 == p))
 
--- B.3: an arrangement grants a wish: the two are one of its pairs; the one is in none
+-- an arrangement grants that two meet if they are one of its pairs, in either order; it grants that a player is left over if the player is
+-- in none [B.3]
 abbrev pub grants : Wish → Arrangement → Bool
 grants (Pair p q) lists = list_any (are_these p q) (pairs_by_number lists)
 grants (LeftOver p) lists = not (is_member p (paired lists))
@@ -27,11 +28,11 @@ is_wished (Some wish) = grants wish
 abbrev pub granting : Context → Shape → Wish → List Arrangement
 granting context shape wish = filter (grants wish) (eligible_here context shape)
 
--- B.8: a candidate is better than another one
+-- a candidate is better than another one [with best_granting]
 abbrev pub is_better_here : Context → Arrangement → Arrangement → Bool
 is_better_here context = is_better_in context.facts context.reached context.lower
 
--- B.8: of these the first that none of them is better than
+-- of the candidates of a shape that can be chosen and grant a wish, the first that none of them is better than [B.8, C.4]
 unfoldable pub best_granting : Context → Shape → Wish → Option Arrangement
 best_granting context shape wish = best (is_better_here context) (granting context shape wish)
 
@@ -57,21 +58,21 @@ abbrev pub NoneGrants : Facts → Reached → Wish → Shape → ℕ → ℕ →
 NoneGrants facts reached wish shape from to =
     (mdps : ℕ) → from ≤ mdps → mdps < to → some_grants facts reached wish (with_mdps shape mdps) ≡ false
 
--- C.4: legal candidates of a shape grant a wish; or, where none with as many pairs and as many or fewer moved-down players in them does,
--- some with more. None of these can be chosen
+-- legal candidates of a shape grant a wish; or, where none with as many pairs and as many or fewer moved-down players does, some with more;
+-- and none of these can be chosen [C.4; own]
 abbrev pub IsBarred : Facts → Reached → Wish → Shape → Type 0
 IsBarred facts reached wish shape =
     (list_any (grants wish) (candidates_of facts reached shape) ≡ true)
     ⊎ (NoneGrants facts reached wish shape 0 (shape.mdps + 1) × SomeGrants facts reached wish shape (shape.mdps + 1) (shape.pairs + 1))
 
--- of some candidates one stands before another one
+-- of some candidates one stands before another one [with IsAsGoodBefore]
 pub record ComesBefore (c d : Arrangement) (all : List Arrangement) : Type 0 where
   pub front : List Arrangement
   pub behind : List Arrangement
   pub parts : all ≡ front ++ c ∷ behind
   pub later : IsIn d behind
 
--- B.8: a candidate is as good as another one, and is the same or stands before it
+-- a candidate is as good as another one, and is the same or stands before it [B.8]
 abbrev pub IsAsGoodBefore : Context → Shape → Arrangement → Arrangement → Type 0
 IsAsGoodBefore context shape c d =
     (quality_here context c ≡ quality_here context d) × ((c ≡ d) ⊎ ComesBefore c d (eligible_here context shape))

@@ -9,7 +9,7 @@ use Rattle.dutch_floors.specs.declared.outlook.Outlook.{Outlook}
 use Rattle.dutch_floors.specs.declared.premise.Premise.{Premise}
 use Rattle.dutch_floors.specs.Premises.{Holds}
 
--- what floors stand on: a bracket of a field above lower seats, the shape of its arrangements, and what is known of the next bracket
+-- what floors stand on: a bracket of a field above lower seats, the shape of its arrangements, and what is known of the next bracket [own]
 pub record Basis : Type 0 where
   pub facts : Facts
   pub reached : Reached
@@ -36,7 +36,7 @@ pub record IsBasis (facts : Facts) (reached : Reached) (lower : List ℕ) (shape
   pub shape_is : basis.shape ≡ shape
   pub of : IsOf facts reached
 
--- the same of a bracket above its lower seats with a shape
+-- floors are those of a bracket above its lower seats, with a shape [with Basis]
 abbrev pub IsBasisFor : ShapedBracket → Basis → Type 0
 IsBasisFor shaped = IsBasis shaped.context.now.facts shaped.context.now.reached shaped.context.now.lower shaped.shape
 
@@ -45,15 +45,15 @@ module _ (basis : Basis) (b : Beginning) where
   abbrev pub OfEachBehind : (Arrangement → Type 0) → Type 0
   OfEachBehind says = (a : Arrangement) → IsIn a (candidates_of basis.facts basis.reached basis.shape) → Begins b a → says a
 
-  -- C.6 to C.19: no candidate with a beginning is better than a quality
+  -- no candidate with a beginning is better than a quality [C.6 to C.19; own]
   abbrev pub NoneBeats : Quality → Type 0
   NoneBeats floor = OfEachBehind (λ a. is_better (quality_of basis.facts basis.reached basis.lower a) floor ≡ false)
 
-  -- none is for which a premise holds
+  -- none for which a premise holds is better than a quality [with NoneBeats]
   abbrev pub NoneGivenBeats : Premise → Quality → Type 0
   NoneGivenBeats premise floor =
       OfEachBehind (λ a. Holds basis.facts basis.reached premise a → is_better (quality_of basis.facts basis.reached basis.lower a) floor ≡ false)
 
-  -- C.7: none has a better value of the next bracket
+  -- no candidate with a beginning has a better value of the next bracket than a given one [C.7; own]
   abbrev pub NoneHasBetterNext : NextValue → Type 0
   NoneHasBetterNext other = OfEachBehind (λ a. HasNoBetter (quality_of basis.facts basis.reached basis.lower a) other)

@@ -81,7 +81,7 @@ floor_by basis s1 more known =
 unfoldable pub floor_by_seats : Basis → List ℕ → Seated → Quality
 floor_by_seats basis s1 known = floor_by basis s1 (more_in false basis.facts basis.reached basis.shape known) known
 
--- S1 of a beginning; the first one, if none is chosen
+-- S1 of a beginning; the first one, if none is chosen [with IsOutlook]
 abbrev pub s1_of : Basis → Beginning → List ℕ
 s1_of basis b = s1_by b.filling basis.shape (fixed_lists b).s1
 

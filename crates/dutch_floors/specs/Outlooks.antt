@@ -21,11 +21,11 @@ abbrev pub first_or_any : Option NextValue → Bool → NextValue → NextValue
 first_or_any None same any = any
 first_or_any (Some first) same any = if same then first else any
 
--- the best that the next bracket can be behind arrangements with an S1
+-- the best that the next bracket can be behind arrangements with an S1 [with IsOutlook]
 abbrev pub awaited : Facts → Reached → Shape → Outlook → List ℕ → NextValue
 awaited facts reached shape outlook s1 = first_or_any outlook.first (leaves_first facts reached shape s1) outlook.any
 
--- no arrangement has a better value of the next bracket than an outlook says: any at all, and those that leave the first Limbo
+-- no arrangement has a better value of the next bracket than an outlook says: any at all, and those that leave the first Limbo [C.7; own]
 pub record IsOutlook (facts : Facts) (reached : Reached) (lower : List ℕ) (shape : Shape) (outlook : Outlook) : Type 0 where
   pub any : (a : Arrangement) → IsIn a (arrangements (frame_of facts reached) shape) → HasNoBetter (quality_of facts reached lower a) outlook.any
   pub first : (value : NextValue) → outlook.first ≡ Some value

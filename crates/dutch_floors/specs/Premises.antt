@@ -8,7 +8,7 @@ use Rattle.dutch_floors.specs.declared.premise.Premise.{Premise}
 use Rattle.dutch_floors.specs.declared.premise.Premise.TheVariants.{Down, Meet}
 use Rattle.dutch_bracket.specs.Prelude.{seated_so, Reached, downfloaters, Seated, all_pairs}
 
--- the same of a pair in the other order
+-- a premise with its pair in the other order [with Holds]
 abbrev pub turned : Premise → Premise
 turned (Meet p q) = Meet q p
 turned (Down p) = Down p
@@ -22,12 +22,12 @@ abbrev pub seated_given : Facts → Reached → Premise → List (ℕ × ℕ) �
 seated_given facts reached (Meet p q) pairs = seated_so facts reached (with_pair (p, q) pairs) []
 seated_given facts reached (Down p) pairs = seated_so facts reached pairs (p ∷ [])
 
--- it names seats of the field
+-- a premise names seats of the field [with Holds]
 abbrev pub IsPremise : Facts → Premise → Type 0
 IsPremise facts (Meet p q) = (p < length facts.seats) × (q < length facts.seats)
 IsPremise facts (Down p) = p < length facts.seats
 
--- it holds in an arrangement of a bracket
+-- what a wish gives holds in an arrangement: two are one of its pairs, or one goes down [own]
 abbrev pub Holds : Facts → Reached → Premise → Arrangement → Type 0
 Holds facts reached (Meet p q) a = IsIn (p, q) (all_pairs reached.seats a)
 Holds facts reached (Down p) a = IsIn p (downfloaters facts reached a)

@@ -2,7 +2,7 @@
 use Rattle.std.specs.Prelude.{ℕ, List}
 use Rattle.dutch_order.specs.Arrangements.{Arrangement}
 
--- the four lists of a candidate, and its downfloaters by rank
+-- the four lists of a candidate, and its downfloaters by rank [B.2, B.3]
 pub record Candidate : Type 0 where
   pub lists : Arrangement
   pub down : List ℕ

@@ -2,12 +2,12 @@
 use Rattle.std.specs.Prelude.{ℕ, zero, suc, Bool, true, false, not, eqb, ◌&&◌, List, [], ◌∷◌, ◌++◌, map, filter, flat_map, if◌then◌else◌}
 use Rattle.std.specs.List.{list_any}
 
--- so many numbers from a first one on
+-- so many numbers from a first one on [with subsets]
 abbrev pub numbers_from : ℕ → ℕ → List ℕ
 numbers_from first zero = []
 numbers_from first (suc count) = first ∷ numbers_from (suc first) count
 
--- all lists of k members of a list, each list in the order in which its members stand there
+-- all lists of k members of a list, each list in the order in which its members stand there [D.2, D.3]
 abbrev pub subsets : List ℕ → ℕ → List (List ℕ)
 subsets numbers zero = [] ∷ []
 subsets [] (suc k) = []
@@ -21,12 +21,12 @@ is_member x numbers = list_any (λ y. eqb y x) numbers
 abbrev pub without : ℕ → List ℕ → List ℕ
 without x numbers = filter (λ y. not (eqb y x)) numbers
 
--- all lists of k distinct members of a list of distinct numbers: any first member, and then a list of the others
+-- all lists of k distinct members of a list of distinct numbers, in every order [D.1]
 abbrev pub tuples : List ℕ → ℕ → List (List ℕ)
 tuples numbers zero = [] ∷ []
 tuples numbers (suc k) = flat_map (λ x. map (λ tuple. x ∷ tuple) (tuples (without x numbers) k)) numbers
 
--- B.3: whether the players of two lists may meet, place by place
+-- whether the players of two lists may meet, place by place [C.1, C.3]
 abbrev pub all_meet : (ℕ → ℕ → Bool) → List ℕ → List ℕ → Bool
 all_meet meets [] seconds = true
 all_meet meets (first ∷ firsts) [] = true
@@ -39,7 +39,7 @@ is_same [] (y ∷ ys) = false
 is_same (x ∷ xs) [] = false
 is_same (x ∷ xs) (y ∷ ys) = eqb x y && is_same xs ys
 
--- the choices from a given one on
+-- the choices from a given one on [with subsets]
 abbrev pub from_on : List ℕ → List (List ℕ) → List (List ℕ)
 from_on choice [] = []
 from_on choice (other ∷ others) = if is_same other choice then other ∷ others else from_on choice others

@@ -11,12 +11,12 @@ use Rattle.dutch_order.specs.declared.cursor.CursorFault.{CursorFault}
 use Rattle.dutch_order.specs.declared.cursor.CursorFault.TheVariants.{Syntax, NotOfBracket}
 use Rattle.dutch_order.specs.declared.numbers.TheConstants.{LIMIT}
 
--- a list: its numbers with commas between them, or 0 alone if it has none
+-- a list: its numbers with commas between them, or 0 alone if it has none [with cursor_text]
 abbrev pub list_text : List ℕ → List ℕ
 list_text [] = codes "0"
 list_text (x ∷ xs) = decimal x ++ flat_map (λ y. codes "," ++ decimal y) xs
 
--- an arrangement: its four lists with slashes between them
+-- an arrangement as a text: its four lists with slashes between them [own]
 abbrev pub cursor_text : Arrangement → List ℕ
 cursor_text a = list_text a.s1 ++ (codes "/" ++ (list_text a.s2 ++ (codes "/" ++ (list_text a.s1r ++ (codes "/" ++ list_text a.s2r)))))
 
@@ -76,7 +76,7 @@ arrangement_of _ = None
 abbrev pub parsed : List ℕ → Option Arrangement
 parsed bytes = arrangement_of (parts (byte "/") bytes)
 
--- whether a text has the form of a cursor
+-- whether a text is four such lists, of whatever bracket [with cursor_text]
 abbrev pub has_syntax : List ℕ → Bool
 has_syntax bytes = is_some (parsed bytes)
 
@@ -102,7 +102,7 @@ is_set_of pool k set = (length set == k) && (are_of pool set && ascends_above 0 
 abbrev pub is_tuple_of : List ℕ → ℕ → List ℕ → Bool
 is_tuple_of pool k tuple = (length tuple == k) && (are_of pool tuple && are_different tuple)
 
--- the moved-down players of a bracket
+-- the numbers of the moved-down players [with players_of]
 abbrev pub moved_down_of : Frame → List ℕ
 moved_down_of frame = numbers_from 1 frame.mdps
 
@@ -115,7 +115,7 @@ is_among moved_down residents shape a =
     && (is_set_of (left_of residents a.s2) (remainder_pairs shape) a.s1r
     && is_tuple_of (left_of (left_of residents a.s2) a.s1r) (remainder_pairs shape) a.s2r))
 
--- whether an arrangement is one of the bracket and shape
+-- whether an arrangement is one of the bracket and shape [with cursor_of]
 abbrev pub is_of : Frame → Shape → Arrangement → Bool
 is_of frame shape a = is_among (moved_down_of frame) (residents_of frame) shape a
 
@@ -124,6 +124,6 @@ abbrev pub of_bracket : Frame → Shape → Option Arrangement → Result Arrang
 of_bracket frame shape None = Err Syntax
 of_bracket frame shape (Some a) = if is_of frame shape a then Ok a else Err NotOfBracket
 
--- the arrangement of the bracket and shape that a text is, or why it is none
+-- the arrangement of the bracket and shape that a text is, or why it is none [own]
 abbrev pub cursor_of : Frame → Shape → List ℕ → Result Arrangement CursorFault
 cursor_of frame shape bytes = of_bracket frame shape (parsed bytes)

@@ -11,7 +11,7 @@ by_place [] seconds = []
 by_place (a ∷ firsts) [] = []
 by_place (a ∷ firsts) (b ∷ seconds) = (a, b) ∷ by_place firsts seconds
 
--- B.3: the pairs of an arrangement, by number: S1 with S2, then S1R with S2R
+-- the pairs of an arrangement, by number: S1 with S2, then S1R with S2R [B.3]
 abbrev pub pairs_by_number : Arrangement → List (ℕ × ℕ)
 pairs_by_number a = by_place a.s1 a.s2 ++ by_place a.s1r a.s2r
 
@@ -20,7 +20,7 @@ abbrev pub players_in : List (ℕ × ℕ) → List ℕ
 players_in [] = []
 players_in (pair ∷ pairs) = pair.0 ∷ pair.1 ∷ players_in pairs
 
--- no number comes twice
+-- no number comes twice [with IsInForm]
 abbrev pub NoneTwice : List ℕ → Type 0
 NoneTwice [] = Unit {0}
 NoneTwice (x ∷ xs) = (IsIn x xs → ⊥) × NoneTwice xs
@@ -38,8 +38,8 @@ IsMovedDown frame number = (0 < number) × (number ≤ frame.mdps)
 abbrev pub IsResident : Frame → ℕ → Type 0
 IsResident frame number = (frame.mdps < number) × (number ≤ length frame.scores)
 
--- pairs in the form of a shape: first as many as it has moved-down players, each of a moved-down player and then a resident; the
--- others of two residents; in both parts the first members ascend, and no player comes twice
+-- pairs in the form of a shape: first as many as it has moved-down players, each of a moved-down player and then a resident; the others of
+-- two residents; in both parts the first members ascend, and no player comes twice [B.2, B.3]
 pub record IsInForm (frame : Frame) (shape : Shape) (pairs : List (ℕ × ℕ)) : Type 0 where
   pub moved_down : List (ℕ × ℕ)
   pub others : List (ℕ × ℕ)
@@ -52,7 +52,7 @@ pub record IsInForm (frame : Frame) (shape : Shape) (pairs : List (ℕ × ℕ)) 
   pub others_ascend : FirstsAscend others
   pub none_twice : NoneTwice (players_in pairs)
 
--- some pairs are those of an arrangement of a shape
+-- some pairs are those of an arrangement of a shape [with IsInForm]
 pub record HasArrangement (frame : Frame) (shape : Shape) (pairs : List (ℕ × ℕ)) : Type 0 where
   pub lists : Arrangement
   pub inside : IsIn lists (arrangements frame shape)
@@ -70,7 +70,8 @@ pub record HasOneMore (shape more : Shape) : Type 0 where
   pub pairs : more.pairs ≡ shape.pairs + 1
   pub mdps : (more.mdps ≡ shape.mdps) ⊎ (more.mdps ≡ shape.mdps + 1)
 
--- an arrangement's pairs with one more among them are in the form of a shape with one pair more
+-- an arrangement's pairs with one more among them are in the form of a shape with one pair more, and in it as many moved-down players or
+-- one more [C.5]
 pub record TakesPair (frame : Frame) (shape : Shape) (a : Arrangement) (pair : ℕ × ℕ) : Type 0 where
   pub larger : Shape
   pub one_more : HasOneMore shape larger

@@ -13,15 +13,15 @@ score_of scores number = slice_index scores (number - 1)
 abbrev pub scores_of : List ℕ → List ℕ → List ℕ
 scores_of scores set = map (score_of scores) set
 
--- D.3: the set that has the higher score at the first difference goes first; with the same scores the one that has the lower number at
--- the first difference
+-- of two sets of moved-down players the one that has the higher score at the first difference goes first; with the same scores the one that
+-- has the lower number at the first difference [D.3]
 unfoldable pub limbo_cmp : List ℕ → List ℕ → List ℕ → Ordering
 limbo_cmp scores = then_cmp (on (scores_of scores) higher_first) lower_first
 
--- all sets of k of the players with these scores, in this order
+-- all sets of k of the players with these scores, in this order [with limbo_cmp]
 abbrev pub limbo_exchanges : List ℕ → ℕ → List (List ℕ)
 limbo_exchanges scores k = sorted (limbo_cmp scores) (subsets (numbers_from 1 (length scores)) k)
 
--- scores that do not ascend
+-- scores that do not ascend [with limbo_cmp]
 abbrev pub IsNonAscending : List ℕ → Type 0
 IsNonAscending scores = (i : ℕ) → i + 1 < length scores → slice_index scores (i + 1) ≤ slice_index scores i

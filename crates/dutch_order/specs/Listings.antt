@@ -43,38 +43,40 @@ candidates_from meets may_be_left frame shape (Some own) = rest meets may_be_lef
 unfoldable pub AreCandidates : (ℕ → ℕ → Bool) → (ℕ → Bool) → Frame → Shape → List Arrangement → Type 0
 AreCandidates meets may_be_left frame shape list = AllByRecursion (λ a. IsIn a (candidates meets may_be_left frame shape)) list
 
--- whether every arrangement leaves over more than its bracket may leave: two or more, where at most one may be left
+-- whether every arrangement leaves over more than its bracket may leave: two or more, where at most one may be left [C.2; own]
 abbrev pub leaves_too_many : Frame → Shape → Bool
 leaves_too_many frame shape = frame.last && nat_lt 1 (length frame.scores - 2 * shape.pairs)
 
--- a call answers the end, and makes no step
+-- a call answers the end, and makes no step [with leaves_too_many]
 abbrev pub EndsAtOnce : {T : Type 0} → Step T → Budget → Budget → Type 0
 EndsAtOnce step old new = MatchStep step (λ _. ⊥) (new.used ≡ old.used) ⊥
 
 module _ {R : Type 0} (old new : Listing R) where
-  -- a listing has told its end where a call answers it, and otherwise is as it was
+  -- a listing has told its end where a call answers it, and otherwise is as it was [with leaves_too_many]
   abbrev pub TellsEnd : {T : Type 0} → Step T → Type 0
   TellsEnd step = MatchStep step (λ _. new.ended ≡ old.ended) (new.ended ≡ true) (new.ended ≡ old.ended)
 
-  -- the first of those to come, with whom it leaves over; it is the one handed out last
+  -- what is given is the first of those to come, with whom it leaves over; it is the one handed out last [B.6, B.7; own]
   abbrev pub Gives : Candidate → Type 0
   Gives c = (old.coming ≡ c.lists ∷ new.coming) × (c.down ≡ down old.frame c.lists) × (new.latest ≡ Some c.lists)
 
-  -- none was to come
+  -- none was to come [with Gives]
   abbrev pub Ends : Type 0
   Ends = (old.coming ≡ []) × (new.coming ≡ []) × (new.latest ≡ old.latest)
 
-  -- the limit was reached; what is to come stays as it was
+  -- the limit was reached; what is to come stays as it was [with Gives]
   abbrev pub Stops : Budget → Type 0
   Stops budget = (new.coming ≡ old.coming) × (new.latest ≡ old.latest) × (budget.used ≡ budget.limit)
 
-  -- the same three answers where idle ones may be skipped: before the one that is given, up to the end, or up to where it stopped
+  -- what is given is of those to come, behind some that are idle, which are skipped [own]
   abbrev pub GivesPast : (Arrangement → Type 0) → Candidate → Type 0
   GivesPast Idle c =
       Passes Idle old.coming (c.lists ∷ new.coming) × (c.down ≡ down old.frame c.lists) × (new.latest ≡ Some c.lists)
 
+  -- all that was to come is idle, and is skipped [with GivesPast]
   abbrev pub EndsPast : (Arrangement → Type 0) → Type 0
   EndsPast Idle = Passes Idle old.coming [] × (new.coming ≡ []) × (new.latest ≡ old.latest)
 
+  -- the limit was reached behind some that are idle, which are skipped [with GivesPast]
   abbrev pub StopsPast : (Arrangement → Type 0) → Budget → Type 0
   StopsPast Idle budget = Passes Idle old.coming new.coming × (new.latest ≡ old.latest) × (budget.used ≡ budget.limit)

@@ -4,7 +4,7 @@ use Rattle.dutch_order.specs.declared.prefix.Filling.{Filling}
 use Rattle.dutch_order.specs.declared.prefix.Filling.TheVariants.{S1, S2, S2r}
 use Rattle.dutch_order.specs.Arrangements.{Arrangement}
 
--- the lists that are fixed so far, and which of them is being filled
+-- the lists that are fixed so far, and which of them is being filled [B.6, B.7]
 pub record Beginning : Type 0 where
   pub filling : Filling
   pub lists : Arrangement
@@ -21,6 +21,6 @@ BeginsAt S1 beginning a = Unit {0}
 BeginsAt S2 beginning a = (beginning.s1 ≡ a.s1) × GoesOn beginning.s2 a.s2
 BeginsAt S2r beginning a = (beginning.s1 ≡ a.s1) × (beginning.s2 ≡ a.s2) × (beginning.s1r ≡ a.s1r) × GoesOn beginning.s2r a.s2r
 
--- an arrangement begins so
+-- an arrangement has these lists [with Beginning]
 abbrev pub Begins : Beginning → Arrangement → Type 0
 Begins beginning a = BeginsAt beginning.filling beginning.lists a

@@ -12,27 +12,27 @@ pub record Ahead : Type 0 where
   pub coming : List (List ℕ)
   pub left : ℕ
 
--- a fact for each answer
+-- a fact for each answer of a call: something is found, there is none left, or the limit was reached [own]
 abbrev pub MatchStep : {T : Type 0} → Step T → (T → Type 0) → Type 0 → Type 0 → Type 0
 MatchStep (Found x) found ended undecided = found x
 MatchStep End found ended undecided = ended
 MatchStep Undecided found ended undecided = undecided
 
--- a fact for each answer of a call that is stopped at a limit, or says what it found
+-- a fact for each answer of a call that is stopped at a limit, or says what it found [with MatchStep]
 abbrev pub MatchFound : {T E : Type 0} → Result (Option T) E → (T → Type 0) → Type 0 → Type 0 → Type 0
 MatchFound answer found none stopped = MatchResult answer (λ o. MatchOption o none found) (λ _. stopped)
 
--- a fact for each answer of one that says whether it found something
+-- a fact for each answer of one that says whether it found something [with MatchStep]
 abbrev pub MatchDrawn : {E : Type 0} → Result Bool E → Type 0 → Type 0 → Type 0 → Type 0
 MatchDrawn (Ok true) drawn none stopped = drawn
 MatchDrawn (Ok false) drawn none stopped = none
 MatchDrawn (Err e) drawn none stopped = stopped
 
--- a list goes on as another one does, once some of its beginning is skipped, each member of which is idle
+-- a list goes on as another one does, once some of its beginning is skipped, each member of which is idle [with GivesPast]
 abbrev pub Passes : {T : Type 0} → (T → Type 0) → List T → List T → Type 0
 Passes {T} Idle before after = (skipped : List T) × (before ≡ skipped ++ after) × AllByRecursion Idle skipped
 
--- a call keeps the limit of a budget, and takes back no step; a budget says itself that none is above the limit
+-- a call keeps the limit of a budget, and takes back no step; that none is above the limit each budget says itself [own]
 pub record Spends (old new : Budget) : Type 0 where
   pub limit : new.limit ≡ old.limit
   pub rises : old.used ≤ new.used

@@ -3,12 +3,11 @@ use Rattle.std.specs.Prelude.{ℕ, zero, suc, Bool, List, [], ◌++◌, filter, 
 use Rattle.dutch_order.specs.Choices.{tuples, all_meet}
 use Rattle.dutch_order.specs.Keys.{sorted, lower_first}
 
--- D.1: all tuples of k numbers of the pool, the one first that has the lower number at the first difference
+-- all lists of so many numbers of a pool, the one first that has the lower number at the first difference [D.1]
 abbrev pub all_tuples : List ℕ → ℕ → List (List ℕ)
 all_tuples pool k = sorted lower_first (tuples pool k)
 
--- the tuples of the pool that are as long as the first list, in this order, whose players may meet those of the first list place by
--- place
+-- of these lists those that are as long as a first list and whose players may meet those of the first list, place by place [D.1]
 abbrev pub transpositions : (ℕ → ℕ → Bool) → List ℕ → List ℕ → List (List ℕ)
 transpositions meets first pool = filter (all_meet meets first) (all_tuples pool (length first))
 
@@ -18,6 +17,6 @@ beginnings_below meets first pool zero = []
 beginnings_below meets first pool (suc k) =
     beginnings_below meets first pool k ++ filter (all_meet meets (take k first)) (tuples pool k)
 
--- the beginnings that are too short
+-- the beginnings of such lists that are too short, the empty one among them; each is tried once with each number of the pool [own]
 abbrev pub short_beginnings : (ℕ → ℕ → Bool) → List ℕ → List ℕ → List (List ℕ)
 short_beginnings meets first pool = beginnings_below meets first pool (length first)

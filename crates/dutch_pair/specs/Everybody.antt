@@ -6,10 +6,10 @@ use Rattle.dutch_order.specs.Prelude.{is_member}
 use Rattle.dutch_player.specs.Prelude.{Facts, start_ranks}
 use Rattle.dutch_pair.specs.Round.{Visit}
 
--- some boards name each present player, once, and nobody else
+-- some boards name each present player, once, and nobody else [A.3; own]
 abbrev pub NameEverybodyOnce : Facts → List (ℕ × ℕ) → Type 0
 NameEverybodyOnce facts boards = IsPermutation (start_ranks facts) (named_by boards)
 
--- a seat stands in one of some brackets that were reached
+-- a seat stands in one of some brackets that were reached [with NameEverybodyOnce]
 abbrev pub is_reached : List Visit → ℕ → Bool
 is_reached visits seat = list_any (λ visit. is_member seat visit.bracket.seats) visits

@@ -9,10 +9,9 @@ use Rattle.dutch_choice.specs.declared.wish.Wish.{Wish}
 use Rattle.dutch_bracket.specs.Prelude.{quality_in, Context, candidates_here, eligible_here, frame_here, quality_here}
 use Rattle.dutch_choice.specs.Prelude.{IsBarred, SomeGrants, best_granting, grants, some_grants, with_mdps}
 
--- what is told of a wish, for a bracket above lower seats and its shape: the best candidate that grants it, with its downfloaters and its
--- quality; or the first of these that stands: legal candidates grant it, but none that can be chosen (C.4); none of the shape grants it,
--- but one with as many pairs and fewer moved-down players in them (B.1); none with as many pairs grants it (C.5); or that the limit was
--- reached
+-- what is told of a wish in a bracket: the best candidate that grants it; or the first of these that stands: legal ones grant it, but none
+-- that can be chosen; none of the shape does, but one with as many pairs and fewer moved-down players in them; none with as many pairs
+-- does; or that the limit was reached [B.1, B.8, C.4, C.5; own]
 unfoldable pub IsInstead : Context → Shape → Wish → ℕ → Instead → Type 0
 IsInstead context shape wish limit (Best candidate quality) =
     (best_granting context shape wish ≡ Some candidate.lists)

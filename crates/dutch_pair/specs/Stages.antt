@@ -89,7 +89,7 @@ module _ (facts : Facts) where
 abbrev pub in_front : List (ℕ × ℕ) → Pairing → Pairing
 in_front pairs later = record { pairs = pairs ++ later.pairs; bye = later.bye }
 
--- the pairs of a stage by seat: none if it is paired again
+-- the pairs of a stage by seat: none if it is paired again [A.9]
 abbrev pub own_pairs : Stage → List (ℕ × ℕ)
 own_pairs stage = if stage.again then [] else all_pairs stage.reached.seats stage.candidate.lists
 

@@ -22,13 +22,14 @@ grade Mild = 0
 abbrev pub distance : List Colour → ℕ
 distance played = (whites played - blacks played) + (blacks played - whites played)
 
--- E.2: the stronger preference; of two absolute ones that of the player whose colour difference is further from 0
+-- whether a preference is stronger than another: absolute than strong, and strong than mild; of two absolute ones that of the player whose
+-- colour difference is further from 0 [E.2]
 abbrev pub is_stronger : Pref → List Colour → Pref → List Colour → Bool
 is_stronger mine played theirs their_played =
     nat_lt (grade theirs.strength) (grade mine.strength)
     || (is_absolute mine.strength && is_absolute theirs.strength && nat_lt (distance their_played) (distance played))
 
--- E.3: seen from the last game back, at the first place where one had white and the other black, each gets the other colour
+-- seen from the last game back, at the first place where one had white and the other black, each gets the other colour [E.3]
 abbrev pub alternated : List Colour → List Colour → Option Colour
 alternated [] theirs = None
 alternated (mine ∷ before) [] = None
@@ -43,18 +44,20 @@ abbrev pub by_history : Option Colour → Colour → Decision
 by_history (Some alternate) wanted = by Alternation alternate
 by_history None wanted = by HigherRank wanted
 
--- E.2 to E.4: both want the same colour
+-- the decision where both prefer the same colour: the stronger preference is granted, else the colours alternate, else the higher ranked
+-- player's is granted [E.2 to E.4]
 abbrev pub contested : List Colour → List Colour → Pref → Pref → Decision
 contested high low wanted theirs =
     if is_stronger wanted high theirs low then by StrongerPreference wanted.colour
     else (if is_stronger theirs low wanted high then by StrongerPreference (other wanted.colour)
     else by_history (alternated high low) wanted.colour)
 
--- E.5: nobody has a preference; with an odd start rank the higher ranked gets the initial colour
+-- the colour of the higher ranked where nobody has a preference: the initial colour if their start rank is odd, else the other one [E.5]
 abbrev pub by_start : Colour → ℕ → Colour
 by_start initial start = if start % 2 == 1 then initial else other initial
 
--- E.1: both preferences are granted if they are not for the same colour; else E.2 to E.4, or E.5
+-- two preferences that are not for the same colour are both granted, and so is one alone; else `contested` or `by_start` decides [with
+-- decided]
 abbrev pub by_preferences : Colour → SeatFacts → SeatFacts → Option Pref → Option Pref → Decision
 by_preferences initial high low (Some wanted) (Some theirs) =
     if is_same wanted.colour theirs.colour then contested high.played low.played wanted theirs else by BothPreferences wanted.colour
@@ -66,7 +69,7 @@ by_preferences initial high low None None = by InitialColour (by_start initial h
 abbrev pub granted : Colour → SeatFacts → SeatFacts → Option Pref → Option Pref → Colour
 granted initial high low wanted theirs = (by_preferences initial high low wanted theirs).colour
 
--- E: how the colours of two are decided; the first of them ranks higher
+-- the first rule that decides the colours of two, and the colour that the higher ranked, who comes first, gets by it [E]
 abbrev pub decided : Colour → SeatFacts → SeatFacts → Decision
 decided initial high low = by_preferences initial high low (preference high.played) (preference low.played)
 
@@ -83,10 +86,10 @@ abbrev pub with_colour : ℕ → ℕ → Colour → ℕ × ℕ
 with_colour a b White = (a, b)
 with_colour a b Black = (b, a)
 
--- E: the seat with white and the seat with black, of two in any order; the smaller seat ranks higher
+-- the seat with white and the seat with black by that decision, of two in any order; the smaller seat ranks higher [E]
 abbrev pub colours : Facts → ℕ → ℕ → ℕ × ℕ
 colours facts a b = if nat_lt a b then with_colour a b (colour_of_higher facts a b) else with_colour b a (colour_of_higher facts b a)
 
--- E: the first rule that decides who gets which colour, of two in any order
+-- the rule of that decision, E.1 to E.5, of two in any order [E]
 abbrev pub colour_rule : Facts → ℕ → ℕ → ColourRule
 colour_rule facts a b = if nat_lt a b then (decision_of facts a b).rule else (decision_of facts b a).rule

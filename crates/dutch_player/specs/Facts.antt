@@ -11,9 +11,9 @@ use Rattle.dutch_player.specs.declared.fault.FieldFault.{FieldFault}
 use Rattle.dutch_player.specs.declared.fault.FieldFault.TheVariants.{Unfinished, Unsupported, RoundsUnknown, RoundsOver}
 use Rattle.dutch_player.specs.Histories.{score, played, opponents, may_bye, float_in}
 
--- a present player: start rank, score in half points, the colours of their games (the last game first), the start ranks of those whom
--- they have met, the start ranks of those from whom they are kept apart, their floats in the last round and in the one before it, and
--- whether they may have the bye
+-- a present player: start rank, score in half points, the colours of their games (the last game first), the start ranks of those whom they
+-- have met, the start ranks of those from whom they are kept apart, their floats in the last round and in the one before it, and whether
+-- they may have the bye [with Facts]
 pub record SeatFacts : Type 0 where
   pub start : ℕ
   pub score : ℕ
@@ -24,7 +24,8 @@ pub record SeatFacts : Type 0 where
   pub earlier : Option Float
   pub may_bye : Bool
 
--- the present players by rank, the number of the round that is to be paired, the total of rounds, and the initial colour
+-- what a round is paired from: the present players by rank, the number of the round, the total of rounds, and the initial colour [A.2, A.4,
+-- A.6]
 pub record Facts : Type 0 where
   pub seats : List SeatFacts
   pub round : ℕ
@@ -35,11 +36,11 @@ pub record Facts : Type 0 where
 abbrev pub no_seat : SeatFacts
 no_seat = record { start = 0; score = 0; played = []; opponents = []; apart = []; latest = None; earlier = None; may_bye = false }
 
--- a seat is a place in the order of ranks, from 0
+-- a seat is a place in the order of ranks, from 0 [with Facts]
 abbrev pub seat_at : Facts → ℕ → SeatFacts
 seat_at facts seat = slice_index_or facts.seats seat no_seat
 
--- A.2: who has the better rank: the higher score, then the smaller start rank
+-- who has the better rank: the higher score, then the smaller start rank [A.2]
 abbrev pub goes_before : SeatFacts → SeatFacts → Bool
 goes_before a b = nat_lt b.score a.score || ((a.score == b.score) && nat_lt a.start b.start)
 
@@ -72,7 +73,7 @@ abbrev pub seats_of : Sheet → List Entry → List SeatFacts
 seats_of sheet [] = []
 seats_of sheet (entry ∷ rest) = if absent sheet entry.start then seats_of sheet rest else seat_of sheet entry ∷ seats_of sheet rest
 
--- the initial colour: the one that is asked for, else the report's, else white (our own choice)
+-- the initial colour: the one that the caller asks for, else the report's, else white [E.5; own]
 abbrev pub initial_of : Sheet → Option Colour → Colour
 initial_of sheet (Some colour) = colour
 initial_of sheet None = option_map_or (λ colour. colour) sheet.initial White
@@ -91,8 +92,8 @@ abbrev pub refused : Option FieldFault → Result (Unit {0}) FieldFault
 refused None = Ok tt
 refused (Some fault) = Err fault
 
--- the total of rounds, if a further round can be paired: each game has a result, every line is supported, the total is known,
--- and not all rounds are played; else the first of these that fails
+-- the total of rounds that the caller asks for, else the report's; or the first reason why the round cannot be paired: a game without a
+-- result, a line XXA, XXS or XXC with rank, no total, all rounds played [own]
 unfoldable pub total_for : Sheet → Option ℕ → Result ℕ FieldFault
 total_for sheet asked = do
   _ ← refused (option_map (λ at'. Unfinished at'.0 at'.1) (unfinished sheet))
@@ -100,7 +101,8 @@ total_for sheet asked = do
   total ← ok_or (total_of sheet asked) RoundsUnknown
   if nat_lt total (rounds_played sheet + 1) then Err RoundsOver else Ok total
 
--- what the next round is paired from, or why it cannot be
+-- what the next round of a report is paired from, those who are not absent from it, each by their rounds so far; or why it cannot be paired
+-- [A.2; own]
 unfoldable pub facts_of : Sheet → Option ℕ → Option Colour → Result Facts FieldFault
 facts_of sheet asked initial = do
   total ← total_for sheet asked

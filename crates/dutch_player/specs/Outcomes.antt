@@ -9,7 +9,7 @@ abbrev pub Fails : {Y : Type 0} → FieldFault → Result Y FieldFault → Type 
 Fails OutOfMemory given = is_ok given ≡ true
 Fails fault given = given ≡ Err fault
 
--- what a call answers is what the definition gives, or memory was refused and the definition gives no fault
+-- what a call answers is what the definition gives, or memory was refused and the definition gives no fault [own]
 abbrev pub Gives : {X : Type 0} → Result X FieldFault → Result X FieldFault → Type 0
 Gives (Ok x) given = given ≡ Ok x
 Gives (Err fault) given = Fails fault given

@@ -34,11 +34,11 @@ whites played = count_by is_white played
 abbrev pub blacks : List Colour → ℕ
 blacks played = count_by is_black played
 
--- the colour difference: games with white minus games with black
+-- the colour difference: games with white minus games with black [A.6]
 abbrev pub difference : List Colour → ℤ
 difference played = pos (whites played) -ℤ pos (blacks played)
 
--- the colour of the last two games, if there are two and both have it
+-- the colour of the last two games, if there are two and both have it [A.6]
 abbrev pub last_two : List Colour → Option Colour
 last_two [] = None
 last_two (last ∷ []) = None
@@ -48,24 +48,24 @@ last_two (last ∷ before ∷ rest) = if is_same last before then Some last else
 abbrev pub for : Strength → Colour → Pref
 for strength colour = record { strength = strength; colour = colour }
 
--- mild: with a difference of 0, to alternate the colour of the last game; without games there is no preference
+-- for the colour that the last game did not have; without games there is no preference [with preference]
 abbrev pub mild : List Colour → Option Pref
 mild [] = None
 mild (last ∷ rest) = Some (for Mild (other last))
 
--- strong: a difference of 1 either way; else it is mild
+-- strong for black with a difference of +1 and for white with -1; else `mild` [with preference]
 abbrev pub strong_or_mild : List Colour → Option Pref
 strong_or_mild played =
     if nat_lt (blacks played) (whites played) then Some (for Strong Black)
     else (if nat_lt (whites played) (blacks played) then Some (for Strong White) else mild played)
 
--- absolute for the colour that the last two games did not have; else it is strong or mild
+-- absolute for the colour that neither of the last two games had; else `strong_or_mild` [with preference]
 abbrev pub after_last_two : List Colour → Option Colour → Option Pref
 after_last_two played (Some colour) = Some (for Absolute (other colour))
 after_last_two played None = strong_or_mild played
 
--- the preference: absolute for black with a difference over +1, for white with one under -1, or else by the last two games. Where
--- the two causes disagree the difference decides (our own choice: A.6 does not say)
+-- a player's preference: absolute for black with a difference over +1 and for white with one under -1, whatever the last games say; else
+-- `after_last_two` [A.6; own]
 abbrev pub preference : List Colour → Option Pref
 preference played =
     if nat_lt (blacks played + 1) (whites played) then Some (for Absolute Black)

@@ -7,11 +7,11 @@ use Rattle.dutch_player.specs.Facts.{SeatFacts, Facts, seat_at}
 abbrev pub has_start : ℕ → SeatFacts → Bool
 has_start start seat = seat.start == start
 
--- the seat of a start rank; none if nobody present has it
+-- the seat of a start rank; none if nobody present has it [own]
 abbrev pub seat_with : Facts → ℕ → Option ℕ
 seat_with facts start = position_from (has_start start) 0 facts.seats
 
--- what is said of the seat of a start rank: a seat of the field whose player has it; or no seat's player has it
+-- what is said of the seat of a start rank: a seat of the field whose player has it; or no seat's player has it [with seat_with]
 abbrev pub TellsSeat : Facts → ℕ → Option ℕ → Type 0
 TellsSeat facts start (Some seat) = (seat < length facts.seats) × ((seat_at facts seat).start ≡ start)
 TellsSeat facts start None = (seat : ℕ) → seat < length facts.seats → (seat_at facts seat).start ≢ start

@@ -2,7 +2,8 @@
 use Rattle.std.specs.Prelude.{◌≡◌, ℕ, ◌+◌, ◌-◌, ◌*◌, ◌^◌, ◌<◌, ◌≤◌, if◌then◌else◌, List, length, min, nat_lt, slice_index, slice_index_or}
 use Rattle.dutch_order.specs.Prelude.{is_member}
 
--- so many units for each number, and for each number something more: those from 1 on, in a list
+-- what a number of a bracket adds to a cost where it is in S1R: so many units for each number, and something more for each of them [D.2;
+-- own]
 pub record Order : Type 0 where
   pub unit : ℕ
   pub more : List ℕ

@@ -13,6 +13,7 @@ use Rattle.dutch_bracket.specs.Prelude.{Scope, is_joined, may_stay, standing_of,
 use Rattle.dutch_weights.specs.WeightTables.{alone_weight, met_weight}
 
 -- a bracket whose pairs are weighed, a scope of its arrangements, over whom their matchings go, and what is added to pairs of residents
+-- [own]
 pub record Scoped : Type 0 where
   pub weighing : Weighing
   pub scope : Scope
@@ -120,21 +121,23 @@ next_costs s =
 
 -- ---- over whom the matchings go
 
+-- who may meet and who may be left over, and what that costs, by the players over whom the matchings go
 abbrev pub costs_by : Reach → Scoped → Costs
 costs_by Bracket = bracket_costs
 costs_by Lower = lower_costs
 costs_by Next = next_costs
 
+-- who may meet and who may be left over in the arrangements of a scope, and what that costs [C.1 to C.4, C.7; own]
 abbrev pub costs_in : Scoped → Costs
 costs_in s = costs_by s.reach s
 
--- how many players they are
+-- how many players they go over [with IsReached]
 abbrev pub size_by : Reach → Weighing → ℕ
 size_by Bracket w = length w.reached.seats
 size_by Lower w = length w.reached.seats + length w.lower
 size_by Next w = count_below w.facts w.reached w.lower
 
--- a number of one of them
+-- a number of one of the players over whom the matchings go [own]
 abbrev pub IsReached : Scoped → ℕ → Type 0
 IsReached s a = (0 < a) × (a ≤ size_by s.reach s.weighing)
 
@@ -161,10 +164,11 @@ IsFloorBy Bracket s left = IsFloor (costs_in s) (all_numbers s) left
 IsFloorBy Lower s left = IsFloor (costs_in s) (all_numbers s) (length (all_numbers s) % 2)
 IsFloorBy Next s left = λ floor. (count : ℕ) → IsFloor (costs_in s) (all_numbers s) count floor
 
--- what is kept of a floor: nothing for those left over where who goes down may be in a pair of a matching
+-- a floor that adds nothing for players left over
 abbrev pub without_left : FloorTable → FloorTable
 without_left floor = record { base = floor.base; debt = floor.debt; size = floor.size; extra = floor.extra; extra_left = [] }
 
+-- what is kept of a floor, by the players over whom the matchings go
 abbrev pub kept_by : Reach → FloorTable → FloorTable
 kept_by Bracket floor = floor
 kept_by Lower floor = without_left floor

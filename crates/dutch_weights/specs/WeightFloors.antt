@@ -24,7 +24,7 @@ pub record Weighed : Type 0 where
 abbrev pub weighed_for : Weighing → Shape → Weighed
 weighed_for w shape = record { facts = w.facts; reached = w.reached; lower = w.lower; shape = shape; scale = w.scale }
 
--- a floor, which arrangements it is for, and what the members of their S1R add to it
+-- a floor, which arrangements it is for, and what the members of their S1R add to it [own]
 pub record ScopedFloor : Type 0 where
   pub scope : Scope
   pub order : Order
@@ -67,12 +67,12 @@ pub record IsChoosable (w : Weighed) (a : Arrangement) : Type 0 where
   pub listed : IsIn a (candidates_of w.facts w.reached w.shape)
   pub can : can_be_chosen w.facts w.reached w.lower a ≡ true
 
--- what the members of its S1R add (D.2)
+-- what the members of an arrangement's S1R add [with Order]
 abbrev pub added_in : Order → Arrangement → ℕ
 added_in order a = sum_by (added order) a.s1r
 
--- a floor of the weights of a bracket in a scope: behind a beginning that the scope covers no candidate that can be chosen weighs less, with what
--- the members of its S1R add
+-- a floor of the weights of a bracket in a scope: behind a beginning that the scope covers no candidate that can be chosen weighs less,
+-- with what the members of its S1R add [own]
 abbrev pub IsWeightFloor : Weighed → ScopedFloor → Type 0
 IsWeightFloor w kept =
     (b : Beginning) (a : Arrangement) → IsChoosable w a → Begins b a → Covers kept.scope b
@@ -95,24 +95,24 @@ pub record AreFloors (weighed : Weighed) (floors : List ScopedFloor) : Type 0 wh
   pub scaled : IsScaled weighed
   pub hold : All (IsWeightFloor weighed) floors
 
--- of some arrangements no candidate that can be chosen weighs less, on a scale for them
+-- of some arrangements no candidate that can be chosen weighs less, on a scale for them [with IsLeast]
 pub record IsLeastOf (Among : Arrangement → Type 0) (weighed : Weighed) (least : ℕ) : Type 0 where
   pub scaled : IsScaled weighed
   pub none_less : (a : Arrangement) → IsChoosable weighed a → Among a → least ≤ weight_in weighed a
 
--- the same of all with a beginning
+-- no candidate with a beginning that can be chosen weighs less, on a scale for them [C.6 to C.19; own]
 abbrev pub IsLeast : Weighed → Beginning → ℕ → Type 0
 IsLeast weighed b = IsLeastOf (Begins b) weighed
 
--- an arrangement goes on from a beginning, with an S1R that is such an exchange
+-- an arrangement goes on from a beginning, with an S1R that is such an exchange [with IsLeastWith]
 abbrev pub BeginsWith : Beginning → ExchangeClass → Arrangement → Type 0
 BeginsWith b exchange a = Begins b a × IsExchange exchange a.s1r
 
--- and of all of those
+-- no candidate with a beginning, whose S1R is such an exchange, and that can be chosen weighs less [D.2; own]
 abbrev pub IsLeastWith : Weighed → Beginning → ExchangeClass → ℕ → Type 0
 IsLeastWith weighed b exchange = IsLeastOf (BeginsWith b exchange) weighed
 
--- floors by weight are those of a bracket above lower seats and a shape
+-- floors by weight are those of a bracket above lower seats and a shape [own]
 pub record AreOf (context : Context) (shape : Shape) (weighed : Weighed) : Type 0 where
   pub facts_are : weighed.facts ≡ context.facts
   pub reached_is : weighed.reached ≡ context.reached
@@ -133,13 +133,13 @@ HasNoBetterOn (Some next) quality other = Unit {0}
 abbrev pub KnowsNext : Option Weighed → Quality → NextValue → Type 0
 KnowsNext weights quality other = ForSome weights (λ w. HasNoBetterOn w.scale.next quality other)
 
--- two qualities have one value of the next bracket, or the scale measures it (C.7)
+-- two qualities have one value of the next bracket, or the scale measures it [C.7; own]
 abbrev pub HasSameNextOn : Option NextScale → Quality → Quality → Type 0
 HasSameNextOn None q r = next_in q ≡ next_in r
 HasSameNextOn (Some next) q r = Unit {0}
 
 -- a bar is that of a quality, on a scale with a digit for each of its differences: what it weighs, and what all with a higher PSD weigh at
--- least
+-- least [C.6 to C.19; own]
 pub record IsBar (scale : Scale) (quality : Quality) (bar : Bar) : Type 0 where
   pub weight : bar.weight ≡ weight_of scale quality
   pub above : bar.above ≡ weight_above scale quality

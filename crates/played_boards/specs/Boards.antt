@@ -11,8 +11,8 @@ use Rattle.trf16.specs.declared.cell.Colour.TheVariants.{White, Black}
 use Rattle.trf16.specs.Prelude.{Sheet, cell_in, colour_in_cell, opponent_in_cell, points_upto, ranked_by}
 use Rattle.played_boards.specs.declared.board.RankedBoard.{RankedBoard}
 
--- the colour of the higher ranked of two players by what both cells say, their own first: White is whose cell alone says w, else whose
--- opponent's cell alone says b, else the higher ranked
+-- the colour of the higher ranked of two by what both cells say: White is whose cell alone says w, else whose opponent's cell alone says b,
+-- else the higher ranked [own]
 abbrev pub colour_by : Option Colour → Option Colour → Colour
 colour_by (Some Black) (Some Black) = White
 colour_by (Some Black) other = Black
@@ -25,7 +25,7 @@ seated high low White = (high, low)
 seated high low Black = (low, high)
 
 -- the order of two boards: two players go before a bye, then the higher score of the higher ranked player, then the higher sum of both
--- scores, then the smaller start rank of that player
+-- scores, then the smaller start rank of that player [own]
 abbrev pub place_cmp : RankedBoard → RankedBoard → Ordering
 place_cmp a b =
     ordering_then (bool_cmp a.has_bye b.has_bye)
@@ -36,11 +36,11 @@ abbrev pub goes_before : RankedBoard → RankedBoard → Bool
 goes_before a b = is_lt (place_cmp a b)
 
 module _ (sheet : Sheet) (round : ℕ) where
-  -- the score of a player before the round, in half points
+  -- the score of a player before the round, in half points [with ranks_above]
   abbrev pub score_before : ℕ → ℕ
   score_before start = points_upto sheet start (round - 1)
 
-  -- A.2: whether one player ranks higher than another before the round: by a higher score, then by a smaller start rank
+  -- whether one player ranks higher than another before the round: by a higher score, then by a smaller start rank [A.2]
   abbrev pub ranks_above : ℕ → ℕ → Bool
   ranks_above a b = nat_lt (score_before b) (score_before a) || ((score_before a == score_before b) && nat_lt a b)
 
@@ -74,7 +74,8 @@ module _ (sheet : Sheet) (round : ℕ) where
   board_by start cell =
       option_and_then (λ opponent. if ranks_above start opponent then Some (board_of_two start opponent) else None) (opponent_in_cell cell)
 
-  -- the board of a player by their cell of the round
+  -- the board of a player by their cell of the round: that of the two, told of the higher ranked; of who has U, with 0 for black; else none
+  -- [TRF16, columns 92 to 99; own]
   abbrev pub board_at : ℕ → Option RankedBoard
   board_at start = board_by start (cell_in sheet start round)
 
@@ -82,6 +83,6 @@ module _ (sheet : Sheet) (round : ℕ) where
   abbrev pub boards_unordered : List RankedBoard
   boards_unordered = filter_map (λ entry. board_at entry.start) sheet.players
 
-  -- the boards of the round in their order: white and black, and 0 where white has the bye
+  -- the boards of the round in their order: white and black, and 0 where white has the bye [own]
   abbrev pub boards_of : List (ℕ × ℕ)
   boards_of = map (λ ranked. ranked.board) (ranked_by goes_before boards_unordered)

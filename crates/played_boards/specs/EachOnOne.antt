@@ -16,8 +16,8 @@ is_of one other board = ((board.0 == one) && (board.1 == other)) || ((board.0 ==
 abbrev pub is_bye_of : ℕ → ℕ × ℕ → Bool
 is_bye_of start board = (board.0 == start) && (board.1 == 0)
 
--- who names an opponent in the round stands on one board, which is that of the two; who has the pairing-allocated bye stands on one
--- board, which says so; and no other player stands on any (0 is no player)
+-- who names an opponent in the round stands on one board, which is that of the two; who has the pairing-allocated bye stands on one board,
+-- which says so; and no other player stands on any (0 is no player) [own]
 pub record EachOnOne (sheet : Sheet) (round : ℕ) (boards : List (ℕ × ℕ)) : Type 0 where
   pub pairs : (start opponent : ℕ) → opponent_in_cell (cell_in sheet start round) ≡ Some opponent
       → (count_by (has start) boards ≡ 1) × (count_by (is_of start opponent) boards ≡ 1)

@@ -14,7 +14,7 @@ is_long_control b c = (b == 0xC2) && (nat_le 0x80 c && nat_lt c 0xA0)
 abbrev pub shown_byte : ℕ → ℕ
 shown_byte b = if is_control b then byte "?" else b
 
--- a text with a question mark in place of each control character
+-- a text with a question mark in place of each control character: a byte below 32, 127, or the two bytes of U+0080 to U+009F in UTF-8 [own]
 abbrev pub without_controls : List ℕ → List ℕ
 without_controls [] = []
 without_controls (b ∷ []) = shown_byte b ∷ []

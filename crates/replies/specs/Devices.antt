@@ -9,7 +9,7 @@ pub record Reading : Type 0 where
   pub calls_before : ℕ
   pub calls_after : ℕ
 
--- a source before and after, by the members that say its bytes, its failures and its calls
+-- a source before and after, by the members that say its bytes, its failures and its calls [own]
 abbrev pub reading_of : {D : Type 0} → (D → Option (List ℕ)) → (D → ℕ) → (D → ℕ) → D → D → Reading
 reading_of bytes failures calls old new = record {
   device = use_of bytes failures old new;

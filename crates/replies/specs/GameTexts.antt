@@ -6,7 +6,8 @@ use Rattle.trf16.specs.declared.cell.Cell.TheVariants.{Blank, Bye, Game, Forfeit
 use Rattle.trf16.specs.Prelude.{Sheet, cell_in, bye_letter, colour_letter, outcome_letter}
 use Rattle.replies.specs.Tables.{LabelFacts, right}
 
--- a cell, with the letters that it has in the report: opponent, colour and result, the letter of a bye, or a dash where it is blank
+-- a cell, with the letters that it has in the report: opponent, colour and result, the letter of a bye, or a dash where it is blank [with
+-- named_rows_text]
 abbrev pub game_text : Cell → List ℕ
 game_text Blank = codes "-"
 game_text (Bye bye) = bye_letter bye ∷ []

@@ -6,7 +6,7 @@ use Rattle.replies.specs.declared.input.InputFault.{InputFault}
 use Rattle.replies.specs.declared.input.InputFault.TheVariants.{Read, Memory}
 use Rattle.trf16.specs.declared.limits.TheConstants.{MOST_BYTES}
 
--- how many bytes are read at most: one more than a report may have
+-- how many bytes are read at most: one more than a report may have [with ReadsInput]
 abbrev pub most_read : ℕ
 most_read = MOST_BYTES + 1
 
@@ -17,7 +17,7 @@ pub record IsRead (source : Use) (input : List ℕ) : Type 0 where
   pub whole : length input < most_read → IsAtEnd source.after
   pub sound : HasNotFailed source
 
--- the input was read, or a call of the source failed, or memory was refused and no call failed
+-- the input was read, or a call of the source failed, or memory was refused and no call failed [own]
 abbrev pub ReadsInput : {T : Type 0} → (T → List ℕ) → Use → Result T InputFault → Type 0
 ReadsInput items source (Ok input) = IsRead source (items input)
 ReadsInput items source (Err Read) = HasFailed source

@@ -50,6 +50,7 @@ kind_text front kind = front ++ (without_controls kind ++ codes "\n")
 abbrev pub note_text : Noted → List ℕ
 note_text note = kind_text (front_text note) (kind_named note)
 
--- the lines of some notes
+-- the lines of `check --notes`: of each note the number of its line, what was found, and the kind that it names, without its control
+-- characters [own]
 abbrev pub notes_text : List Noted → List ℕ
 notes_text notes = flat_map note_text notes

@@ -13,7 +13,7 @@ instead_fault sheet player (Some instead) =
     else (if not (known sheet instead) then Some (NotKnown instead)
     else (if instead == player then Some (NamedTwice player) else None))
 
--- what is wrong with the players whom a question names: the first who is not one of the report, or one who is named twice
+-- what is wrong with the players whom a question names: the first who is not one of the report, or one who is named twice [own]
 abbrev pub question_fault : Sheet → Option Question → Option QuestionFault
 question_fault sheet None = None
 question_fault sheet (Some question) =

@@ -74,13 +74,15 @@ order_text Big = codes "note bytes 1 and 2 are FE FF: this is UTF-16, save it as
 abbrev pub kind_or : List ℕ → List ℕ → List ℕ
 kind_or input other = option_map_or note_text (first_kind_note input) other
 
--- what the lines of two players hold of a round, of whom the second is named by the first
+-- the beginning of what the lines of two players hold of a round
 unfoldable pub front_of_cell : ℕ → ℕ → List ℕ
 front_of_cell player round = codes "note player " ++ (decimal player ++ (codes " round " ++ (decimal round ++ codes ": \"")))
 
+-- what stands between the cells of the two players
 unfoldable pub front_of_answer : ℕ → List ℕ
 front_of_answer opponent = codes "\", player " ++ (decimal opponent ++ codes ": \"")
 
+-- what the lines of two players hold of a round, of whom the second is named by the first
 abbrev pub cells_text : List ℕ → ℕ → ℕ → List ℕ
 cells_text input player round =
     let opponent = opponent_held input player round in
@@ -108,7 +110,8 @@ extension_note input line = option_map_or (extension_text line) (extension_at in
 
 -- ---- a refusal
 
--- what was found behind a refusal of a report that is no UTF-16
+-- of a points field its sums and the first game without a result, or why the report would be refused next; of an extension what it wants;
+-- of a missing player, of two cells or of a line what they hold [with refusal_note]
 abbrev pub found : Fault → List ℕ → ℕ → List ℕ
 found (Points player) input bye = points_note player (verdict_unsummed input bye)
 found (BadExtension line) input bye = extension_note input line
@@ -119,7 +122,7 @@ found (TooMany Rounds) input bye = kind_or input []
 found NoPlayers input bye = kind_or input []
 found fault input bye = line_note fault input bye
 
--- what was found behind a refusal of a report in which the pairing-allocated bye gives so many half points: its lines, or nothing
+-- the note of a refusal, or nothing: that the text is UTF-16; else what was `found` [own]
 abbrev pub refusal_note : Fault → List ℕ → ℕ → List ℕ
 refusal_note fault input bye = option_map_or order_text (byte_order input) (found fault input bye)
 

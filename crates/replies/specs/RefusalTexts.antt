@@ -20,7 +20,7 @@ excess_text Bytes = codes "refused: too many bytes\n"
 excess_text Players = codes "refused: too many players\n"
 excess_text Rounds = codes "refused: too many rounds\n"
 
--- what is wrong with a line of a report
+-- what is wrong with a line of a report [with fault_text]
 abbrev pub line_text : ℕ → List ℕ → List ℕ
 line_text line what = codes "refused: line " ++ (decimal line ++ what)
 
@@ -28,7 +28,7 @@ line_text line what = codes "refused: line " ++ (decimal line ++ what)
 abbrev pub round_text : ℕ → ℕ → List ℕ → List ℕ
 round_text player round what = codes "refused: player " ++ (decimal player ++ (codes " round " ++ (decimal round ++ what)))
 
--- why a report is refused
+-- why a report is refused: the line or the player at fault, and what it is [own]
 abbrev pub fault_text : Fault → List ℕ
 fault_text (BadNumber line) = line_text line (codes ": bad number\n")
 fault_text (Duplicate line) = line_text line (codes ": duplicate\n")
@@ -49,7 +49,7 @@ fault_text OutOfMemory = memory_text
 abbrev pub unread_text : ℕ → List ℕ
 unread_text line = line_text line (codes ": unsupported\n")
 
--- why the next round cannot be paired from a report
+-- why the next round cannot be paired from a report [with fault_text]
 abbrev pub field_text : FieldFault → List ℕ
 field_text (Unfinished player round) = round_text player round (codes ": unfinished\n")
 field_text (Unsupported line) = line_text line (codes ": unsupported\n")
@@ -57,7 +57,7 @@ field_text RoundsUnknown = codes "refused: rounds unknown\n"
 field_text RoundsOver = codes "refused: all rounds are played\n"
 field_text FieldMemory = memory_text
 
--- why a report has no standings
+-- why a report has no standings [with fault_text]
 abbrev pub tie_text : TieFault → List ℕ
 tie_text (TieUnfinished player round) = round_text player round (codes ": unfinished\n")
 tie_text (TieUnsupported line) = line_text line (codes ": unsupported\n")

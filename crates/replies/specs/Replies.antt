@@ -19,6 +19,6 @@ note_of (Made text) = []
 note_of (Bytes text) = []
 note_of (Noted text note) = note.items
 
--- the status of a reply, its text and its note
+-- the status of a reply, its text and its note [with Answer]
 abbrev pub answer_of : Reply → Answer
 answer_of reply = record { status = reply.status; text = text_of reply.text; note = note_of reply.text }

@@ -15,8 +15,8 @@ use Rattle.replies.specs.declared.views.Unseen.{Unseen}
 abbrev pub size_text : Sheet → List ℕ
 size_text sheet = accepted_text (length sheet.players) (rounds_played sheet)
 
--- `check`: how many players and rounds the report has, with `--notes` (true) followed by what of its bytes looks like a mistake; or why
--- it is refused, with `--notes` noting what was found
+-- `check`: how many players and rounds the report has, with `--notes` (true) followed by what of its bytes looks like a mistake; or why it
+-- is refused, with `--notes` noting what was found [own]
 abbrev pub check_answer : Result Sheet Fault → Bool → List ℕ → ℕ → Answer
 check_answer (Err fault) false input bye = refusal fault
 check_answer (Err fault) true input bye = with_note (refusal fault) (refusal_note fault input bye)
@@ -28,18 +28,18 @@ abbrev pub formatted : Bool → Sheet → Sheet
 formatted false sheet = sheet
 formatted true sheet = summed sheet
 
--- a report in canonical columns as it is, or with `--renumber` (true) with new start ranks; a line that names players in a way that is
--- not read keeps it from that
+-- a report in canonical columns as it is, or with `--renumber` (true) with new start ranks; a line that names players in a way that is not
+-- read keeps it from that [with format_answer]
 abbrev pub written_answer : Bool → Sheet → Answer
 written_answer false sheet = done (written sheet)
 written_answer true sheet = option_map_or unread_refusal (first_unread sheet) (done (written (renumbered sheet)))
 
--- `format`: the report in canonical columns, however long, or why there is none
+-- `format`: the report in canonical columns, however long, or why there is none [own]
 abbrev pub format_answer : Bool → Bool → Result Sheet Unseen → Answer
 format_answer points renumber (Ok sheet) = written_answer renumber (formatted points sheet)
 format_answer points renumber (Err why) = unseen_answer why
 
--- the verdict that `format` goes by: with `--points` (true) no points field is compared
+-- the verdict that `format` goes by: with `--points` (true) no points field is compared [with format_answer]
 abbrev pub format_verdict : Bool → List ℕ → ℕ → Result Sheet Fault
 format_verdict false input bye = verdict input bye
 format_verdict true input bye = verdict_unsummed input bye

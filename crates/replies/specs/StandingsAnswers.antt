@@ -11,7 +11,7 @@ use Rattle.replies.specs.declared.views.Unseen.{Unseen}
 use Rattle.replies.specs.WallTexts.{named_rows_text}
 use Rattle.requests.specs.declared.options.StandingsOptions.{StandingsOptions}
 
--- how many rounds are shown of each player: all that were paired, if the games are wanted
+-- how many rounds are shown of each player: all that were paired, if the games are wanted [with standings_answer]
 abbrev pub rounds_shown : StandingsOptions → Sheet → ℕ
 rounds_shown options sheet = if options.games then rounds_played sheet else 0
 
@@ -25,7 +25,7 @@ abbrev pub table_answer : StandingsOptions → Sheet → Result (List RowFacts) 
 table_answer options sheet (Ok rows) = done (lines_text options.names sheet options.keys (rounds_shown options sheet) rows)
 table_answer options sheet (Err fault) = tie_refusal fault
 
--- `standings`: the players in order, or why there is no report
+-- `standings`: a line for each row, with its place, start rank, score and values, or the rows with names; or why there are none [own]
 abbrev pub standings_answer : StandingsOptions → Result Sheet Unseen → Answer
 standings_answer options (Ok sheet) = table_answer options sheet (standings_of sheet options.keys)
 standings_answer options (Err why) = unseen_answer why

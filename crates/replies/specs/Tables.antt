@@ -11,10 +11,11 @@ pub record LabelFacts : Type 0 where
   pub side : Alignment
   pub text : List ℕ
 
--- a text at the left, or at the right, of its column
+-- a text at the left of its column
 abbrev pub left : List ℕ → LabelFacts
 left text = record { side = Left; text = text }
 
+-- a text at the right of its column
 abbrev pub right : List ℕ → LabelFacts
 right text = record { side = Right; text = text }
 
@@ -36,11 +37,12 @@ abbrev pub widths : Bool → ℕ → List (List LabelFacts) → List ℕ
 widths utf8 zero lines = []
 widths utf8 (suc count) lines = widths utf8 count lines ++ widest utf8 count lines ∷ []
 
--- a label with blanks up to a width
+-- a text with blanks up to a width
 abbrev pub padded_by : Bool → ℕ → Alignment → List ℕ → List ℕ
 padded_by utf8 wide Left text = left_in utf8 wide text
 padded_by utf8 wide Right text = blanks (wide - width utf8 text) ++ text
 
+-- a label with blanks up to a width
 abbrev pub padded : Bool → ℕ → LabelFacts → List ℕ
 padded utf8 wide label = padded_by utf8 wide label.side label.text
 
@@ -54,6 +56,7 @@ abbrev pub labels_text : Bool → List ℕ → ℕ → List LabelFacts → List 
 labels_text utf8 wide column [] = []
 labels_text utf8 wide column (label ∷ rest) = padded utf8 (slice_index_or wide column 0) label ++ (gap rest ++ labels_text utf8 wide (column + 1) rest)
 
--- a table of so many columns: its lines, each of their columns as wide as the widest of its labels
+-- a table of so many columns: a line for each row of labels, each at the left or at the right of its column, which is as wide as the widest
+-- of its labels, with two blanks between columns [own]
 abbrev pub table_text : Bool → ℕ → List (List LabelFacts) → List ℕ
 table_text utf8 count lines = flat_map (labels_text utf8 (widths utf8 count lines) 0) lines

@@ -14,7 +14,7 @@ read_text = codes "device: read failed\n"
 abbrev pub write_text : List ℕ
 write_text = codes "device: write failed\n"
 
--- what is wrong with words that clap lets pass
+-- what is wrong with words that clap lets pass [own]
 abbrev pub word_text : WordFault → List ℕ
 word_text BadColour = codes "words: bad colour\n"
 word_text BadKeys = codes "words: bad keys\n"
@@ -22,7 +22,7 @@ word_text BadCursor = codes "words: bad cursor\n"
 word_text NamesAndReport = codes "words: names or report, not both\n"
 word_text InsteadAlone = codes "words: instead wants a player\n"
 
--- what is wrong with the players whom a question names
+-- what is wrong with the players whom a question names [with word_text]
 abbrev pub question_text : QuestionFault → List ℕ
 question_text (NotKnown player) = codes "words: player " ++ (decimal player ++ codes " is not known\n")
 question_text (NamedTwice player) = codes "words: player " ++ (decimal player ++ codes " is named twice\n")
@@ -31,23 +31,23 @@ question_text (NamedTwice player) = codes "words: player " ++ (decimal player ++
 abbrev pub accepted_text : ℕ → ℕ → List ℕ
 accepted_text players rounds = codes "accepted players " ++ (decimal players ++ (codes " rounds " ++ (decimal rounds ++ codes "\n")))
 
--- the steps of a bracket reached the limit before it was decided
+-- the steps of a bracket reached the limit before it was decided [with word_text]
 abbrev pub undecided_text : ℕ → ℕ → List ℕ
 undecided_text number used = codes "undecided bracket " ++ (decimal number ++ (codes " steps " ++ (decimal used ++ codes "\n")))
 
--- the same in a sentence
+-- the same in a sentence [with word_text]
 abbrev pub undecided_words : ℕ → ℕ → List ℕ
 undecided_words number used = codes "Undecided: bracket " ++ (decimal number ++ (codes " needs more than " ++ (decimal used ++ codes " steps.\n")))
 
--- the round ends before a bracket
+-- the round ends before a bracket [with word_text]
 abbrev pub not_reached_text : ℕ → List ℕ
 not_reached_text number = codes "words: bracket " ++ (decimal number ++ codes " is not reached\n")
 
--- a report does not reach a round
+-- a report does not reach a round [with word_text]
 abbrev pub round_not_reached_text : ℕ → List ℕ
 round_not_reached_text round = codes "words: round " ++ (decimal round ++ codes " is not reached\n")
 
--- a cursor is not one of a bracket
+-- a cursor is not one of a bracket [with word_text]
 abbrev pub not_of_bracket_text : ℕ → List ℕ
 not_of_bracket_text number = codes "words: cursor is not of bracket " ++ (decimal number ++ codes "\n")
 

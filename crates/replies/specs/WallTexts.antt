@@ -12,7 +12,7 @@ use Rattle.replies.specs.StandingsTexts.{value_text}
 use Rattle.replies.specs.Tables.{LabelFacts, left, right, table_text}
 use Rattle.replies.specs.Texts.{halves_text}
 
--- a name as it is shown: a question mark in place of each control character, and a dash where it is blank
+-- a name as it is shown: a question mark in place of each control character, and a dash where it is blank [with without_controls]
 abbrev pub shown : List ℕ → List ℕ
 shown [] = codes "-"
 shown (first ∷ rest) = without_controls (first ∷ rest)
@@ -41,7 +41,7 @@ boards_labels sheet number [] = []
 boards_labels sheet number (board ∷ rest) =
     (right (decimal number) ∷ board_labels sheet (rounds_played sheet) board) ∷ boards_labels sheet (number + 1) rest
 
--- the boards of the next round, which have seven columns
+-- `pair --names`: of each board its number, white, and black or the word `bye` [own]
 abbrev pub named_boards_text : Sheet → List (ℕ × ℕ) → List ℕ
 named_boards_text sheet boards = table_text sheet.utf8 7 (boards_labels sheet 1 boards)
 
@@ -69,7 +69,8 @@ played_labels sheet round number [] = []
 played_labels sheet round number (board ∷ rest) =
     (right (decimal number) ∷ board_labels sheet (round - 1) board ++ result_labels sheet round board) ∷ played_labels sheet round (number + 1) rest
 
--- the boards of a round that was paired, which have eight columns
+-- `boards --names`: of each board of a round that was paired its number, white and black, their scores before it, and the result where both
+-- have one [own]
 abbrev pub played_boards_text : Sheet → ℕ → List (ℕ × ℕ) → List ℕ
 played_boards_text sheet round boards = table_text sheet.utf8 8 (played_labels sheet round 1 boards)
 
@@ -91,6 +92,6 @@ rows_labels sheet keys rounds place [] = []
 rows_labels sheet keys rounds place (row ∷ rest) =
     (right (decimal place) ∷ row_labels sheet keys row ++ games_labels sheet row.start rounds) ∷ rows_labels sheet keys rounds (place + 1) rest
 
--- the standings, which have four columns, one for each key and one for each round that is shown
+-- `standings --names`: of each row its place, player, values and games [own]
 abbrev pub named_rows_text : Sheet → List Key → ℕ → List RowFacts → List ℕ
 named_rows_text sheet keys rounds rows = table_text sheet.utf8 (4 + length keys + rounds) (rows_labels sheet keys rounds 1 rows)

@@ -58,7 +58,7 @@ pub record IsNoteCut (answer : Answer) (out err : Use) (status : Status) : Type 
   pub noted : HasPart answer.note out
   pub told : HasInTurn answer.text write_text err
 
--- how an answer is written to standard error, by its note
+-- how an answer is written to standard error, and its note, if it has one, to standard output
 abbrev pub IsToldWith : List ℕ → Answer → Use → Use → Status → Type 0
 IsToldWith [] answer out err status = IsOnStandardError answer out err status
 IsToldWith (_ ∷ _) answer out err status = IsNoted answer out err status ⊎ IsNoteCut answer out err status
@@ -68,6 +68,7 @@ abbrev pub IsWrittenTo : Bool → Answer → Use → Use → Status → Type 0
 IsWrittenTo true answer out err status = IsPrinted answer out err status ⊎ IsCut answer out err status
 IsWrittenTo false answer out err status = IsToldWith answer.note answer out err status
 
--- how an answer is written, by its status
+-- where an answer is written, by its status: to standard output, or else to standard error, and then its note, if it has one, to standard
+-- output; if standard output fails, standard error says so [own]
 abbrev pub IsWritten : Answer → Use → Use → Status → Type 0
 IsWritten answer out err status = IsWrittenTo (is_output answer.status) answer out err status

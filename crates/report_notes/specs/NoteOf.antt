@@ -23,7 +23,7 @@ use Rattle.report_notes.specs.declared.player_round.RoundLeft.{RoundLeft}
 use Rattle.report_notes.specs.declared.rounds.RoundsLeft.{RoundsLeft}
 use Rattle.report_notes.specs.declared.closing.ClosingLeft.{ClosingLeft}
 
--- a note by what stands in it
+-- a note by what stands in it [with Noted]
 abbrev pub noted : Note → Noted
 noted (TheNoPlayer line number) = NoPlayer line number
 noted (ThePlayedLast line number) = PlayedLast line number

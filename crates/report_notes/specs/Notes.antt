@@ -42,7 +42,7 @@ number_notes sheet n (Some number) =
     if not (known sheet number) then NoPlayer n number ∷ []
     else (if played_last sheet number then PlayedLast n number ∷ [] else [])
 
--- XXZ: of each number, that no player has it, or that its player played the last round
+-- XXZ: of each number, that no player has it, or that its player played the last round [with carried_notes]
 abbrev pub absent_notes : Sheet → ℕ → List (List ℕ) → List Noted
 absent_notes sheet n [] = []
 absent_notes sheet n (word ∷ rest) = number_notes sheet n (number_of word) ++ absent_notes sheet n rest
@@ -56,7 +56,7 @@ abbrev pub names_one : List (List ℕ) → Bool
 names_one [] = false
 names_one (word ∷ rest) = option_map_or (λ number. are_all number rest) (number_of word) false
 
--- XXP: each number that no player has; then, where it is so, that the line names one player
+-- XXP: each number that no player has; then, where it is so, that the line names one player [with carried_notes]
 abbrev pub name_notes : Sheet → ℕ → List (List ℕ) → Bool → List Noted
 name_notes sheet n names alone = map (NoPlayer n) (strangers sheet names) ++ (if alone then OnePlayer n ∷ [] else [])
 
@@ -65,7 +65,7 @@ abbrev pub note_if : Bool → Noted → List Noted
 note_if false note = []
 note_if true note = note ∷ []
 
--- a line XXR names at least as many rounds as there are players, though nobody has as many opponents
+-- a line XXR names at least as many rounds as there are players [with carried_notes]
 abbrev pub has_many_rounds : Sheet → Bool
 has_many_rounds sheet = option_map_or (λ total. nat_le (length sheet.players) total) sheet.total false
 
@@ -76,7 +76,8 @@ extension_notes sheet n line =
     else (if is_kind (codes "XXP") line then name_notes sheet n (words_of line) (names_one (words_of line))
     else (if is_kind (codes "XXR") line then note_if (has_many_rounds sheet) (ManyRounds n) else []))
 
--- line n, which is carried: nothing where it is blank
+-- of line n, which is carried: nothing where it is blank; else that its kind is not known; else that blanks stand before the kind; else
+-- what `absent_notes`, `name_notes` and `has_many_rounds` say of XXZ, XXP and XXR [own]
 abbrev pub carried_notes : Sheet → ℕ → List ℕ → List Noted
 carried_notes sheet n line =
     if is_blank line then []
@@ -117,7 +118,8 @@ abbrev pub rating_notes : ℕ → Option RatedAbove → List Noted
 rating_notes n None = []
 rating_notes n (Some above) = RatingAbove n above.rating above.player ∷ []
 
--- line n, of the kind 001, in the order of its columns
+-- of line n, a player's, in the order of its columns: column 14, that its name runs on, a late entry's rating, that its points come early,
+-- what of its rounds, and that it goes on behind the next round [own]
 abbrev pub player_notes : Sheet → ℕ → List (List ℕ) → List Noted
 player_notes sheet n line =
     note_if (stands_before_name line) (BeforeName n) ++ (note_if (name_runs_on line) (LongName n)
@@ -133,6 +135,6 @@ abbrev pub notes_from : Sheet → ℕ → List (List ℕ) → List Noted
 notes_from sheet n [] = []
 notes_from sheet n (line ∷ rest) = line_notes sheet n line ++ notes_from sheet (n + 1) rest
 
--- all that looks like a mistake in the bytes of a report: line by line, then round by round, and then the number of rounds
+-- all that looks like a mistake in the bytes of a report: line by line, then round by round, and then the number of rounds [own]
 abbrev pub notes_of : Sheet → List ℕ → List Noted
 notes_of sheet bytes = notes_from sheet 1 (lines (without_marks bytes)) ++ (report_rounds_notes sheet 0 ++ total_notes sheet)

@@ -31,7 +31,7 @@ of_rounds_behind has sheet before = of_rounds has before (rounds_played sheet - 
 abbrev pub cells_before : ℕ → List Cell → List Cell
 cells_before round cells = take (round - 1) cells
 
--- the game of a round has no result
+-- the game of a round has no result [with round_notes]
 abbrev pub result_note : List Cell → ℕ → Option RoundNote
 result_note cells round = then_some (is_unfinished (cell_at cells round)) NoResult
 
@@ -45,7 +45,7 @@ opponent_of_game _ = None
 abbrev pub is_game_against : ℕ → Cell → Bool
 is_game_against player cell = option_map_or (λ opponent. opponent == player) (opponent_of_game cell) false
 
--- the game of a round is against a player whom one of an earlier round was against too
+-- the game of a round is against a player whom one of an earlier round was against too [with round_notes]
 abbrev pub meeting_note : List Cell → ℕ → Option RoundNote
 meeting_note cells round =
     option_and_then (λ player. then_some (list_any (is_game_against player) (cells_before round cells)) (MeetsAgain player)) (opponent_of_game (cell_at cells round))
@@ -62,7 +62,7 @@ abbrev pub is_allocated : Cell → Bool
 is_allocated (Bye Allocated) = true
 is_allocated _ = false
 
--- a round is the pairing-allocated bye, and C.2 does not allow it behind the earlier rounds
+-- a round is the pairing-allocated bye, and an earlier one was U, F or a forfeit win [C.2; own]
 abbrev pub bye_note : List Cell → ℕ → Option RoundNote
 bye_note cells round = then_some (is_allocated (cell_at cells round) && list_any bars_bye (cells_before round cells)) AnotherBye
 
@@ -72,7 +72,7 @@ few_points zero = Some NoPoint
 few_points (suc zero) = Some HalfPoint
 few_points (suc (suc more)) = None
 
--- a game that was played gives both players together less than a point
+-- a game that was played gives both players together less than a point [with round_notes]
 abbrev pub points_note : Sheet → Cell → ℕ → Option RoundNote
 points_note sheet (Game opponent colour rated got) round = few_points (outcome_points got + game_points (cell_in sheet opponent round))
 points_note sheet _ round = None
@@ -81,7 +81,8 @@ points_note sheet _ round = None
 abbrev pub is_filled : Cell → Bool
 is_filled cell = not (is_blank_cell cell)
 
--- nothing is said of the last round that was paired, though something of an earlier one, and no line XXZ names the player
+-- nothing is said of the last round that was paired, though something of an earlier one, and no line XXZ names the player [with
+-- round_notes]
 abbrev pub cell_note : Sheet → ℕ → List Cell → ℕ → Option RoundNote
 cell_note sheet start cells round =
     then_some ((round == rounds_played sheet) && (is_blank_cell (cell_at cells round) && (list_any is_filled (cells_before round cells) && not (is_named_absent sheet start)))) NoCell
@@ -92,6 +93,6 @@ notes_in sheet start cells round =
     told (result_note cells round ∷ meeting_note cells round ∷ bye_note cells round ∷ points_note sheet (cell_at cells round) round
     ∷ cell_note sheet start cells round ∷ [])
 
--- of a player, what is noted of a round
+-- of a player, what is noted of a round [own]
 abbrev pub round_notes : Sheet → ℕ → ℕ → List RoundNote
 round_notes sheet start round = notes_in sheet start (cells_of sheet.players start) round

@@ -22,6 +22,7 @@ abbrev pub is_late : Sheet → Entry → Bool
 is_late sheet entry = nat_lt 0 (rounds_played sheet) && (length entry.cells == 0)
 
 -- the rating of a player who comes late, and the player with the smallest start rank who is rated below, though with a smaller start rank
+-- [with player_notes]
 abbrev pub rated_above : Sheet → Entry → Option RatedAbove
 rated_above sheet entry =
     if is_late sheet entry then option_and_then (λ rating.

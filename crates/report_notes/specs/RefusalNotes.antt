@@ -20,7 +20,7 @@ use Rattle.report_notes.specs.declared.refusal.Sums.{Sums}
 
 -- ---- columns
 
--- line n of a text, which counts from 1; behind the last line there is nothing
+-- line n of a text, which counts from 1; behind the last line there is nothing [with held]
 abbrev pub line_in : List ℕ → ℕ → List ℕ
 line_in bytes n = slice_index_or (lines (without_marks bytes)) (n - 1) []
 
@@ -44,31 +44,32 @@ abbrev pub number_columns : List ℕ → ℕ → Columns
 number_columns bytes line =
     if start_in (columns_in bytes line) == 0 then record { line = line; first = 5; last = 8 } else record { line = line; first = 81; last = 84 }
 
--- the columns that a refusal is about, where it is about a number, a cell or a column that must be blank
+-- the columns that a refusal is about: of a bad number its field; of a bad cell those of opponent, colour and result; of a column that must
+-- be blank what it stands between [own]
 abbrev pub columns_of : Fault → List ℕ → Option Columns
 columns_of (BadNumber line) bytes = Some (number_columns bytes line)
 columns_of (BadCell line round) bytes = if nat_le round MOST_ROUNDS then Some (cell_columns line round) else None
 columns_of (Misaligned line column) bytes = if nat_le column LAST_COLUMN then Some (columns_around line column) else None
 columns_of fault bytes = None
 
--- what some columns of a text hold; columns past the line's end are missing
+-- what some columns of a text hold; columns past the line's end are missing [own]
 abbrev pub held : List ℕ → Columns → List ℕ
 held bytes place = text (columns_in bytes place.line) place.first place.last
 
 -- ---- columns that were counted in bytes
 
--- the line whose columns are at fault
+-- the line whose columns are at fault [with columns_of]
 abbrev pub line_of : Fault → Option ℕ
 line_of (BadNumber line) = Some line
 line_of (Misaligned line column) = Some line
 line_of (BadCell line round) = Some line
 line_of fault = None
 
--- a line alone as a text whose columns are bytes: behind it stands a byte that is in no UTF-8
+-- a line alone as a text whose columns are bytes: behind it stands a byte that is in no UTF-8 [with are_lines_read]
 abbrev pub alone_in_bytes : List ℕ → List ℕ
 alone_in_bytes line = line ++ (byte "\n" ∷ 0xFF ∷ [])
 
--- each line of a text is read: it has not too many bytes, and no rule on a line is broken
+-- each line of a text is read: it has not too many bytes, and no rule on a line is broken [own]
 abbrev pub are_lines_read : Result Sheet Fault → Bool
 are_lines_read (Err (TooMany Bytes)) = false
 are_lines_read (Err (BadNumber line)) = false
@@ -85,6 +86,7 @@ fits_in_bytes bytes bye n = is_utf8 (without_marks bytes) && are_lines_read (ver
 -- ---- sums
 
 -- the points field of a player, the sum over the rounds that were paired, and the sum over all rounds; nothing where the field is blank
+-- [own]
 abbrev pub sums_of : Sheet → Entry → Option Sums
 sums_of sheet entry = option_map (λ points. record {
   player = entry.start;
@@ -93,13 +95,13 @@ sums_of sheet entry = option_map (λ points. record {
   all = sum_by (half_points sheet.bye) entry.cells;
 }) entry.points
 
--- the same of the player with a start rank, of some
+-- the same of the player with a start rank, of some [with sums_of]
 abbrev pub sums_among : Sheet → List Entry → ℕ → Option Sums
 sums_among sheet entries start = option_and_then (sums_of sheet) (player_of entries start)
 
 -- ---- the encoding
 
--- which byte order a text in UTF-16 has, by the two bytes at its front
+-- which byte order a text in UTF-16 has, by the two bytes at its front [with first_kind_note]
 abbrev pub byte_order : List ℕ → Option ByteOrder
 byte_order (a ∷ b ∷ rest) =
     if (a == 0xFF) && (b == 0xFE) then Some Little else (if (a == 0xFE) && (b == 0xFF) then Some Big else None)
@@ -119,7 +121,8 @@ abbrev pub kind_note_from : Bool → ℕ → List (List ℕ) → Option Noted
 kind_note_from utf8 n [] = None
 kind_note_from utf8 n (line ∷ rest) = option_map_or (λ note. Some note) (kind_note utf8 n line) (kind_note_from utf8 (n + 1) rest)
 
--- the same of the lines of a text
+-- of the first line that is no player's, not blank, and not read for its kind: that its kind is not known, or that blanks stand before it
+-- [own]
 abbrev pub first_kind_note : List ℕ → Option Noted
 first_kind_note bytes = kind_note_from (is_utf8 (without_marks bytes)) 1 (lines (without_marks bytes))
 
@@ -137,17 +140,17 @@ player_columns bytes start first last =
     let utf8 = is_utf8 (without_marks bytes) in
     text (columns utf8 (line_with utf8 start (lines (without_marks bytes)))) first last
 
--- what a player's line holds of a round: opponent, colour and result
+-- what a player's line holds of a round: opponent, colour and result [with held]
 abbrev pub cell_held : List ℕ → ℕ → ℕ → List ℕ
 cell_held bytes start round = player_columns bytes start (82 + 10 * round) (89 + 10 * round)
 
--- the opponent whom it names in a round; 0 where it names none
+-- the opponent whom it names in a round; 0 where it names none [with held]
 abbrev pub opponent_held : List ℕ → ℕ → ℕ → ℕ
 opponent_held bytes start round = option_map_or (λ n. n) (number_in (words (player_columns bytes start (82 + 10 * round) (85 + 10 * round)))) 0
 
 -- ---- extensions
 
--- the kind of line n, if it is one of an extension that is read
+-- the kind of line n, if it is one of an extension that is read [with first_kind_note]
 abbrev pub extension_at : List ℕ → ℕ → Option Extension
 extension_at bytes n =
     if is_kind (codes "XXR") (columns_in bytes n) then Some Xxr

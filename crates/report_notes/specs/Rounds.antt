@@ -26,7 +26,7 @@ byes_in sheet round = length (filter (has_bye round) sheet.players)
 abbrev pub several_byes : Sheet → ℕ → Option ℕ
 several_byes sheet round = then_some (nat_lt 1 (byes_in sheet round)) (byes_in sheet round)
 
--- a round
+-- of a round: that nobody has an opponent in it; how many have the pairing-allocated bye, if several do [own]
 abbrev pub report_round_notes : Sheet → ℕ → List Noted
 report_round_notes sheet round = told (then_some (has_no_game sheet round) (NoGame round) ∷ option_map (Byes round) (several_byes sheet round) ∷ [])
 

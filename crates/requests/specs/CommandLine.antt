@@ -46,7 +46,7 @@ player_rule = number_rule (codes "player") (Signed (pos 1) (pos 9999))
 unfoldable pub instead_rule : Rule
 instead_rule = number_rule (codes "instead") (Signed (pos 0) (pos 9999))
 
--- an option whose value is a number from 1 to the most rounds
+-- an option whose value is a number from 1 to 64, the most rounds
 abbrev pub few_rounds_rule : Text → Rule
 few_rounds_rule name = number_rule name (Signed (pos 1) (pos MOST_ROUNDS))
 
@@ -180,7 +180,7 @@ explain_app = with_option (with_option (with_round_rules (with_option (with_opti
 unfoldable pub standings_app : App
 standings_app = with_option (with_table_rules (new_app (codes "standings"))) bye_rule
 
--- the command of a name
+-- a command of the command line with its options, as clap is told of them [with arbiter_app]
 abbrev pub app_for : CommandName → App
 app_for CheckName = check_app
 app_for FormatName = format_app

@@ -19,7 +19,7 @@ key_named name =
     else (if bytes_eq name (codes "buchholz") then Some Buchholz
     else (if bytes_eq name (codes "sb") then Some SonnebornBerger else None))
 
--- the keys where none is named: direct encounter, Buchholz, Sonneborn-Berger
+-- the keys where none is named: direct encounter, Buchholz, Sonneborn-Berger [with keys_in]
 abbrev pub usual_keys : List Key
 usual_keys = Direct ∷ Buchholz ∷ SonnebornBerger ∷ []
 
@@ -41,6 +41,6 @@ if_listed keys = if nat_le (length keys) 3 && are_different keys then Some keys 
 abbrev pub names : List ℕ → List (List ℕ)
 names text = slice_split (λ b. b == 44) text
 
--- the keys that a list names: one to three, none twice
+-- the keys that a list names: one to three, none twice [own]
 abbrev pub keys_in : List ℕ → Option (List Key)
 keys_in text = option_and_then if_listed (keys_named (names text))

@@ -36,10 +36,11 @@ abbrev pub ◌>>=◌ : {A B : Type 0} → Result A WordFault → (A → Result B
 abbrev pub rows_in : ArgMatches → List Row
 rows_in matches = rows_of (found_of matches)
 
--- the largest numbers of 64 bits and of 16
+-- the largest number of 64 bits
 abbrev pub u64_max : ℕ
 u64_max = 2 ^ 64 - 1
 
+-- the largest number of 16 bits
 abbrev pub u16_max : ℕ
 u16_max = 2 ^ 16 - 1
 
@@ -70,7 +71,7 @@ colour_named text = if bytes_eq text (codes "white") then Some White else (if by
 abbrev pub initial_in : List Row → Result (Option Colour) WordFault
 initial_in rows = read_by colour_named BadColour (first_of (codes "initial") rows)
 
--- `--round`: the round that is asked for (clap lets no words pass with 0 or with a greater one than there can be)
+-- `--round`: the round that is asked for (clap lets no words pass with 0 or with a greater one than there can be) [with pair_options]
 abbrev pub round_in : List Row → Option ℕ
 round_in rows = number_in MOST_ROUNDS (codes "round") rows
 
@@ -98,7 +99,8 @@ player_in rows = number_in u16_max (codes "player") rows
 abbrev pub instead_in : List Row → Option ℕ
 instead_in rows = number_in u16_max (codes "instead") rows
 
--- `--bye`: what the pairing-allocated bye gives in half points, 2 where it is left out (clap lets no words pass with one above 2)
+-- `--bye`: what the pairing-allocated bye gives in half points, 2 where it is left out (clap lets no words pass with one above 2) [with
+-- pair_options]
 abbrev pub bye_in : List Row → ℕ
 bye_in rows = unwrap_or (number_in 2 (codes "bye") rows) 2
 
@@ -112,6 +114,7 @@ keys_by None = Ok usual_keys
 keys_by (Some text) = option_map_or (λ keys. Ok keys) (keys_in text) (Err BadKeys)
 
 -- `--player` and `--instead`: what is asked of a player; it is the whole round's where no player is named, and then nobody stands instead
+-- [with pair_options]
 abbrev pub question_by : Option ℕ → Option ℕ → Result (Option Question) WordFault
 question_by None None = Ok None
 question_by None (Some instead) = Err InsteadAlone
@@ -121,7 +124,7 @@ question_by (Some player) instead = Ok (Some (record { player = player; instead 
 abbrev pub wording_by : Bool → Wording
 wording_by words = if words then Words else Plain
 
--- `--report` and `--names`: what is printed of a round; both at once ask for nothing that there is
+-- `--report` and `--names`: what is printed of a round; both at once ask for nothing that there is [with pair_options]
 abbrev pub shown_by : Bool → Bool → Result Shown WordFault
 shown_by false false = Ok Boards
 shown_by false true = Ok Names
@@ -138,7 +141,7 @@ check_options rows = record { notes = flag_in (codes "notes") rows }
 abbrev pub format_options : List Row → FormatOptions
 format_options rows = record { points = flag_in (codes "points") rows; renumber = flag_in (codes "renumber") rows; round = round_in rows }
 
--- `pair`
+-- what the options of `pair` say, or the first that cannot be read; 10000000 steps where none are named [own]
 unfoldable pub pair_options : List Row → Result PairOptions WordFault
 pair_options rows = do
   initial ← initial_in rows
@@ -162,7 +165,8 @@ standings_options rows = do
   keys ← keys_by (first_of (codes "by") rows)
   Ok (record { keys = keys; names = flag_in (codes "names") rows; games = flag_in (codes "games") rows; round = round_in rows })
 
--- `candidates`, where a test says which texts are cursors
+-- what the options of `candidates` say, where a test says which texts are cursors; 100 candidates where no count is named [with
+-- pair_options]
 unfoldable pub candidates_options : (Text → Bool) → List Row → Result CandidatesOptions WordFault
 candidates_options is_cursor rows = do
   initial ← initial_in rows

@@ -44,7 +44,7 @@ unfoldable pub with_engine : App → App
 with_engine app =
     with_command (with_command (with_command (with_command (with_command app pair_app) boards_app) candidates_app) explain_app) standings_app
 
--- the program's command line
+-- the command line as clap is told of it: a version, and one of the commands, which must be given [own]
 unfoldable pub arbiter_app : App
 arbiter_app = with_engine (with_command (with_command (settled (versioned (new_app (codes "arbiter")))) check_app) format_app)
 
@@ -106,7 +106,7 @@ abbrev pub without_help : List Text → List Text
 without_help [] = []
 without_help (first ∷ rest) = if bytes_eq first (codes "help") then rest else first ∷ rest
 
--- the words as clap reads them: `help` in front of some words stands for `--help` behind them, and so does `help help`
+-- the words as clap reads them: `help` in front of some words stands for `--help` behind them, and so does `help help` [own]
 abbrev pub meant : List Text → List Text
 meant [] = []
 meant (first ∷ rest) = if bytes_eq first (codes "help") then without_help rest ++ codes "--help" ∷ [] else first ∷ rest
@@ -124,25 +124,26 @@ is_mistake DisplayVersion = false
 is_mistake OutOfMemory = false
 is_mistake _ = true
 
--- the words are accepted by clap's rules, and this is the task that they make
+-- the words are accepted by clap's rules, and this is the task that they make [with ComesTo]
 pub record AsksFor (words : List Text) (task : Task) : Type 0 where
   pub accepted : fault_of arbiter_app words ≡ []
   pub named : task_by (subcommand_of arbiter_app words) ≡ Some (Ok task)
 
--- the words are accepted by clap's rules, and this is wrong with their options
+-- the words are accepted by clap's rules, and this is wrong with their options [with ComesTo]
 pub record AsksWrongly (words : List Text) (fault : WordFault) : Type 0 where
   pub accepted : fault_of arbiter_app words ≡ []
   pub named : task_by (subcommand_of arbiter_app words) ≡ Some (Err fault)
 
--- clap's rules answer the words with help or the version
+-- clap's rules answer the words with help or the version [with ComesTo]
 abbrev pub AsksForHelp : List Text → Type 0
 AsksForHelp words = list_any is_shown (fault_of arbiter_app words) ≡ true
 
--- clap's rules refuse the words
+-- clap's rules refuse the words [with ComesTo]
 abbrev pub IsMistaken : List Text → Type 0
 IsMistaken words = list_any is_mistake (fault_of arbiter_app words) ≡ true
 
--- what the words come to; the texts of help and mistakes are clap's
+-- what the words come to: a command with its options, the first option that says nothing, or help or a complaint, whose texts are clap's
+-- [own]
 abbrev pub ComesTo : List Text → Meaning → Type 0
 ComesTo words (Command task) = AsksFor words task
 ComesTo words (Help text) = AsksForHelp words

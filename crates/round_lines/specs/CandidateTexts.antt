@@ -16,17 +16,19 @@ kind_text Last = codes "last"
 kind_text Penultimate = codes "penultimate"
 kind_text Collapsed = codes "collapsed"
 
+-- what a bracket is for the round, at the end of its first sentence
 abbrev pub kind_words : BracketKind → List ℕ
 kind_words Ordinary = codes "."
 kind_words Last = codes ", the last one."
 kind_words Penultimate = codes ", the penultimate one."
 kind_words Collapsed = codes ", the collapsed one."
 
--- the bracket of a number: its kind, how many pairs it makes, and how many moved-down players are in them
+-- the bracket of a number: its kind, how many pairs it makes, and how many moved-down players are in them [own]
 unfoldable pub bracket_text : ℕ → BracketKind → Shape → List ℕ
 bracket_text number kind shape =
     codes "bracket " ++ (decimal number ++ (codes " " ++ (kind_text kind ++ (codes " pairs " ++ (decimal shape.pairs ++ (codes " mdps " ++ (decimal shape.mdps ++ codes "\n")))))))
 
+-- the same in a sentence [with bracket_text]
 unfoldable pub bracket_words : ℕ → BracketKind → Shape → List ℕ
 bracket_words number kind shape =
     codes "Bracket " ++ (decimal number ++ (kind_words kind ++ (codes " Pairs: " ++ (decimal shape.pairs ++ (codes ". Moved-down players in them: " ++ (decimal shape.mdps ++ codes ".\n"))))))
@@ -55,11 +57,11 @@ module _ (facts : Facts) (reached : Reached) where
   down_text [] = []
   down_text (number ∷ numbers) = codes " down" ++ flat_map (λ n. codes " " ++ decimal (start_of n)) (number ∷ numbers)
 
-  -- a candidate with those whom it leaves over
+  -- a candidate with those whom it leaves over [own]
   unfoldable pub candidate_text : Candidate → List ℕ
   candidate_text candidate =
       cursor_text candidate.lists ++ (pairs_text candidate.lists.s1 candidate.lists.s2 ++ (pairs_text candidate.lists.s1r candidate.lists.s2r ++ (down_text candidate.down ++ codes "\n")))
 
-  -- a candidate: its cursor, its pairs, and its downfloaters by rank
+  -- the line of a candidate: its cursor, its pairs by start ranks, and its downfloaters by rank [with candidate_text]
   abbrev pub line_text : Arrangement → List ℕ
   line_text lists = candidate_text (record { lists = lists; down = down (frame_of facts reached) lists })

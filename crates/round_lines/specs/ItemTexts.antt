@@ -14,7 +14,7 @@ use Rattle.round_lines.specs.CandidateTexts.{rank_text}
 use Rattle.round_lines.specs.Tellings.{TellingFacts, in_wording, seats_words}
 use Rattle.replies.specs.Prelude.{halves_text}
 
--- the article of an item
+-- the article of an item [with item_words]
 abbrev pub article_text : Item → List ℕ
 article_text Psd = codes "C.6"
 article_text NextBracket = codes "C.7"
@@ -52,7 +52,7 @@ said_words UpAgainBeforeBy = codes "Score differences of those of C.15"
 abbrev pub closing_words : Item → List ℕ
 closing_words item = codes " (" ++ (article_text item ++ codes ").\n")
 
--- the sentence of an item: what it tells, of whom or what, and its article
+-- the sentence of an item: what it tells, of whom or what, and its article [own]
 abbrev pub item_words : Item → List ℕ → List ℕ
 item_words item what = said_words item ++ (codes ": " ++ (what ++ closing_words item))
 
@@ -76,33 +76,36 @@ abbrev pub differences_text : List ℕ → List ℕ
 differences_text [] = codes " -"
 differences_text (first ∷ rest) = flat_map (λ halves. codes " " ++ halves_text halves) (first ∷ rest)
 
--- C.6: always told
+-- differences behind the article of their item
 abbrev pub psd_line : Item → List ℕ → List ℕ
 psd_line item differences = article_text item ++ (differences_text differences ++ codes "\n")
 
+-- the same in a sentence
 abbrev pub psd_words : Item → List ℕ → List ℕ
 psd_words item differences = item_words item (points_text Words differences)
 
+-- what is told of C.6, in a line or in a sentence [own]
 abbrev pub psd_text : Wording → Item → List ℕ → List ℕ
 psd_text wording item differences = in_wording wording (psd_line item differences) (psd_words item differences)
 
--- C.16 to C.19: told where there are some
+-- what is told so of C.16 to C.19, where there are some differences [with psd_text]
 abbrev pub list_text : Wording → Item → List ℕ → List ℕ
 list_text wording item [] = []
 list_text wording item (first ∷ rest) = psd_text wording item (first ∷ rest)
 
 -- ---- the next bracket
 
--- C.7: the pairs of the next bracket and its PSD
+-- the pairs of the next bracket and its PSD
 abbrev pub next_line : Quality → List ℕ
 next_line quality = codes "C.7 " ++ (decimal quality.next_pairs ++ (differences_text quality.next_psd ++ codes "\n"))
 
+-- the same in a sentence
 unfoldable pub next_words : Quality → List ℕ
 next_words quality =
     said_words NextBracket ++ (codes ": " ++ (decimal quality.next_pairs
     ++ (codes ". Score differences there: " ++ (points_text Words quality.next_psd ++ closing_words NextBracket))))
 
--- always told in an ordinary bracket, behind which alone there is one
+-- what is told of C.7, in an ordinary bracket alone: the pairs of the next bracket and its PSD [with psd_text]
 abbrev pub next_text : Wording → BracketKind → Quality → List ℕ
 next_text wording Ordinary quality = in_wording wording (next_line quality) (next_words quality)
 next_text wording Last quality = []
@@ -111,17 +114,19 @@ next_text wording Collapsed quality = []
 
 -- ---- players who count
 
--- C.8 to C.15: how many players count, and who, by rank
+-- how many players one of C.8 to C.15 counts, and who, by rank
 unfoldable pub who_line : Facts → Item → ℕ → List ℕ → List ℕ
 who_line facts item count who =
     article_text item ++ (codes " " ++ (decimal count ++ (codes " players" ++ (flat_map (λ seat. codes " " ++ rank_text facts seat) who ++ codes "\n"))))
 
+-- the same in a sentence, who alone
 unfoldable pub who_words : TellingFacts → Item → List ℕ → List ℕ
 who_words telling item who = item_words item (seats_words telling who)
 
+-- what is told of C.8 to C.15: how many count and who, and in a sentence only who [with psd_text]
 abbrev pub who_text : TellingFacts → Item → ℕ → List ℕ → List ℕ
 who_text telling item count who = in_wording telling.wording (who_line telling.facts item count who) (who_words telling item who)
 
--- told where the count is not 0
+-- the same where somebody counts, and else nothing
 abbrev pub count_text : TellingFacts → Item → ℕ → List ℕ → List ℕ
 count_text telling item count who = if count == 0 then [] else who_text telling item count who

@@ -9,27 +9,27 @@ use Rattle.round_lines.specs.declared.listing.Ending.TheVariants.{AtEnd, AtCount
 use Rattle.replies.specs.declared.reply.Status.{Status}
 use Rattle.replies.specs.declared.reply.Status.TheVariants.{Done, Undecided}
 
--- the lines of the first `count` of some candidates, by how the listing ends: all came and they are fewer; as many came; or it had
--- used so many steps as it may, before as many came
+-- the lines of the first `count` of some candidates, by how the listing ends: all came and they are fewer; as many came; or it had used so
+-- many steps as it may, before as many came [own]
 abbrev pub IsListing : (Arrangement → List ℕ) → List Arrangement → ℕ → ℕ → Ending → List ℕ → Type 0
 IsListing line coming count steps AtEnd text = (length coming < count) × (text ≡ flat_map line coming)
 IsListing line coming count steps AtCount text = (count ≤ length coming) × (text ≡ flat_map line (take count coming))
 IsListing line coming count steps (Stopped used) text =
     (used ≡ steps) × ((k : ℕ) × (k < count) × (k ≤ length coming) × (text ≡ flat_map line (take k coming)))
 
--- a listing is stopped only where all steps of its budget are used
+-- a listing is stopped only where all steps of its budget are used [with IsListing]
 abbrev pub StopsAtLimit : Ending → Budget → Type 0
 StopsAtLimit AtEnd budget = Unit {0}
 StopsAtLimit AtCount budget = Unit {0}
 StopsAtLimit (Stopped used) budget = budget.used ≡ budget.limit
 
--- the status of a listing
+-- the status of a listing [with IsListing]
 abbrev pub status_of : Ending → Status
 status_of AtEnd = Done
 status_of AtCount = Done
 status_of (Stopped used) = Undecided
 
--- the last line of a listing
+-- the last line of a listing [with IsListing]
 abbrev pub ending_text : ℕ → Ending → List ℕ
 ending_text number AtEnd = codes "end\n"
 ending_text number AtCount = codes "more\n"

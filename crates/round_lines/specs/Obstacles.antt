@@ -24,7 +24,8 @@ first_against (Some round) are_apart allow = Some (Met round)
 first_against None true allow = Some Apart
 first_against None false allow = if allow then None else Some Colours
 
--- C.1, the lines XXP, C.3: what stands first against a meeting of two seats
+-- what stands first against a meeting of two seats: the first round in which they have played a game, a line XXP that names both, or their
+-- colours [C.1, C.3; own]
 abbrev pub against_meeting : Sheet → Facts → ℕ → ℕ → Option Obstacle
 against_meeting sheet facts one other =
     let first = (seat_at facts one).start in
@@ -36,7 +37,7 @@ abbrev pub is_even : List ℕ → Option Obstacle
 is_even [] = Some Even
 is_even (seat ∷ seats) = None
 
--- C.2: what stands first against the bye of a seat, where these have it
+-- what stands first against the bye of a seat: its player may not have it, or nobody has it [C.2; own]
 abbrev pub against_bye : Facts → List ℕ → ℕ → Option Obstacle
 against_bye facts bye seat = if (seat_at facts seat).may_bye then is_even bye else Some HadBye
 
@@ -62,6 +63,7 @@ obstacle_words sheet player number Colours = codes "Both have to get the same co
 obstacle_words sheet player number HadBye = player_words sheet player ++ codes " has had the bye, or a point without a game (C.2)."
 obstacle_words sheet player number Even = codes "The number of players present is even."
 
+-- an obstacle as it is told, in codes, or in a sentence to a player who asks for a number [own]
 abbrev pub obstacle_text : TellingFacts → ℕ → ℕ → Obstacle → List ℕ
 obstacle_text telling player number obstacle =
     in_wording telling.wording (obstacle_line obstacle) (obstacle_words telling.sheet player number obstacle)

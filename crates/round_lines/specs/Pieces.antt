@@ -30,7 +30,7 @@ module _ (telling : TellingFacts) where
   piece_text (ScoredSeats seats) = all_scored_words telling seats.now
   piece_text (DifferencesWords differences) = points_text Words differences.now
 
-  -- pieces, one behind the other
+  -- pieces of a line or a sentence, one behind the other; no text is defined by it [with TellingFacts]
   abbrev pub pieces_text : List Piece → List ℕ
   pieces_text [] = []
   pieces_text (piece ∷ []) = piece_text piece

@@ -49,6 +49,7 @@ strength_text Absolute = codes "absolute"
 strength_text Strong = codes "strong"
 strength_text Mild = codes "mild"
 
+-- a colour
 abbrev pub colour_text : Colour → List ℕ
 colour_text White = codes "white"
 colour_text Black = codes "black"
@@ -69,6 +70,7 @@ abbrev pub met_text : List ℕ → List ℕ
 met_text [] = codes " -"
 met_text (start ∷ starts) = flat_map (λ other. codes " " ++ decimal other) (ascending (start ∷ starts))
 
+-- yes or no
 abbrev pub yes_text : Bool → List ℕ
 yes_text true = codes "yes"
 yes_text false = codes "no"
@@ -160,7 +162,8 @@ player_sentences sheet facts seat =
 
 -- ---- what is told
 
--- what a present player brings to the next round, by seat
+-- what a present player brings to the round, in a line or in five sentences: score, colours and preference, floats of the last two rounds,
+-- whom they have met, and whether they are a topscorer and may have the bye [own]
 unfoldable pub player_text : TellingFacts → ℕ → List ℕ
 player_text telling seat =
     in_wording telling.wording (player_line telling.sheet telling.facts (seat_at telling.facts seat))
@@ -170,8 +173,10 @@ player_text telling seat =
 abbrev pub absent_line : ℕ → List ℕ
 absent_line start = codes "player " ++ (decimal start ++ codes " absent\n")
 
+-- the same in a sentence
 abbrev pub absent_sentence : Sheet → ℕ → List ℕ
 absent_sentence sheet start = player_words sheet start ++ codes " is absent.\n"
 
+-- that a player is absent, in a line or in a sentence [with player_text]
 abbrev pub absent_text : TellingFacts → ℕ → List ℕ
 absent_text telling start = in_wording telling.wording (absent_line start) (absent_sentence telling.sheet start)

@@ -18,6 +18,7 @@ rule_text Alternation = codes "E.3"
 rule_text HigherRank = codes "E.4"
 rule_text InitialColour = codes "E.5"
 
+-- the same in a sentence
 abbrev pub rule_words : ColourRule → List ℕ
 rule_words BothPreferences = codes "Each gets the colour they prefer (E.1)."
 rule_words StrongerPreference = codes "The stronger preference is granted (E.2)."
@@ -47,6 +48,7 @@ module _ (telling : TellingFacts) where
       codes "round " ++ (decimal telling.facts.round ++ (codes " of " ++ (decimal telling.facts.total ++ (codes " present "
       ++ (decimal (length telling.facts.seats) ++ (codes " absent " ++ (decimal absent ++ (codes " boards " ++ decimal (boards bye)))))))))
 
+  -- the same in sentences
   unfoldable pub counts_words : List ℕ → List ℕ
   counts_words bye =
       codes "Round " ++ (decimal telling.facts.round ++ (codes " of " ++ (decimal telling.facts.total ++ (codes ". Present: "
@@ -56,7 +58,7 @@ module _ (telling : TellingFacts) where
   abbrev pub bye_text : ℕ → List ℕ
   bye_text seat = in_wording telling.wording (codes " bye " ++ rank_text telling.facts seat) (codes " Bye: " ++ (seat_words telling seat ++ codes "."))
 
-  -- the round, and who has the bye
+  -- the first line: the round and the total, how many players are present and how many absent, and the boards; then who has the bye [own]
   unfoldable pub round_text : List ℕ → List ℕ
   round_text bye = in_wording telling.wording (counts_line bye) (counts_words bye) ++ (flat_map bye_text bye ++ codes "\n")
 
@@ -66,6 +68,7 @@ module _ (telling : TellingFacts) where
   unfoldable pub scored_text : ℕ → List ℕ
   scored_text seat = codes " " ++ (rank_text telling.facts seat ++ (codes " (" ++ (halves_text (score_at telling.facts seat) ++ codes ")")))
 
+  -- the same in a sentence
   unfoldable pub scored_words : ℕ → List ℕ
   scored_words seat = seat_words telling seat ++ (codes " (" ++ (halves_text (score_at telling.facts seat) ++ codes ")"))
 
@@ -85,10 +88,12 @@ module _ (telling : TellingFacts) where
       codes "players" ++ (flat_map scored_text (take reached.mdps reached.seats) ++ (bar_text reached.mdps
       ++ (flat_map scored_text (drop reached.mdps reached.seats) ++ codes "\n")))
 
+  -- the same in a sentence
   unfoldable pub members_words : Reached → List ℕ
   members_words reached =
       moved_words (take reached.mdps reached.seats) ++ (codes "Residents: " ++ (all_scored_words (drop reached.mdps reached.seats) ++ codes ".\n"))
 
+  -- the players of a bracket with their scores, those who were moved down first [with round_text]
   abbrev pub members_text : Reached → List ℕ
   members_text reached = in_wording telling.wording (members_line reached) (members_words reached)
 
@@ -101,11 +106,13 @@ module _ (telling : TellingFacts) where
       ++ (codes " " ++ (rank_text telling.facts (colours telling.facts pair.0 pair.1).1
       ++ (codes " " ++ (rule_text (colour_rule telling.facts pair.0 pair.1) ++ codes "\n")))))
 
+  -- the same in a sentence
   unfoldable pub colours_words : ℕ × ℕ → List ℕ
   colours_words pair =
       codes "White: " ++ (seat_words telling (colours telling.facts pair.0 pair.1).0
       ++ (codes ". Black: " ++ (seat_words telling (colours telling.facts pair.0 pair.1).1
       ++ (codes ". " ++ (rule_words (colour_rule telling.facts pair.0 pair.1) ++ codes "\n")))))
 
+  -- a board: who has white, who has black, and the rule of article E that decided [with round_text]
   abbrev pub colours_text : ℕ × ℕ → List ℕ
   colours_text pair = in_wording telling.wording (colours_line pair) (colours_words pair)

@@ -9,13 +9,13 @@ use Rattle.requests.specs.declared.options.Wording.{Wording}
 use Rattle.requests.specs.declared.options.Wording.TheVariants.{Plain, Words}
 use Rattle.replies.specs.Prelude.{shown}
 
--- a round as it is told: its report, those whom it is paired from, and how the lines are worded
+-- a round as it is told: its report, those whom it is paired from, and how the lines are worded [own]
 pub record TellingFacts : Type 0 where
   pub sheet : Sheet
   pub facts : Facts
   pub wording : Wording
 
--- the plain line, or the sentence, as the wording says
+-- the plain line, or the sentence, as the wording says [with TellingFacts]
 abbrev pub in_wording : Wording → List ℕ → List ℕ → List ℕ
 in_wording Plain line words = line
 in_wording Words line words = words
@@ -27,20 +27,20 @@ abbrev pub named : ℕ → List ℕ → List ℕ
 named start name = if bytes_eq name (codes "-") then decimal start else decimal start ++ (codes " " ++ name)
 
 module _ (sheet : Sheet) where
-  -- a player, by start rank
+  -- a player in a sentence: the start rank, and behind it the name as it is shown, if there is one [own]
   abbrev pub player_words : ℕ → List ℕ
   player_words start = named start (shown (name_in sheet start))
 
-  -- players, by start ranks
+  -- players in a sentence, by start ranks, with semicolons between them, and none for nobody [with player_words]
   abbrev pub players_words : List ℕ → List ℕ
   players_words [] = codes "none"
   players_words (start ∷ others) = player_words start ++ flat_map (λ other. codes "; " ++ player_words other) others
 
 module _ (telling : TellingFacts) where
-  -- a player, by seat
+  -- a player, by seat [with player_words]
   abbrev pub seat_words : ℕ → List ℕ
   seat_words seat = player_words telling.sheet (seat_at telling.facts seat).start
 
-  -- players, by seats
+  -- players, by seats [with player_words]
   abbrev pub seats_words : List ℕ → List ℕ
   seats_words seats = players_words telling.sheet (map (λ seat. (seat_at telling.facts seat).start) seats)

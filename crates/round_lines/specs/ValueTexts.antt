@@ -14,7 +14,7 @@ use Rattle.round_lines.specs.Tellings.{in_wording}
 abbrev pub next_value : Wording → Quality → Quality → List ℕ
 next_value wording mine theirs = if mine.next_pairs == theirs.next_pairs then points_text wording mine.next_psd else decimal mine.next_pairs
 
--- C.6 to C.19: the value of an item in a quality, beside another one
+-- the value of an item in a quality, beside another one [own]
 abbrev pub value_text : Wording → Item → Quality → Quality → List ℕ
 value_text wording Psd mine theirs = points_text wording mine.psd
 value_text wording NextBracket mine theirs = next_value wording mine theirs
@@ -67,12 +67,14 @@ against_line mine chosen None = codes " behind"
 abbrev pub worse_words : Item → Quality → Quality → List ℕ
 worse_words item mine chosen = codes "is worse at " ++ (article_text item ++ (codes " (" ++ (meaning_words item mine chosen ++ codes "): ")))
 
+-- the same in a sentence, with what the item compares
 abbrev pub against_words : Quality → Quality → Option Item → List ℕ
 against_words mine chosen (Some item) =
     worse_words item mine chosen ++ (value_text Words item mine chosen ++ (codes ", where the chosen one has " ++ (value_text Words item chosen mine ++ codes ".")))
 against_words mine chosen None = codes "is as good, and stands behind the chosen one in the order of article D."
 
--- a candidate, and how its quality stands to the chosen one's; in words without its cursor
+-- how a candidate stands to the chosen one: the first item in which they differ, and its value in both, or that it is as good and stands
+-- behind [own]
 abbrev pub candidate_text : Wording → Arrangement → Quality → Quality → List ℕ
 candidate_text wording lists mine chosen =
     in_wording wording (cursor_text lists ++ against_line mine chosen (first_difference mine chosen)) (against_words mine chosen (first_difference mine chosen))

@@ -10,21 +10,21 @@ use Rattle.tiebreak.specs.declared.key.Key.{Key}
 use Rattle.tiebreak.specs.declared.key.Key.TheVariants.{Direct, Buchholz, SonnebornBerger}
 use Rattle.tiebreak.specs.Games.{rounds_of, have_met, opponent_score}
 
--- a row of the standings: start rank, score in half points, and the values of the keys in their order
+-- a row of the standings: start rank, score in half points, and the values of the keys in their order [own]
 pub record RowFacts : Type 0 where
   pub start : ℕ
   pub score : ℕ
   pub values : List (Option ℕ)
 
--- Buchholz, in half points: the sum of the opponents' scores, virtual ones included
+-- Buchholz, in half points: the sum of the opponents' scores, virtual ones included [tie-breaks]
 abbrev pub buchholz : Sheet → ℕ → ℕ
 buchholz sheet start = sum_by (opponent_score sheet start) (rounds_of sheet)
 
--- Sonneborn-Berger, in quarters of a point: the sum of the opponents' scores, each times what the player got in the round
+-- Sonneborn-Berger, in quarters of a point: the sum of the opponents' scores, each times what the player got in the round [tie-breaks]
 abbrev pub sonneborn_berger : Sheet → ℕ → ℕ
 sonneborn_berger sheet start = sum_by (λ round. opponent_score sheet start round * half_points sheet.bye (cell_in sheet start round)) (rounds_of sheet)
 
--- rows with the same score and the same values so far
+-- rows with the same score and the same values so far [tie-breaks]
 abbrev pub is_level : RowFacts → RowFacts → Bool
 is_level a b = (a.score == b.score) && pointwise (option_eq nat_eq) a.values b.values
 
@@ -49,11 +49,12 @@ points_against group cell = if is_against group cell then game_points cell else 
 abbrev pub points_among : Sheet → List ℕ → ℕ → ℕ
 points_among sheet group start = sum_by (λ round. points_against group (cell_in sheet start round)) (rounds_of sheet)
 
--- direct encounter within a group: none if it is one player alone, or if not all have met
+-- direct encounter: in a group of two or more who have all met each other, the half points of the games among them; in any other group none
+-- [tie-breaks; own]
 abbrev pub direct_in : Sheet → List ℕ → ℕ → Option ℕ
 direct_in sheet group start = if nat_lt 1 (length group) && have_all_met sheet group then Some (points_among sheet group start) else None
 
--- the value of a key for a row, given rows that have the values of the keys before it
+-- the value of a key for a row, given rows that have the values of the keys before it [tie-breaks]
 abbrev pub value_of : Sheet → List RowFacts → Key → RowFacts → Option ℕ
 value_of sheet rows Direct row = direct_in sheet (group_of rows row) row.start
 value_of sheet rows Buchholz row = Some (buchholz sheet row.start)

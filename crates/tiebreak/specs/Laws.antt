@@ -5,11 +5,11 @@ use Rattle.tiebreak.specs.declared.key.Key.{Key}
 use Rattle.tiebreak.specs.Keys.{RowFacts}
 use Rattle.tiebreak.specs.Standings.{standings_of}
 
--- each player of the report has a row, and one alone
+-- each player of the report has a row, and one alone [own]
 abbrev pub HasEachOnce : Sheet → List Key → Type 0
 HasEachOnce sheet keys = (rows : List RowFacts) → standings_of sheet keys ≡ Ok rows
     → IsPermutation (map (λ entry. entry.start) sheet.players) (map (λ row. row.start) rows)
 
--- each row has a value for each key
+-- each row has a value, or none, for each key [with HasEachOnce]
 abbrev pub HasEachKey : Sheet → List Key → Type 0
 HasEachKey sheet keys = (rows : List RowFacts) → standings_of sheet keys ≡ Ok rows → All (λ row. length row.values ≡ length keys) rows

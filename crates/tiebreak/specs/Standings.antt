@@ -30,12 +30,12 @@ abbrev pub with_keys : Sheet → List Key → List RowFacts → List RowFacts
 with_keys sheet [] rows = rows
 with_keys sheet (key ∷ rest) rows = with_keys sheet rest (with_key sheet key rows)
 
--- the order of two rows: the higher score, then the higher value in the first key in which they differ (none is below any), then
--- the smaller start rank
+-- the order of two rows: the higher score, then the higher value in the first key in which they differ (none is below any), then the
+-- smaller start rank [own]
 abbrev pub row_cmp : RowFacts → RowFacts → Ordering
 row_cmp a b = ordering_then (nat_cmp b.score a.score) (ordering_then (slice_cmp (option_cmp nat_cmp) b.values a.values) (nat_cmp a.start b.start))
 
--- who stands in front of another
+-- who stands in front of another [with row_cmp]
 abbrev pub goes_before : RowFacts → RowFacts → Bool
 goes_before a b = is_lt (row_cmp a b)
 
@@ -43,7 +43,7 @@ goes_before a b = is_lt (row_cmp a b)
 abbrev pub ranked : List RowFacts → List RowFacts
 ranked = ranked_by goes_before
 
--- no row goes before one that stands in front of it
+-- no row goes before one that stands in front of it [with row_cmp]
 abbrev pub IsRanked : List RowFacts → Type 0
 IsRanked = IsRankedBy goes_before
 
@@ -51,7 +51,7 @@ IsRanked = IsRankedBy goes_before
 abbrev pub no_row : RowFacts
 no_row = record { start = 0; score = 0; values = [] }
 
--- the row at a place, from 0
+-- the row at a place, from 0 [with standings_of]
 abbrev pub row_at : List RowFacts → ℕ → RowFacts
 row_at rows place = slice_index_or rows place no_row
 
@@ -60,13 +60,14 @@ abbrev pub refused : Option TieFault → Result (Unit {0}) TieFault
 refused None = Ok tt
 refused (Some fault) = Err fault
 
--- whether there are standings: each game has a result, and no line XXS gives games other points; else the first of these that fails
+-- why there are no standings: a game without a result, or a line XXS, which gives games other points; the first of these [with
+-- standings_of]
 unfoldable pub judged : Sheet → Result (Unit {0}) TieFault
 judged sheet = do
   _ ← refused (option_map (λ at'. Unfinished at'.0 at'.1) (unfinished sheet))
   refused (option_map (λ line. Unsupported line) (first_of (Xxs ∷ []) sheet))
 
--- the rows of all players in order, or why there are none
+-- the rows of all players in order, with the values of the keys, or why there are none [own]
 unfoldable pub standings_of : Sheet → List Key → Result (List RowFacts) TieFault
 standings_of sheet keys = do
   _ ← judged sheet

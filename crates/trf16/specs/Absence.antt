@@ -26,23 +26,23 @@ is_absence (Game opponent colour rated got) = false
 is_absence (Forfeit opponent colour won) = false
 is_absence (Unfinished opponent colour) = false
 
--- a line XXZ names a player
+-- a line XXZ names a player [with absent]
 abbrev pub is_named_absent : Sheet → ℕ → Bool
 is_named_absent sheet start = some_carried (names_absent start) sheet
 
--- a player is absent from the next round: a line XXZ names them, or their cell there says so (our own choice)
+-- a player is absent from the next round: a line XXZ names them, or their cell there is H, F or Z [own]
 abbrev pub absent : Sheet → ℕ → Bool
 absent sheet start = is_named_absent sheet start || is_absence (cell_in sheet start (rounds_played sheet + 1))
 
--- two players do not meet in the next round: they are two, and a line XXP names both
+-- two players do not meet in the next round: they are two, and a line XXP names both [own]
 abbrev pub apart : Sheet → ℕ → ℕ → Bool
 apart sheet a b = not (a == b) && some_carried (names_both a b) sheet
 
--- the start ranks of the players whom one does not meet so, in the order of their lines
+-- the start ranks of the players whom one does not meet so, in the order of their lines [with apart]
 abbrev pub apart_from : Sheet → ℕ → List ℕ
 apart_from sheet start = filter (apart sheet start) (map (λ entry. entry.start) sheet.players)
 
--- a line of a kind that is known and not supported: XXA, XXS, or XXC with the word rank
+-- a line of a kind that is known and not supported: XXA, XXS, or XXC with the word rank [with first_of]
 abbrev pub is_of : List (List ℕ) → LineKind → Bool
 is_of line Xxa = is_kind (codes "XXA") line
 is_of line Xxs = is_kind (codes "XXS") line
@@ -53,6 +53,6 @@ abbrev pub first_at : (List (List ℕ) → Bool) → Bool → ℕ → List (Opti
 first_at test utf8 n [] = None
 first_at test utf8 n (line ∷ rest) = if option_map_or (λ bytes. test (columns utf8 bytes)) line false then Some n else first_at test utf8 (n + 1) rest
 
--- the number of the first line of one of some kinds, from 1
+-- the number of the first line of one of some kinds, from 1 [own]
 abbrev pub first_of : List LineKind → Sheet → Option ℕ
 first_of kinds sheet = first_at (λ line. list_any (is_of line) kinds) sheet.utf8 1 sheet.carried

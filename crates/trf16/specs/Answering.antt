@@ -31,14 +31,14 @@ are_of_one_class (Forfeit opponent colour won) (Forfeit opponent' colour' won') 
 are_of_one_class (Unfinished opponent colour) (Unfinished opponent' colour') = true
 are_of_one_class _ _ = false
 
--- the cells of two who meet answer each other: opposite colours unless both are forfeits, results of one class, and together at
--- most 2 half points
+-- the cells of two who meet answer each other: opposite colours unless both are forfeits, results of one class, and together at most 2 half
+-- points [own]
 unfoldable pub pair_fits : ℕ → ℕ → Cell → Cell → Result (Unit {0}) Fault
 pair_fits start round mine theirs =
     if not (are_opposite (colour_in_cell mine) (colour_in_cell theirs) || (is_forfeit mine && is_forfeit theirs)) then Err (Colours start round)
     else (if not (are_of_one_class mine theirs && nat_le (game_points mine + game_points theirs) 2) then Err (Results start round) else Ok tt)
 
--- a cell of a player in a round names another player of the report, who names the first one too
+-- a cell of a player in a round names another player of the report, who names the first one too [with pair_fits]
 unfoldable pub cell_fits : Sheet → ℕ → ℕ → Cell → Result (Unit {0}) Fault
 cell_fits sheet start round mine =
     option_map_or (λ opponent.
@@ -60,8 +60,8 @@ cells_fit sheet start round (cell ∷ rest) = do
 abbrev pub has_other_points : Sheet → Bool
 has_other_points sheet = some_carried (is_kind (codes "XXS")) sheet
 
--- the points field of a player is blank, or the sum over the rounds that were paired or over all; where games have other points,
--- any value under 100 points
+-- the points field of a player is blank, or the sum over the rounds that were paired or over all; where games have other points, any value
+-- under 100 points [own]
 unfoldable pub points_fit : Sheet → Entry → Result (Unit {0}) Fault
 points_fit sheet entry =
     option_map_or (λ points.

@@ -10,8 +10,8 @@ use Rattle.trf16.specs.declared.cell.Bye.TheVariants.{Zero}
 use Rattle.trf16.specs.declared.cell.Cell.{Cell}
 use Rattle.trf16.specs.declared.cell.Cell.TheVariants.{Blank, Bye}
 
--- what a cell was before its round was paired: H, F and Z stay, a pairing was not made yet, and whom it left blank was absent, which Z
--- says (our own choice)
+-- what a cell of a round was before the round was paired: H, F and Z stay, a pairing was not made yet, and whom it left blank was absent,
+-- which Z says [with taken_back]
 abbrev pub cell_back : Cell → Cell
 cell_back cell = if is_blank_cell cell then Bye Zero else (if is_paired cell then Blank else cell)
 
@@ -27,19 +27,21 @@ entry_back bye before entry = record entry {
   cells = cells_back before entry.cells;
 }
 
--- a line that is carried: of a line XXZ its first three columns stay, and whom it names does not (the cells say who was absent)
+-- a line that is carried: of a line XXZ its first three columns stay, and whom it names does not [with taken_back]
 abbrev pub line_back : Bool → List ℕ → List ℕ
 line_back utf8 line = if is_kind (codes "XXZ") (columns utf8 line) then text (columns utf8 line) 1 3 else line
 
--- a report of which all rounds behind the first `before` are taken back
+-- a report of which all rounds behind the first `before` are taken back: cells by `cell_back`, carried lines by `line_back`, and every
+-- points field that is not blank is the sum over the rounds that stay [own]
 abbrev pub taken_back : Sheet → ℕ → Sheet
 taken_back sheet before = record sheet {
   carried = map (option_map (line_back sheet.utf8)) sheet.carried;
   players = map (entry_back sheet.bye before) sheet.players;
 }
 
--- a report as it stood before a round, which counts from 1: as it is before the round behind the last that was paired; before an earlier one
--- with that and all later ones taken back, if the last that was paired is then the one in front of it; and before any other there is none
+-- a report as it stood before a round, which counts from 1: as it is before the round behind the last that was paired; before an earlier
+-- one with that and all later ones taken back, if the last that was paired is then the one in front of it; and before any other there is
+-- none [own]
 abbrev pub before_round : Sheet → ℕ → Option Sheet
 before_round sheet zero = None
 before_round sheet (suc before) =

@@ -26,7 +26,7 @@ colour_of c = if c == byte "W" then Some White else (if c == byte "B" then Some 
 abbrev pub is_no_colour : ℕ → Bool
 is_no_colour c = (c == byte "-") || (c == byte " ")
 
--- without an opponent: blank, H, F, U or Z
+-- without an opponent and a colour: a blank says nothing of the round, and H, F, U and Z are byes [TRF16, columns 92 to 99]
 abbrev pub bye_cell : ℕ → Option Cell
 bye_cell result =
     if result == byte " " then Some Blank
@@ -35,13 +35,13 @@ bye_cell result =
     else (if result == byte "U" then Some (Bye Allocated)
     else (if result == byte "Z" then Some (Bye Zero) else None))))
 
--- a game that was not played: + or -
+-- with an opponent, and with a colour or none: + is a forfeit that was won, and - one that was not [TRF16, columns 92 to 99]
 abbrev pub forfeit_cell : ℕ → Option Colour → ℕ → Option Cell
 forfeit_cell opponent colour result =
     if result == byte "+" then Some (Forfeit opponent colour true)
     else (if result == byte "-" then Some (Forfeit opponent colour false) else None)
 
--- whether a game is rated, and how it ended: 1, = or 0 where it is rated, W, D or L where it is not
+-- whether a game is rated, and how it ended: 1, = or 0 where it is rated, W, D or L where it is not [with game_cell]
 abbrev pub outcome_of : ℕ → Option (Bool × GameOutcome)
 outcome_of result =
     if result == byte "1" then Some (true, Win)
@@ -51,7 +51,8 @@ outcome_of result =
     else (if result == byte "D" then Some (false, Draw)
     else (if result == byte "L" then Some (false, Loss) else None)))))
 
--- with an opponent and a colour: a game with its result, one without a result yet where that is blank, or a forfeit
+-- with an opponent and a colour: a game with its result, a game without a result yet where that is blank, or a forfeit [TRF16, columns 92
+-- to 99]
 abbrev pub game_cell : ℕ → Colour → ℕ → Option Cell
 game_cell opponent colour result =
     if result == byte " " then Some (Unfinished opponent colour)
@@ -74,7 +75,8 @@ opponent_in [] = Some None
 opponent_in (word ∷ []) = option_and_then (λ n. Some (opponent_of n)) (number_of word)
 opponent_in _ = None
 
--- the cell that three fields spell: opponent, colour and result
+-- the cell that three fields spell, with letters in either case: an opponent, a colour and a result [TRF16, columns 92 to 99 and every ten
+-- further]
 abbrev pub cell_from : List ℕ → List ℕ → List ℕ → Option Cell
 cell_from opponent colour result =
     option_and_then (λ o. option_and_then (λ c. option_and_then (λ r. cell_of o c r) (mark_in result)) (mark_in colour)) (opponent_in (words opponent))

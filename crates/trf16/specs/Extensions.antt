@@ -9,7 +9,7 @@ use Rattle.trf16.specs.Fields.{words, number_of, number_in}
 use Rattle.trf16.specs.declared.cell.Colour.{Colour}
 use Rattle.trf16.specs.declared.cell.Colour.TheVariants.{White, Black}
 
--- two words are the same but for the case of their letters
+-- two words are the same but for the case of their letters [with colour_in]
 abbrev pub is_word : List ℕ → List ℕ → Bool
 is_word word capitals = bytes_eq (map to_ascii_lowercase word) (map to_ascii_lowercase capitals)
 
@@ -25,18 +25,18 @@ words_of line = words (joined (drop 3 line))
 abbrev pub positive : ℕ → Option ℕ
 positive n = if n == 0 then None else Some n
 
--- XXR: the number of rounds is one word
+-- XXR: the number of rounds is one word, a number over 0 [TRF16 extensions]
 abbrev pub rounds_in : List (List ℕ) → Option ℕ
 rounds_in all = option_and_then positive (number_in all)
 
--- XXC: what a word names: white1 the initial colour white, black1 black, and rank no colour
+-- what a word of XXC names: white1 the initial colour white, black1 black, and rank no colour [with colour_in]
 abbrev pub colour_named : List ℕ → Option (Option Colour)
 colour_named word =
     if is_word word (codes "WHITE1") then Some (Some White)
     else (if is_word word (codes "BLACK1") then Some (Some Black)
     else (if is_word word (codes "RANK") then Some None else None))
 
--- what two name together, who do not name both colours
+-- what two name together: they do not name both colours
 abbrev pub named_together : Option Colour → Option Colour → Option (Option Colour)
 named_together (Some White) (Some Black) = None
 named_together (Some Black) (Some White) = None
@@ -52,12 +52,14 @@ abbrev pub colour_behind_all : Option Colour → List (List ℕ) → Option (Opt
 colour_behind_all initial [] = Some initial
 colour_behind_all initial (word ∷ rest) = option_and_then (λ next. colour_behind_all next rest) (colour_behind initial word)
 
--- the same behind the words of a line, of which there is at least one
+-- XXC: the initial colour that the words of a line name, of which there is at least one, together with what the lines in front of it name
+-- [TRF16 extensions]
 abbrev pub colour_in : Option Colour → List (List ℕ) → Option (Option Colour)
 colour_in initial [] = None
 colour_in initial (word ∷ rest) = colour_behind_all initial (word ∷ rest)
 
--- XXZ and XXP: each word is a start rank: of a player who is absent from the next round, or of one of those who do not meet in it
+-- XXZ and XXP: each word is a number over 0; those that XXZ names are absent from the next round, and those that one XXP names do not meet
+-- in it [TRF16 extensions; own]
 abbrev pub are_start_ranks : List (List ℕ) → Bool
 are_start_ranks all = list_all (λ word. option_map_or (λ n. nat_lt 0 n) (number_of word) false) all
 

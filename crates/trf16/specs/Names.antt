@@ -10,11 +10,11 @@ use Rattle.trf16.specs.Sheet.{Entry, Sheet}
 abbrev pub name_of : Bool → Entry → List ℕ
 name_of utf8 entry = without_blanks (text (columns utf8 entry.left) 7 39)
 
--- the player with a start rank
+-- the player with a start rank [with name_in]
 abbrev pub player_of : List Entry → ℕ → Option Entry
 player_of [] start = None
 player_of (entry ∷ rest) start = if entry.start == start then Some entry else player_of rest start
 
--- the name of the player with a start rank; empty where no player has it
+-- the name of the player with a start rank, without the blanks at its ends; empty where no player has it [TRF16, columns 15 to 47]
 abbrev pub name_in : Sheet → ℕ → List ℕ
 name_in sheet start = option_map_or (name_of sheet.utf8) (player_of sheet.players start) []

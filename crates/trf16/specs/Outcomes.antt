@@ -14,7 +14,7 @@ abbrev pub Fails : {Y : Type 0} → Fault → Result Y Fault → Type 0
 Fails OutOfMemory given = Unit {0}
 Fails fault given = given ≡ Err fault
 
--- what a call answers is what the definition gives, seen by `view`, or memory was refused
+-- what a call answers is what the definition gives, seen by `view`, or memory was refused [own]
 abbrev pub Gives : {X Y : Type 0} → (X → Y) → Result X Fault → Result Y Fault → Type 0
 Gives view (Ok x) given = given ≡ Ok (view x)
 Gives view (Err fault) given = Fails fault given

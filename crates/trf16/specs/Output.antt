@@ -11,7 +11,7 @@ pub record Use : Type 0 where
   pub failures_before : ℕ
   pub failures_after : ℕ
 
--- a device before and after, by the members that say its bytes and its failures
+-- a device before and after, by the members that say its bytes and its failures [own]
 abbrev pub use_of : {D : Type 0} → (D → Option (List ℕ)) → (D → ℕ) → D → D → Use
 use_of bytes failures old new = record {
   before = bytes old;
@@ -42,7 +42,7 @@ pub record HasPart (text : List ℕ) (sink : Use) : Type 0 where
   pub written : Appends sink.before sink.after part
   pub failed : HasFailed sink
 
--- the text was put, or the sink failed before its end
+-- the text was put whole; or a call of the sink failed, and a part of the text was put that ends before it does [own]
 abbrev pub Puts : {T E : Type 0} → List ℕ → Use → Result T E → Type 0
 Puts text sink (Ok _) = HasText text sink
 Puts text sink (Err _) = HasPart text sink

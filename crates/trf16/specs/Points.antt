@@ -12,7 +12,7 @@ SpellsHalf (mark ∷ digit ∷ []) half =
     ((mark ≡ byte ".") ⊎ (mark ≡ byte ",")) × (((digit ≡ byte "0") × (half ≡ 0)) ⊎ ((digit ≡ byte "5") × (half ≡ 1)))
 SpellsHalf _ half = ⊥
 
--- a word is digits, and behind them a half point or none: digits of a number whose digits in front are read
+-- a word is digits, and behind them a half point or none: digits of a number whose digits in front are read [with points_of]
 pub record SpellsPoints (front : ℕ) (word : List ℕ) (points : ℕ) : Type 0 where
   pub digits : List ℕ
   pub behind : List ℕ

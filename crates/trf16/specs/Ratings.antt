@@ -6,8 +6,8 @@ use Rattle.trf16.specs.Fields.{words, number_in, without_blanks}
 use Rattle.trf16.specs.Extensions.{is_word}
 use Rattle.trf16.specs.Sheet.{Entry}
 
--- the rating in columns 49 to 52 of a player's line: digits between blanks, and 0 where something else stands there; what is carried of
--- the line begins with column 9, so these are its columns 41 to 44
+-- the rating in columns 49 to 52 of a player's line: digits between blanks, and 0 where something else stands there; what is carried of the
+-- line begins with column 9, so these are its columns 41 to 44 [TRF16, columns 49 to 52]
 abbrev pub rating_of : Bool → Entry → ℕ
 rating_of utf8 entry = option_map_or (λ rating. rating) (number_in (words (text (columns utf8 entry.left) 41 44))) 0
 
@@ -28,7 +28,8 @@ place_among (first ∷ rest) word = if is_word word first then 0 else place_amon
 abbrev pub higher_titles : Bool → Entry → ℕ
 higher_titles utf8 entry = place_among titles (title_of utf8 entry)
 
--- whether one player goes before another: by the higher rating, then by the higher title, then by the start rank that they have
+-- whether one player goes before another: by the higher rating, then by the higher title of GM, IM, WGM, FM, WIM, CM, WFM, WCM and none of
+-- these, then by the lower start rank [C.04.2; own]
 abbrev pub goes_before : Bool → Entry → Entry → Bool
 goes_before utf8 a b =
     if rating_of utf8 a == rating_of utf8 b

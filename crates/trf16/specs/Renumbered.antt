@@ -16,7 +16,7 @@ use Rattle.trf16.specs.declared.cell.Cell.TheVariants.{Blank, Bye, Game, Forfeit
 
 -- ---- under a map of numbers, which is 0 where a number has no new one
 
--- a cell that names the new number of its opponent
+-- a cell that names the new number of its opponent [with renumbered]
 abbrev pub renumbered_cell : (ℕ → ℕ) → Cell → Cell
 renumbered_cell new Blank = Blank
 renumbered_cell new (Bye bye) = Bye bye
@@ -41,7 +41,8 @@ renumbered_word new word = option_map_or (λ n. number_behind (new n)) (number_o
 abbrev pub names_start_ranks : List (List ℕ) → Bool
 names_start_ranks line = is_kind (codes "XXZ") line || is_kind (codes "XXP") line
 
--- a line XXZ or XXP with the new numbers behind its first three columns; other lines as they stand
+-- a line XXZ or XXP with the new numbers of those that have one, each behind a blank, behind its first three columns; other lines as they
+-- stand [with renumbered]
 abbrev pub renumbered_line : Bool → (ℕ → ℕ) → List ℕ → List ℕ
 renumbered_line utf8 new line =
     let cols = columns utf8 line in
@@ -60,20 +61,21 @@ renumbered_by new sheet = record sheet {
 abbrev pub rank_among : Bool → List Entry → Entry → ℕ
 rank_among utf8 players entry = count_by (λ other. goes_before utf8 other entry) players + 1
 
--- the new start rank of the player with an old one; 0 where no player has the old one
+-- the new start rank of the player with an old one, which is one more than how many go before them; 0 where no player has the old one
+-- [C.04.2]
 abbrev pub new_start : Sheet → ℕ → ℕ
 new_start sheet start = option_map_or (rank_among sheet.utf8 sheet.players) (player_of sheet.players start) 0
 
--- a report whose start ranks are 1, 2 and so on by rating, title and the old start rank
+-- a report with the new start ranks in place of the old ones, of players and of opponents [own]
 abbrev pub renumbered : Sheet → Sheet
 renumbered sheet = renumbered_by (new_start sheet) sheet
 
 -- ---- lines that keep a report from being renumbered
 
--- a line that names players in a way that is not read: 013, which names the players of a team, or XXA, which names one
+-- a line that names players in a way that is not read: 013, which names the players of a team, or XXA, which names one [with first_unread]
 abbrev pub names_unread : List (List ℕ) → Bool
 names_unread line = is_kind (codes "013") line || is_kind (codes "XXA") line
 
--- the number of the first such line, from 1
+-- the number of the first line that names players in a way that is not read, from 1 [own]
 abbrev pub first_unread : Sheet → Option ℕ
 first_unread sheet = first_at names_unread sheet.utf8 1 sheet.carried

@@ -10,13 +10,13 @@ use Rattle.trf16.specs.declared.cell.Cell.{Cell}
 use Rattle.trf16.specs.declared.cell.Cell.TheVariants.{Blank, Bye, Unfinished}
 use Rattle.trf16.specs.declared.limits.TheConstants.{MOST_ROUNDS}
 
--- the start ranks that some boards name, white and then black; where black is 0, white has the bye
+-- the start ranks that some boards name, white and then black; where black is 0, white has the bye [with CanBePaired]
 abbrev pub named_by : List (ℕ × ℕ) → List ℕ
 named_by [] = []
 named_by (board ∷ rest) = if board.1 == 0 then board.0 ∷ named_by rest else board.0 ∷ board.1 ∷ named_by rest
 
--- some boards can be the next round: whoever they name is a player of the report, is present, and is named once; and no round
--- comes behind the last that a report may have
+-- some boards can be the next round: whoever they name is a player of the report, is present, and is named once; and no round comes behind
+-- the last that a report may have [own]
 pub record CanBePaired (boards : List (ℕ × ℕ)) (sheet : Sheet) : Type 0 where
   pub players : All (λ start. known sheet start ≡ true) (named_by boards)
   pub present : All (λ start. absent sheet start ≡ false) (named_by boards)
@@ -52,6 +52,7 @@ entry_with bye boards before entry =
     let cells = cells_with boards before entry in
     record entry { points = option_map (λ _. sum_by (half_points bye) (take (before + 1) cells)) entry.points; cells = cells }
 
--- a report whose next round some boards are
+-- a report whose next round some boards are: whom a board names has a game without a result there, or U where black is 0; every points
+-- field that is not blank is the sum up to that round; all else is as it was [TRF16; own]
 abbrev pub with_round : List (ℕ × ℕ) → Sheet → Sheet
 with_round boards sheet = record sheet { players = map (entry_with sheet.bye boards (rounds_played sheet)) sheet.players }

@@ -10,8 +10,8 @@ use Rattle.trf16.specs.declared.cell.Bye.TheVariants.{Half, Full, Allocated, Zer
 use Rattle.trf16.specs.declared.cell.Cell.{Cell}
 use Rattle.trf16.specs.declared.cell.Cell.TheVariants.{Blank, Bye, Game, Forfeit, Unfinished}
 
--- what the line of a player says: the start rank, the line's number, the points field in half points, the carried columns 9 to 80
--- and 85 to 89 without the blanks at their ends, and the cells up to the last that is not blank
+-- what the line of a player says: the start rank, the line's number, the points field in half points, the carried columns 9 to 80 and 85 to
+-- 89 without the blanks at their ends, and the cells up to the last that is not blank [TRF16, line 001]
 pub record Entry : Type 0 where
   pub start : ℕ
   pub line : ℕ
@@ -20,9 +20,9 @@ pub record Entry : Type 0 where
   pub right : List ℕ
   pub cells : List Cell
 
--- a report: whether its columns are characters, each of its lines that is carried (none at the line of a player), its players in
--- the order of their lines, the total of rounds where a line XXR names it, the initial colour where a line XXC names it, and how many
--- half points the pairing-allocated bye gives
+-- a report: whether its columns are characters, each of its lines that is carried (none at the line of a player), its players in the order
+-- of their lines, the total of rounds where a line XXR names it, the initial colour where a line XXC names it, and how many half points the
+-- pairing-allocated bye gives [TRF16]
 pub record Sheet : Type 0 where
   pub utf8 : Bool
   pub carried : List (Option (List ℕ))
@@ -31,7 +31,7 @@ pub record Sheet : Type 0 where
   pub initial : Option Colour
   pub bye : ℕ
 
--- what a player is, wherever it lies in memory
+-- what a player is, wherever it lies in memory [with Entry]
 abbrev pub entry_of : Player → Entry
 entry_of p = record { start = p.start; line = p.line; points = p.points; left = p.left.now; right = p.right.now; cells = p.cells.items }
 
@@ -39,24 +39,24 @@ entry_of p = record { start = p.start; line = p.line; points = p.points; left = 
 abbrev pub with_player : Sheet → Entry → Sheet
 with_player sheet entry = record sheet { players = sheet.players ++ entry ∷ [] }
 
--- whether a start rank is that of a player
+-- whether a start rank is that of a player [TRF16, columns 5 to 8]
 abbrev pub known : Sheet → ℕ → Bool
 known sheet start = list_any (λ entry. entry.start == start) sheet.players
 
--- a line that is carried, which counts from 1; none at the line of a player and behind the last line
+-- a line that is carried, which counts from 1; none at the line of a player and behind the last line [own]
 abbrev pub carried_in : Sheet → ℕ → Option (List ℕ)
 carried_in sheet n = slice_index_or sheet.carried (n - 1) None
 
--- the cell of a round, which counts from 1; past the last it is blank
+-- the cell of a round, which counts from 1; past the last it is blank [with cell_in]
 abbrev pub cell_at : List Cell → ℕ → Cell
 cell_at cells round = slice_index_or cells (round - 1) Blank
 
--- the cells of the player with a start rank
+-- the cells of the player with a start rank; none where no player has it [with cell_in]
 abbrev pub cells_of : List Entry → ℕ → List Cell
 cells_of [] start = []
 cells_of (entry ∷ rest) start = if entry.start == start then entry.cells else cells_of rest start
 
--- the cell of a player in a round
+-- the cell of a player in a round [TRF16]
 abbrev pub cell_in : Sheet → ℕ → ℕ → Cell
 cell_in sheet start round = cell_at (cells_of sheet.players start) round
 
@@ -81,7 +81,7 @@ abbrev pub last_paired_of : List Entry → ℕ
 last_paired_of [] = 0
 last_paired_of (entry ∷ rest) = max (last_paired entry.cells) (last_paired_of rest)
 
--- how many rounds were paired: up to the last in which some cell names an opponent or is U (our own choice)
+-- how many rounds were paired: up to the last in which some cell names an opponent or is U [own]
 abbrev pub rounds_played : Sheet → ℕ
 rounds_played sheet = last_paired_of sheet.players
 
@@ -91,7 +91,8 @@ outcome_points Win = 2
 outcome_points Draw = 1
 outcome_points Loss = 0
 
--- the half points of a cell with an opponent: a forfeit win gives 2, a game without a result none; other cells give none here
+-- the half points of a cell with an opponent: a forfeit win gives 2, a game without a result none; other cells give none here [with
+-- half_points]
 abbrev pub game_points : Cell → ℕ
 game_points Blank = 0
 game_points (Bye kind) = 0
@@ -106,16 +107,17 @@ bye_points bye Full = 2
 bye_points bye Allocated = bye
 bye_points bye Zero = 0
 
--- the half points of a cell, where the pairing-allocated bye gives so many; a blank gives none (our own choice)
+-- the half points of a cell: a win, a forfeit win and F give 2, a draw and H give 1, U gives what the pairing-allocated bye is worth, and
+-- all else gives none [TRF16; own]
 abbrev pub half_points : ℕ → Cell → ℕ
 half_points bye (Bye kind) = bye_points bye kind
 half_points bye cell = game_points cell
 
--- the half points of a player in the rounds from 1 up to a given one
+-- the half points of a player in the rounds from 1 up to a given one [TRF16]
 abbrev pub points_upto : Sheet → ℕ → ℕ → ℕ
 points_upto sheet start upto = sum_by (half_points sheet.bye) (take upto (cells_of sheet.players start))
 
--- the opponent that a cell names
+-- the opponent that a cell names, in a forfeit too [TRF16, columns 92 to 97]
 abbrev pub opponent_in_cell : Cell → Option ℕ
 opponent_in_cell Blank = None
 opponent_in_cell (Bye bye) = None
@@ -123,7 +125,7 @@ opponent_in_cell (Game opponent colour rated got) = Some opponent
 opponent_in_cell (Forfeit opponent colour won) = Some opponent
 opponent_in_cell (Unfinished opponent colour) = Some opponent
 
--- the colour that a cell names
+-- the colour that a cell names [with opponent_in_cell]
 abbrev pub colour_in_cell : Cell → Option Colour
 colour_in_cell Blank = None
 colour_in_cell (Bye bye) = None

@@ -16,14 +16,14 @@ all_cells_fit sheet (entry ∷ rest) = do
   _ ← cells_fit sheet entry.start 1 entry.cells
   all_cells_fit sheet rest
 
--- the report that a text is, or the first rule that it breaks, but for the last rule: the points fields are read, and not compared
+-- the verdict without its last rule: the points fields are read, and not compared [own]
 unfoldable pub verdict_unsummed : List ℕ → ℕ → Result Sheet Fault
 verdict_unsummed bytes bye = do
   sheet ← laid_out bytes bye
   _ ← all_cells_fit sheet sheet.players
   Ok sheet
 
--- a verdict is another one, or else it is that the points field of a player is no sum of their points
+-- a verdict is another one, or else it is that the points field of a player is no sum of their points [with verdict_unsummed]
 abbrev pub IsButForPoints : Result Sheet Fault → Result Sheet Fault → Type 0
 IsButForPoints verdict other = (verdict ≡ other) ⊎ ((start : ℕ) × (verdict ≡ Err (Points start)))
 
@@ -33,6 +33,6 @@ IsButForPoints verdict other = (verdict ≡ other) ⊎ ((start : ℕ) × (verdic
 abbrev pub entry_summed : ℕ → ℕ → Entry → Entry
 entry_summed bye rounds entry = record entry { points = Some (sum_by (half_points bye) (take rounds entry.cells)) }
 
--- a report in which each points field, blank or not, is the sum over the rounds that were paired
+-- a report in which each points field, blank or not, is the sum over the rounds that were paired [own]
 abbrev pub summed : Sheet → Sheet
 summed sheet = record sheet { players = map (entry_summed sheet.bye (rounds_played sheet)) sheet.players }

@@ -5,7 +5,7 @@ use Rattle.trf16.specs.declared.cell.Cell.{Cell}
 use Rattle.trf16.specs.declared.cell.Cell.TheVariants.{Unfinished}
 use Rattle.trf16.specs.Sheet.{Entry, Sheet}
 
--- a game without a result yet
+-- a game without a result yet [with unfinished]
 abbrev pub is_unfinished : Cell → Bool
 is_unfinished (Unfinished opponent colour) = true
 is_unfinished _ = false
@@ -20,6 +20,6 @@ abbrev pub unfinished_of : List Entry → Option (ℕ × ℕ)
 unfinished_of [] = None
 unfinished_of (entry ∷ rest) = option_map_or (λ round. Some (entry.start, round)) (first_unfinished 1 entry.cells) (unfinished_of rest)
 
--- the first game of a report without a result
+-- the first game without a result yet, by the order of the players' lines and then by round [own]
 abbrev pub unfinished : Sheet → Option (ℕ × ℕ)
 unfinished sheet = unfinished_of sheet.players

@@ -60,7 +60,7 @@ rounds_at n line before (suc more) = do
   others ← rounds_at n line (before + 1) more
   Ok (cell ∷ others)
 
--- a cell that says nothing
+-- a cell that says nothing of its round [with cell_from]
 abbrev pub is_blank_cell : Cell → Bool
 is_blank_cell Blank = true
 is_blank_cell _ = false
@@ -71,7 +71,8 @@ cells_at n line = do
   cells ← rounds_at n line 0 MOST_ROUNDS
   Ok (without_last is_blank_cell cells)
 
--- the player that line n names, behind those of the lines before
+-- what line 001 says, or the first of its rules that is broken: column 4 is blank; the start rank is 1 to 9999; no earlier line has it; the
+-- points; columns 90 and 91 are blank; then round by round the blank columns and the cell [TRF16, line 001; own]
 unfoldable pub player_at : Sheet → ℕ → List (List ℕ) → Result Entry Fault
 player_at sheet n line = do
   _ ← blank_at n line 4
@@ -111,7 +112,8 @@ player_onto sheet n line = do
   entry ← player_at sheet n line
   Ok (with_player sheet entry)
 
--- a report with what line n adds to it
+-- a report with what line n adds to it, or the fault of that line: 001 a player; XXR the total of rounds, which no earlier line may name;
+-- XXC the initial colour; each other line, XXZ and XXP among them, only that it is carried [TRF16; own]
 unfoldable pub line_onto : Sheet → ℕ → List (List ℕ) → Result Sheet Fault
 line_onto sheet n line =
     if is_player line then player_onto sheet n line
@@ -150,8 +152,8 @@ sized sheet too_long =
     else (if too_long || names_too_many_rounds sheet then Err (TooMany Rounds)
     else (if length sheet.players == 0 then Err NoPlayers else Ok sheet))
 
--- the report that a text is before the rules on its players are looked at, where the pairing-allocated bye gives so many half points; a
--- column is a character where the text is UTF-8, else a byte
+-- the report that a text is before the rules on its players are looked at, or the first rule that it breaks: at most 1,048,576 bytes; the
+-- faults of lines; at most 1,024 players; at most 64 rounds in the lines and on XXR; at least one player [TRF16; own]
 unfoldable pub laid_out : List ℕ → ℕ → Result Sheet Fault
 laid_out bytes bye =
     let utf8 = is_utf8 (without_marks bytes) in
@@ -159,7 +161,8 @@ laid_out bytes bye =
     if nat_lt MOST_BYTES (length bytes) then Err (TooMany Bytes)
     else (lines_onto (without_players utf8 all bye) 1 all >>= λ sheet. sized sheet (has_too_many_rounds utf8 all))
 
--- the report that a text is where the pairing-allocated bye gives so many half points, or the first rule that it breaks
+-- the report that a text is where the pairing-allocated bye gives so many half points, or the first rule that it breaks: those of
+-- `laid_out`; then, player by player, the cells and the points [TRF16; own]
 unfoldable pub verdict : List ℕ → ℕ → Result Sheet Fault
 verdict bytes bye = do
   sheet ← laid_out bytes bye

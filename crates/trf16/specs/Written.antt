@@ -18,7 +18,7 @@ use Rattle.trf16.specs.declared.cell.Cell.TheVariants.{Blank, Bye, Game, Forfeit
 abbrev pub blanks : ℕ → List ℕ
 blanks n = replicate n (byte " ")
 
--- a text at the right of four columns
+-- a text at the right of four columns [with written]
 abbrev pub right_in_four : List ℕ → List ℕ
 right_in_four text = blanks (4 - length text) ++ text
 
@@ -26,7 +26,7 @@ right_in_four text = blanks (4 - length text) ++ text
 abbrev pub left_in : Bool → ℕ → List ℕ → List ℕ
 left_in utf8 width text = text ++ blanks (width - length (columns utf8 text))
 
--- half points as points with one decimal
+-- half points as points with one decimal [with written]
 abbrev pub points_text : ℕ → List ℕ
 points_text points = decimal (points / 2) ++ (byte "." ∷ (if points % 2 == 0 then byte "0" else byte "5") ∷ [])
 
@@ -61,7 +61,7 @@ outcome_letter false Loss = byte "L"
 abbrev pub meeting_text : ℕ → Option Colour → ℕ → List ℕ
 meeting_text opponent colour result = right_in_four (decimal opponent) ++ (byte " " ∷ colour_letter colour ∷ byte " " ∷ result ∷ [])
 
--- the eight columns of a cell
+-- the eight columns of a cell [with written]
 abbrev pub cell_text : Cell → List ℕ
 cell_text Blank = blanks 8
 cell_text (Bye bye) = codes "0000 - " ++ (bye_letter bye ∷ [])
@@ -73,7 +73,7 @@ cell_text (Unfinished opponent colour) = meeting_text opponent (Some colour) (by
 abbrev pub round_text : Cell → List ℕ
 round_text cell = codes "  " ++ cell_text cell
 
--- the line of a player
+-- the line of a player in TRF16's columns, with numbers and points at the right of their fields [with written]
 abbrev pub player_text : Bool → Entry → List ℕ
 player_text utf8 entry =
     codes "001 " ++ (right_in_four (decimal entry.start) ++ (left_in utf8 72 entry.left ++ (points_field entry.points
@@ -86,6 +86,6 @@ lines_text utf8 (Some line ∷ rest) players = line ++ (byte "\n" ∷ lines_text
 lines_text utf8 (None ∷ rest) [] = lines_text utf8 rest []
 lines_text utf8 (None ∷ rest) (entry ∷ players) = player_text utf8 entry ++ (byte "\n" ∷ lines_text utf8 rest players)
 
--- the canonical text of a report
+-- the canonical text of a report: carried lines as they stand and the players' lines, each ended by LF, and no byte order mark [TRF16; own]
 abbrev pub written : Sheet → List ℕ
 written sheet = lines_text sheet.utf8 sheet.carried sheet.players
