@@ -5,6 +5,11 @@
 // right: who is paired with whom inside it follows from its base, and is worked out when it is unfolded. When you
 // change it, keep this: the label of a vertex counts for all its pairs, that of a blossom for the pairs inside it; no
 // pair's gain is above the labels that count for it, and pairs of the matching have just as much.
+//
+// A vertex has a label that is never below 0: what it costs to leave it over, less its potential. A pair gains at most
+// its two labels and those of the blossoms that hold both, and just as much if it is in the matching. A search ends
+// with a partner for its root, or with a vertex of label 0 that is left over in its place. So in the end whoever is
+// left over has a label of 0, and the certificate is worth what the matching costs.
 use crate::gains::Gains;
 use crate::places::Places;
 use dual::Wide;

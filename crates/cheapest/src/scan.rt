@@ -1,5 +1,5 @@
 // Which outer vertex is nearest to a vertex: by which pair the labels could come down least until they have just what
-// the pair gains.
+// the pair gains. The vertices of the greatest blossom leave this to the others. Each vertex asked about is a step.
 ghost use Rattle.std.specs.Prelude.{◌≡◌, ◌≤◌, IfErr};
 ghost use Rattle.cheapest.specs.declared.fault.Fault.TheVariants.{Stopped, TooGreat};
 

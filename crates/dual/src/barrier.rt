@@ -1,4 +1,5 @@
-// A barrier as a table of labels by the players' numbers: whether it tells that no list of pairs completes.
+// A barrier as a table of labels by the players' numbers: whether it tells that no list of pairs completes. It would
+// tell too much if it were forgotten that one player of an odd group may be left over.
 ghost use Rattle.std.specs.Prelude.{◌≡◌, ◌-◌, ◌&&◌, ◌↔◌, ◌≤◌, ℕ, List, true, All, IsTrue, length, slice_index};
 ghost use Rattle.std.specs.List.{list_any};
 ghost use Rattle.dual.specs.Matchings.{MakeUp, Completable};

@@ -1,5 +1,10 @@
 // The check of a certificate, pair by pair: what each pair, and each player left over, could bear beyond its
 // potentials.
+//
+// When you change it, mind that a floor is too high at once if a set counts for fewer pairs than can be inside it (one
+// of an even number can be full), if the slack of a pair counts twice, or if what a certificate gives away is
+// forgotten. That may be more than it gains: then the slack of known pairs makes up for it. A floor for any number of
+// players left over is too high if the certificate gives a pair less than twice what it gives a player left over.
 ghost use Rattle.std.specs.Prelude.{◌≡◌, ◌+◌, ◌*◌, ◌^◌, ◌<◌, ◌≤◌, ◌%◌, ◌↔◌, ℕ, true, All, IfOk, IfSome, IsSome, IsTrue};
 ghost use Rattle.std.specs.Prelude.{SomeIff};
 ghost use Rattle.std.specs.Prelude.{length, sum_by, slice_index};

@@ -1,5 +1,6 @@
 // A floor: what every matching costs at least, beside what is owed, and what each pair and each player left over adds
-// that is known of it.
+// that is known of it. It keeps what the check computed, so a caller asks it of one beginning after another, and
+// nothing is computed again.
 ghost use Rattle.std.specs.Prelude.{◌≡◌, [], slice_index_or};
 ghost use Rattle.dual.specs.Floors.{extra_in, extra_left_in};
 

@@ -1,4 +1,5 @@
-// Bits by place in words, specified by the test of each.
+// Bits by place in words, specified by the test of each. They say which numbers of a bracket have a place in a
+// beginning.
 ghost use Rattle.std.specs.Prelude.{◌≡◌, ◌*◌, ◌<◌, ℕ, true, length};
 ghost use Rattle.dutch_bracket.specs.BitTables.{has_bit};
 

@@ -1,4 +1,5 @@
-// A bracket with a shape that it has room for (C.04.3 B.1, C.5).
+// A bracket with a shape that it has room for (C.04.3 B.1, C.5). Whoever asks for both asks for one value of this
+// type.
 ghost use Rattle.dutch_bracket.specs.InContext.{FitsHere};
 
 use crate::context::Context;

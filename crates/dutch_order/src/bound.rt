@@ -1,4 +1,6 @@
-// What can tell that no candidate with a given beginning is of interest. Then a listing may leave them all out.
+// What can tell that no candidate with a given beginning is of interest. Then a listing may leave them all out. A
+// bound works its answer out in its `Room`, which the caller of the listing lends to each question: so no question
+// makes a list.
 ghost use Rattle.std.specs.Prelude.{◌≡◌, ℕ, Bool, true};
 ghost use Rattle.dutch_order.specs.Arrangements.{Arrangement, Frame, candidates};
 ghost use Rattle.dutch_sequence.specs.Exchanged.{IsExchange};

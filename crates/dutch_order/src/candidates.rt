@@ -4,6 +4,10 @@
 // Four levels list the arrangements whose pairs may meet. What is left to do here is the last question, whether those
 // whom an arrangement leaves over may be left over. An arrangement that was found is kept until that question is
 // answered.
+//
+// The levels fill a candidate that the caller lends (`put_next`, `put_next_within`), and a copy is kept as the cursor.
+// `next` and `next_within` make the candidate that they answer. A listing begins anew for another shape (`restart`),
+// so one listing serves all shapes of a bracket that are tried.
 ghost use Rattle.std.specs.Prelude.{◌≡◌, ◌++◌, ◌∷◌, [], Some, None, filter, length, not, ◌||◌, ◌&&◌, ◌-◌, ◌*◌, nat_lt};
 ghost use Rattle.std.specs.Prelude.{option_copied, true, false};
 ghost use Rattle.dutch_order.specs.Arrangements.{Fits, arrangements, candidates, down, leaves_one, rest};

@@ -1,5 +1,6 @@
 // What the levels of a listing and the search of their lists see of a bound: which beginnings lead to nothing of
-// interest.
+// interest. The room of the bound is lent once a call, as `Within`. That keeps it in a cell and lends it on to each
+// question, so no level and no search has to hand it down.
 ghost use Rattle.std.specs.Prelude.{◌≡◌, ℕ, List, false, true};
 ghost use Rattle.dutch_order.specs.Arrangements.{Arrangement, candidates};
 ghost use Rattle.dutch_sequence.specs.Exchanged.{IsExchange};

@@ -2,7 +2,8 @@
 // turn. Specified by the list of what is still to come.
 //
 // A level stands in a block, or between two of them. Each turn of its loop draws from the block, and asks for the next
-// block if that one has ended. If either call is stopped, what is left stays as it was.
+// block if that one has ended. If either call is stopped, what is left stays as it was. A level has one place for a
+// block, in which each of its blocks begins anew.
 ghost use Rattle.std.specs.Prelude.{◌≡◌, ℕ, List, [], ◌∷◌};
 ghost use Rattle.std.specs.List.{AllByRecursion};
 ghost use Rattle.dutch_order.specs.Arrangements.{Arrangement};

@@ -1,4 +1,4 @@
-// Who may meet whom (C.04.3 C.1, C.3).
+// Who may meet whom (C.04.3 C.1, C.3): who has met, who is kept apart, and whose absolute preferences clash.
 ghost use Rattle.std.specs.Prelude.{◌≡◌};
 ghost use Rattle.dutch_player.specs.SeatOf.{facts_in};
 ghost use Rattle.dutch_player.specs.Meetings.{has_met, have_met, is_kept_from, are_apart, is_absolute, clash};

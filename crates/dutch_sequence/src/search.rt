@@ -5,6 +5,9 @@
 // idle, all of them are passed over. So only idle paths are ever passed over, and it costs no step. When you change it,
 // keep this: a path is left only by setting its next number past all that its place tries, and if nothing is idle, each
 // trial is still made and counted.
+//
+// It makes no list, since it runs once for each trial: it has room for a beginning that is asked about, writes what it
+// finds into a list that it is handed (`put_next`), and begins anew in place, at the cost of what it held (`start`).
 ghost use Rattle.std.specs.Prelude.{◌≡◌, ◌+◌, ◌-◌, ◌<◌, ◌≤◌, ◌⊎◌, ℕ, List, None, Some, [], ◌∷◌, ◌++◌, length, true};
 ghost use Rattle.std.specs.Prelude.{false};
 ghost use Rattle.dutch_sequence.specs.Trials.{Plan, Tried, entry, below, ahead, hits, trials, lower, lowest};

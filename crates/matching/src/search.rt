@@ -1,6 +1,6 @@
 // The searches: from each vertex that is alone one, for a way to another such vertex on which every second pair is a
 // pair so far. Before them each vertex is paired with the first one that it can have, which saves most searches where
-// many are joined.
+// many are joined. Each vertex asked about is a step.
 ghost use Rattle.std.specs.Prelude.{◌≡◌, ◌≤◌, ◌<◌, ◌+◌, ◌*◌, Some, slice_set, IfSome, IfOk, OnErr};
 ghost use Rattle.std.specs.Option.{MatchOption};
 ghost use Rattle.std.specs.Result.{MatchResult};

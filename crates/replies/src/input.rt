@@ -1,4 +1,4 @@
-// The input of a run: all bytes of a source, in a counted number of calls.
+// The input of a run: all bytes of a source, or one byte more than a report may have, in a counted number of calls.
 ghost use Rattle.std.specs.Prelude.{◌≤◌, ◌+◌};
 ghost use Rattle.trf16.specs.Prelude.{use_of};
 ghost use Rattle.replies.specs.Input.{ReadsInput, most_read};

@@ -1,4 +1,5 @@
-// A place in the text of a report, in front of some of its notes.
+// A place in the text of a report, in front of some of its notes. It is a slice of the text, the number of a line, and
+// what is left to tell of that line. So there is no list, and no memory is taken.
 ghost use Rattle.std.specs.Prelude.{◌+◌, ◌<◌, ◌^◌, length};
 
 use crate::closing::ClosingLeft;

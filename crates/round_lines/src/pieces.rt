@@ -1,4 +1,5 @@
-// The pieces of which lines and sentences are put together.
+// The pieces of which a line and its sentence are put together, side by side: texts, numbers, players, and lists of
+// them. Each call that tells something names the pieces of both.
 ghost use Rattle.std.specs.Prelude.{◌≡◌, ◌++◌, OnOk};
 ghost use Rattle.std.specs.List.{flat_map};
 ghost use Rattle.round_lines.specs.Pieces.{piece_text, pieces_text};

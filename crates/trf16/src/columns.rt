@@ -1,4 +1,5 @@
-// The columns of a line: its characters if the text is UTF-8, otherwise its bytes.
+// The columns of a line: its characters if the text is UTF-8, otherwise its bytes. They are found once for each
+// player's line, as many as it has.
 ghost use Rattle.std.specs.Prelude.{◌≡◌, ℕ, ◌+◌, ◌-◌, ◌<◌, ◌≤◌, ◌∷◌, List, length, slice_index, take, drop, true};
 ghost use Rattle.std.specs.Prelude.{false, not, [], slice_index_or, IfOk};
 ghost use Rattle.trf16.specs.Lines.{columns, goes_on, text, joined, is_blank};

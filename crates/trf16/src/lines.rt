@@ -1,4 +1,4 @@
-// The lines of a text, one after the other.
+// The byte order marks in front of a text, and then its lines, one after the other.
 ghost use Rattle.std.specs.Prelude.{◌≡◌, ℕ, ◌<◌, ◌≤◌, ◌∷◌, length, slice_index, true, false};
 ghost use Rattle.trf16.specs.Lines.{without_marks, lines, ends_line};
 ghost use Rattle.trf16.specs.Steps.{behind_end};

@@ -1,4 +1,6 @@
-// A report made of another one: with other players, or with nobody absent by its lines `XXZ`.
+// A report made of another one: with other players, or with nobody absent by its lines `XXZ`. Of the lines `XXZ` of a
+// report as it stood before a round only the first three characters are carried (`bare_absences`), and nobody is noted
+// as absent by them.
 ghost use Rattle.std.specs.Prelude.{◌≡◌, IfOk, map, option_map};
 ghost use Rattle.std.specs.Map.{keys_of};
 ghost use Rattle.trf16.specs.BeforeRound.{line_back};

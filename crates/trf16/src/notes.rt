@@ -1,5 +1,6 @@
-// What the carried lines of a report say beside total and colour, noted while they are read: so no question walks the
-// text again.
+// What the carried lines of a report say beside total and colour: who is absent, the first line of each kind that is
+// not supported, and whether there is a line `XXP`. It is noted while they are read, so no question walks the text
+// again.
 use crate::start_ranks::StartRanks;
 
 /// Who is absent by a line `XXZ`, the first line of each kind that is not supported, and whether there is a line `XXP`.

@@ -4,7 +4,9 @@
 //! `write` gives the text, and what it writes reads back as the same report: so say the laws in `trf16_laws`. Nobody
 //! waits for this crate who only asks a report.
 //!
-//! A report that is made of another one borrows the same text. A call that takes memory says so if it is refused.
+//! A report that is made of another one borrows the same text. A call that takes memory says so if it is refused. The
+//! definitions of what is written, and of the reports that are made, stand in `trf16/specs`, since what is asked of a
+//! report speaks of them too.
 #![tactic(auto)]
 
 mod back;
