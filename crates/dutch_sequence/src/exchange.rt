@@ -98,16 +98,14 @@ impl Place {
 }
 
 /// The places of the numbers that a set has moved out, from the highest.
-fn out_places(pool: &[u16], k: usize, set: &[u16]) -> Path
-    requires few { length pool.now ≤ LIMIT }
-    requires enough { k ≤ length pool.now }
-    ensures places { result.items ≡ out_places pool.now k set.now }
-    ensures within { AllByRecursion (λ place. place < k) result.items }
-    ensures fits { length result.items ≤ k }
+fn out_places(sides: &Sides<'_>, set: &[u16]) -> Path
+    ensures places { result.items ≡ out_places sides.now.pool.now sides.now.k set.now }
+    ensures within { AllByRecursion (λ place. place < sides.now.k) result.items }
+    ensures fits { length result.items ≤ sides.now.k }
 {
     let mut places = ArrayVec::new();
-    for place in 0..k {
-        if !set.contains(&pool[k - 1 - place]) {
+    for place in 0..sides.k {
+        if !set.contains(&sides.pool[sides.k - 1 - place]) {
             places.push(place as u16);
         }
     }
@@ -115,16 +113,14 @@ fn out_places(pool: &[u16], k: usize, set: &[u16]) -> Path
 }
 
 /// The places of the numbers that a set has moved in, from the lowest.
-fn in_places(pool: &[u16], k: usize, set: &[u16]) -> Path
-    requires few { length pool.now ≤ LIMIT }
-    requires enough { k ≤ length pool.now }
-    ensures places { result.items ≡ in_places pool.now k set.now }
-    ensures within { AllByRecursion (λ place. place < length pool.now - k) result.items }
-    ensures fits { length result.items ≤ length pool.now - k }
+fn in_places(sides: &Sides<'_>, set: &[u16]) -> Path
+    ensures places { result.items ≡ in_places sides.now.pool.now sides.now.k set.now }
+    ensures within { AllByRecursion (λ place. place < length sides.now.pool.now - sides.now.k) result.items }
+    ensures fits { length result.items ≤ length sides.now.pool.now - sides.now.k }
 {
     let mut places = ArrayVec::new();
-    for place in 0..pool.len() - k {
-        if set.contains(&pool[k + place]) {
+    for place in 0..sides.pool.len() - sides.k {
+        if set.contains(&sides.pool[sides.k + place]) {
             places.push(place as u16);
         }
     }
@@ -132,22 +128,19 @@ fn in_places(pool: &[u16], k: usize, set: &[u16]) -> Path
 }
 
 /// Begins a search anew at a set: in the set's stage, and no difference above the set's is passed over.
-fn enter_at(pool: &[u16], k: usize, set: &[u16], place: &mut Place)
-    requires few { length pool.now ≤ LIMIT }
-    requires enough { k ≤ length pool.now }
-    ensures size { place.new.size ≡ length (out_places pool.now k set.now) }
-    ensures difference { place.new.difference ≡ exchange_difference pool.now k set.now }
-    ensures hint { place.new.hint.items ≡ exchange_path pool.now k set.now }
+fn enter_at(sides: &Sides<'_>, set: &[u16], place: &mut Place)
+    ensures size { place.new.size ≡ length (out_places sides.now.pool.now sides.now.k set.now) }
+    ensures difference { place.new.difference ≡ exchange_difference sides.now.pool.now sides.now.k set.now }
+    ensures hint { place.new.hint.items ≡ exchange_path sides.now.pool.now sides.now.k set.now }
     ensures path { place.new.descent.path.items ≡ [] }
-    ensures number { place.new.descent.number ≡ first_hint (exchange_path pool.now k set.now) }
-    ensures beyond { place.new.descent.beyond ≡ Some (suc (exchange_difference pool.now k set.now)) }
+    ensures number { place.new.descent.number ≡ first_hint (exchange_path sides.now.pool.now sides.now.k set.now) }
+    ensures beyond { place.new.descent.beyond ≡ Some (suc (exchange_difference sides.now.pool.now sides.now.k set.now)) }
 {
-    place.hint = out_places(pool, k, set);
-    let ins = in_places(pool, k, set);
+    place.hint = out_places(sides, set);
+    let ins = in_places(sides, set);
     place.size = place.hint.len();
-    let sides = Sides { pool, k };
-    let out = total_of(&sides, Side::Out, &place.hint);
-    place.difference = total_of(&sides, Side::In, &ins).saturating_sub(out);
+    let out = total_of(sides, Side::Out, &place.hint);
+    place.difference = total_of(sides, Side::In, &ins).saturating_sub(out);
     put_behind(&mut place.hint, &ins);
     place.descent.restart(first_hint(&place.hint));
     place.descent.beyond = Some(place.difference + 1);
@@ -155,34 +148,31 @@ fn enter_at(pool: &[u16], k: usize, set: &[u16], place: &mut Place)
 
 /// Goes on to the next stage, if there is one.
 #[tactic(auto, unfolding(crate::specs::Stages::stages_ahead))]
-fn next_stage(pool: &[u16], k: usize, place: &mut Place) -> bool
-    requires ascends { IsStrictlyIncreasing pool.now }
-    requires few { length pool.now ≤ LIMIT }
-    requires enough { k ≤ length pool.now }
+fn next_stage(sides: &Sides<'_>, place: &mut Place) -> bool
     requires spent { ahead (hinted place.old.hint.items
-        (exchange_plan pool.now k place.old.size place.old.difference)) place.old.descent.path.items
+        (exchange_plan sides.now.pool.now sides.now.k place.old.size place.old.difference)) place.old.descent.path.items
         place.old.descent.number
         ≡ [] }
-    requires standing { IsPlace pool.now k place.old }
-    ensures stands { IsPlace pool.now k place.new }
-    ensures sets { sets_from pool.now k place.new ≡ sets_from pool.now k place.old }
-    ensures trials { trials_from pool.now k place.new ≡ trials_from pool.now k place.old }
+    requires standing { IsPlace sides.now.pool.now sides.now.k place.old }
+    ensures stands { IsPlace sides.now.pool.now sides.now.k place.new }
+    ensures sets { sets_from sides.now.pool.now sides.now.k place.new ≡ sets_from sides.now.pool.now sides.now.k place.old }
+    ensures trials { trials_from sides.now.pool.now sides.now.k place.new ≡ trials_from sides.now.pool.now sides.now.k place.old }
     ensures nearer { result ≡ true
-        → stages_ahead pool.now k place.new.size place.new.difference
-        < stages_ahead pool.now k place.old.size place.old.difference }
-    ensures ended { result ≡ false → (sets_from pool.now k place.new ≡ []) × (trials_from pool.now k place.new ≡ 0) }
+        → stages_ahead sides.now.pool.now sides.now.k place.new.size place.new.difference
+        < stages_ahead sides.now.pool.now sides.now.k place.old.size place.old.difference }
+    ensures ended { result ≡ false → (sets_from sides.now.pool.now sides.now.k place.new ≡ []) × (trials_from sides.now.pool.now sides.now.k place.new ≡ 0) }
 {
     if let Some(next) = following_of(
         place.difference,
-        greatest_of(pool, k, place.size),
+        greatest_of(sides, place.size),
         place.descent.beyond,
     ) {
         place.enter(place.size, next);
         return true;
     }
-    if place.size < k.min(pool.len() - k) {
+    if place.size < sides.k.min(sides.pool.len() - sides.k) {
         let size = place.size + 1;
-        place.enter(size, least_of(pool, k, size));
+        place.enter(size, least_of(sides, size));
         return true;
     }
     false
@@ -190,29 +180,26 @@ fn next_stage(pool: &[u16], k: usize, place: &mut Place) -> bool
 
 /// Goes on to the next set, whose path the descent then has, unless the budget or the search ends before it.
 #[tactic(auto, unfolding(crate::specs::Stages::trials_ahead))]
-fn next_set(pool: &[u16], k: usize, place: &mut Place, budget: &mut Budget) -> Drawn
-    requires ascends { IsStrictlyIncreasing pool.now }
-    requires few { length pool.now ≤ LIMIT }
-    requires enough { k ≤ length pool.now }
-    requires standing { IsPlace pool.now k place.old }
-    ensures stands { IsPlace pool.now k place.new }
+fn next_set(sides: &Sides<'_>, place: &mut Place, budget: &mut Budget) -> Drawn
+    requires standing { IsPlace sides.now.pool.now sides.now.k place.old }
+    ensures stands { IsPlace sides.now.pool.now sides.now.k place.new }
     ensures answer { MatchDrawn result
-        ((sets_from pool.now k place.old
-        ≡ set_of pool.now k place.new.size place.new.descent.path.items ∷ sets_from pool.now k place.new)
+        ((sets_from sides.now.pool.now sides.now.k place.old
+        ≡ set_of sides.now.pool.now sides.now.k place.new.size place.new.descent.path.items ∷ sets_from sides.now.pool.now sides.now.k place.new)
         × (length place.new.descent.path.items ≡ place.new.size + place.new.size))
-        ((sets_from pool.now k place.old ≡ []) × (sets_from pool.now k place.new ≡ [])
-        × (trials_from pool.now k place.new ≡ 0))
-        ((sets_from pool.now k place.new ≡ sets_from pool.now k place.old)
-        × (budget.new.used ≡ budget.new.limit) × (0 < trials_from pool.now k place.new)) }
-    ensures steps { budget.new.used + trials_from pool.now k place.new
-        ≡ budget.old.used + trials_from pool.now k place.old }
+        ((sets_from sides.now.pool.now sides.now.k place.old ≡ []) × (sets_from sides.now.pool.now sides.now.k place.new ≡ [])
+        × (trials_from sides.now.pool.now sides.now.k place.new ≡ 0))
+        ((sets_from sides.now.pool.now sides.now.k place.new ≡ sets_from sides.now.pool.now sides.now.k place.old)
+        × (budget.new.used ≡ budget.new.limit) × (0 < trials_from sides.now.pool.now sides.now.k place.new)) }
+    ensures steps { budget.new.used + trials_from sides.now.pool.now sides.now.k place.new
+        ≡ budget.old.used + trials_from sides.now.pool.now sides.now.k place.old }
     ensures spends { Spends budget.old budget.new }
 {
     loop {
         let tree = Hinted {
             tree: ExchangeStage {
-                pool,
-                k,
+                pool: sides.pool,
+                k: sides.k,
                 size: place.size,
                 difference: place.difference,
             },
@@ -221,7 +208,7 @@ fn next_set(pool: &[u16], k: usize, place: &mut Place, budget: &mut Budget) -> D
         if climb_on(&tree, &mut place.descent, budget)? {
             return Ok(true);
         }
-        if !next_stage(pool, k, place) {
+        if !next_stage(sides, place) {
             return Ok(false);
         }
     }
@@ -354,7 +341,6 @@ fn cuts_beginning<C: CutsExchanges>(
     beginning: &[u16],
     numbers: &mut Numbers,
 ) -> bool
-    requires ascends { IsStrictlyIncreasing stage.now.pool.now }
     ensures { result ≡ true → (path : List ℕ) → GoesOn beginning.now path
         → IdleAt stage.now.pool.now stage.now.k (C.Idle cuts.now) stage.now.size stage.now.difference path }
 {
@@ -380,7 +366,6 @@ fn cuts_beginning<C: CutsExchanges>(
 struct OfStage<'c, C> {
     stage: &'c ExchangeStage<'c>,
     cuts: &'c C,
-    ghost ascends: { IsStrictlyIncreasing stage.now.pool.now },
 }
 
 impl<'c, C: CutsExchanges> CutsPaths for OfStage<'c, C> {
@@ -405,7 +390,6 @@ fn leave_stage<C: CutsExchanges>(
     descent: &mut Descent,
     budget: &mut Budget,
 ) -> Result<(), Stopped>
-    requires ascends { IsStrictlyIncreasing tree.now.tree.pool.now }
     requires standing { Stands (hinted tree.now.hint.now.items (exchange_plan tree.now.tree.pool.now tree.now.tree.k
         tree.now.tree.size tree.now.tree.difference)) descent.old.path.items }
     ensures path { descent.new.path.items ≡ descent.old.path.items }
@@ -442,7 +426,6 @@ fn climb_stage<C: CutsExchanges>(
     descent: &mut Descent,
     budget: &mut Budget,
 ) -> Drawn
-    requires ascends { IsStrictlyIncreasing tree.now.tree.pool.now }
     requires standing { Stands (hinted tree.now.hint.now.items (exchange_plan tree.now.tree.pool.now tree.now.tree.k
         tree.now.tree.size tree.now.tree.difference)) descent.old.path.items }
     ensures stands { Stands (hinted tree.now.hint.now.items (exchange_plan tree.now.tree.pool.now tree.now.tree.k
@@ -477,9 +460,6 @@ fn next_set_past<C: CutsExchanges>(
     place: &mut Place,
     budget: &mut Budget,
 ) -> Drawn
-    requires ascends { IsStrictlyIncreasing sides.now.pool.now }
-    requires few { length sides.now.pool.now ≤ LIMIT }
-    requires enough { sides.now.k ≤ length sides.now.pool.now }
     requires standing { IsPlace sides.now.pool.now sides.now.k place.old }
     ensures stands { IsPlace sides.now.pool.now sides.now.k place.new }
     ensures answer { let before = sets_from sides.now.pool.now sides.now.k place.old in
@@ -505,52 +485,46 @@ fn next_set_past<C: CutsExchanges>(
         if climb_stage(&tree, cuts, &mut place.descent, budget)? {
             return Ok(true);
         }
-        if !next_stage(sides.pool, sides.k, place) {
+        if !next_stage(sides, place) {
             return Ok(false);
         }
     }
 }
 
 /// Fills a list with the original numbers that were not moved out, lowest first.
-fn put_kept(pool: &[u16], k: usize, outs: &[u16], numbers: &mut Numbers)
-    requires few { length pool.now ≤ LIMIT }
-    requires enough { k ≤ length pool.now }
-    ensures items { numbers.new.items ≡ kept_of pool.now k outs.now }
-    ensures fits { length numbers.new.items ≤ k }
+fn put_kept(sides: &Sides<'_>, outs: &[u16], numbers: &mut Numbers)
+    ensures items { numbers.new.items ≡ kept_of sides.now.pool.now sides.now.k outs.now }
+    ensures fits { length numbers.new.items ≤ sides.now.k }
 {
     numbers.clear();
-    for position in 0..k {
-        let place = k - 1 - position;
+    for position in 0..sides.k {
+        let place = sides.k - 1 - position;
         if !outs.contains(&(place as u16)) {
-            numbers.push(pool[position]);
+            numbers.push(sides.pool[position]);
         }
     }
 }
 
 /// Puts the numbers moved in behind others.
-fn put_moved_in(pool: &[u16], k: usize, ins: &[u16], numbers: &mut Numbers)
-    requires few { length pool.now ≤ LIMIT }
-    requires enough { k ≤ length pool.now }
-    requires within { AllByRecursion (λ place. place < length pool.now - k) ins.now }
+fn put_moved_in(sides: &Sides<'_>, ins: &[u16], numbers: &mut Numbers)
+    requires within { AllByRecursion (λ place. place < length sides.now.pool.now - sides.now.k) ins.now }
     requires room { length numbers.old.items + length ins.now ≤ LIMIT }
-    ensures { numbers.new.items ≡ numbers.old.items ++ map (value_of pool.now k In) ins.now }
+    ensures { numbers.new.items ≡ numbers.old.items ++ map (value_of sides.now.pool.now sides.now.k In) ins.now }
 {
     for place in ins {
-        numbers.push(pool[k + *place as usize]);
+        numbers.push(sides.pool[sides.k + *place as usize]);
     }
 }
 
 /// Fills a list with the set that a whole search has found.
-fn put_set(pool: &[u16], k: usize, place: &Place, numbers: &mut Numbers)
-    requires few { length pool.now ≤ LIMIT }
-    requires enough { k ≤ length pool.now }
-    requires standing { IsPlace pool.now k place.now }
+fn put_set(sides: &Sides<'_>, place: &Place, numbers: &mut Numbers)
+    requires standing { IsPlace sides.now.pool.now sides.now.k place.now }
     requires whole { length place.now.descent.path.items ≡ place.now.size + place.now.size }
-    ensures { numbers.new.items ≡ set_of pool.now k place.now.size place.now.descent.path.items }
+    ensures { numbers.new.items ≡ set_of sides.now.pool.now sides.now.k place.now.size place.now.descent.path.items }
 {
     let (outs, ins) = place.descent.path.split_at(place.size);
-    put_kept(pool, k, outs, numbers);
-    put_moved_in(pool, k, ins, numbers);
+    put_kept(sides, outs, numbers);
+    put_moved_in(sides, ins, numbers);
 }
 
 /// The sets of `k` numbers of a pool, in the order of exchanges between the original set, which is the first `k`
@@ -650,7 +624,7 @@ impl Exchanges {
     {
         fill(&mut self.pool, pool);
         self.k = k;
-        enter_at(pool, k, set, &mut self.place);
+        enter_at(&Sides { pool, k }, set, &mut self.place);
     }
 
     /// Fills a list with the next one, but sets that the cuts know to be idle may be skipped: they are asked about each
@@ -675,7 +649,7 @@ impl Exchanges {
         if !next_set_past(&sides, cuts, &mut self.place, budget)? {
             return Ok(false);
         }
-        put_set(&self.pool, self.k, &self.place, numbers);
+        put_set(&sides, &self.place, numbers);
         Ok(true)
     }
 }
@@ -684,10 +658,14 @@ impl Generator for Exchanges {
     ghost ahead = { λ t. t };
 
     fn put_next(&mut self, numbers: &mut Numbers, budget: &mut Budget) -> Drawn {
-        if !next_set(&self.pool, self.k, &mut self.place, budget)? {
+        let sides = Sides {
+            pool: &self.pool,
+            k: self.k,
+        };
+        if !next_set(&sides, &mut self.place, budget)? {
             return Ok(false);
         }
-        put_set(&self.pool, self.k, &self.place, numbers);
+        put_set(&sides, &self.place, numbers);
         Ok(true)
     }
 }

@@ -2,6 +2,7 @@
 ghost use Rattle.dutch_sequence.specs.declared.numbers.TheConstants.{LIMIT};
 ghost use Rattle.std.specs.Prelude.{◌≡◌, ◌+◌, ◌*◌, ◌-◌, ◌<◌, ◌≤◌, length, take, drop};
 ghost use Rattle.std.specs.List.{AllByRecursion};
+ghost use Rattle.std.specs.List.Sorted.{IsStrictlyIncreasing};
 ghost use Rattle.dutch_sequence.specs.Sides.{count_of};
 ghost use Rattle.dutch_sequence.specs.Stages.{least_at, greatest_at, least_difference, greatest_difference, exchange_plan};
 ghost use Rattle.dutch_sequence.specs.declared.exchange.Side.TheVariants.{In, Out};
@@ -81,6 +82,7 @@ pub struct ExchangeStage<'a> {
     pub k: usize,
     pub size: usize,
     pub difference: usize,
+    pub ghost ascends: { IsStrictlyIncreasing pool.now },
     pub ghost few: { length pool.now ≤ LIMIT },
     pub ghost enough: { k ≤ length pool.now },
     pub ghost outs: { size ≤ k },
@@ -144,26 +146,20 @@ impl<'a> Tree for ExchangeStage<'a> {
 }
 
 /// The least difference of the sums of exchanges of so many.
-pub fn least_of(pool: &[u16], k: usize, size: usize) -> usize
-    requires few { length pool.now ≤ LIMIT }
-    requires enough { k ≤ length pool.now }
-    requires outs { size ≤ k }
-    requires ins { size ≤ length pool.now - k }
-    ensures { result ≡ least_difference pool.now k size }
+pub fn least_of(sides: &Sides<'_>, size: usize) -> usize
+    requires outs { size ≤ sides.now.k }
+    requires ins { size ≤ length sides.now.pool.now - sides.now.k }
+    ensures { result ≡ least_difference sides.now.pool.now sides.now.k size }
 {
-    let sides = Sides { pool, k };
-    run_of(&sides, Side::In, 0, size).saturating_sub(run_of(&sides, Side::Out, 0, size))
+    run_of(sides, Side::In, 0, size).saturating_sub(run_of(sides, Side::Out, 0, size))
 }
 
 /// The greatest one.
-pub fn greatest_of(pool: &[u16], k: usize, size: usize) -> usize
-    requires few { length pool.now ≤ LIMIT }
-    requires enough { k ≤ length pool.now }
-    requires outs { size ≤ k }
-    requires ins { size ≤ length pool.now - k }
-    ensures { result ≡ greatest_difference pool.now k size }
+pub fn greatest_of(sides: &Sides<'_>, size: usize) -> usize
+    requires outs { size ≤ sides.now.k }
+    requires ins { size ≤ length sides.now.pool.now - sides.now.k }
+    ensures { result ≡ greatest_difference sides.now.pool.now sides.now.k size }
 {
-    let sides = Sides { pool, k };
-    let most_in = run_of(&sides, Side::In, pool.len() - k - size, size);
-    most_in.saturating_sub(run_of(&sides, Side::Out, k - size, size))
+    let most_in = run_of(sides, Side::In, sides.pool.len() - sides.k - size, size);
+    most_in.saturating_sub(run_of(sides, Side::Out, sides.k - size, size))
 }

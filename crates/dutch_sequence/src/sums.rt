@@ -1,18 +1,23 @@
 // Sums of the numbers at places of one side of an exchange.
 ghost use Rattle.std.specs.Prelude.{◌≡◌, ◌+◌, ◌*◌, ◌-◌, ◌<◌, ◌≤◌, ℕ, [], ◌∷◌, length, map, slice_index};
 ghost use Rattle.std.specs.List.{AllByRecursion};
+ghost use Rattle.std.specs.List.Sorted.{IsStrictlyIncreasing};
 ghost use Rattle.dutch_sequence.specs.Choices.{numbers_from};
 ghost use Rattle.dutch_sequence.specs.Stages.{value_of, total, run};
+ghost use Rattle.dutch_sequence.specs.declared.numbers.TheConstants.{LIMIT};
 ghost use Rattle.dutch_sequence.specs.Sides.{count_of};
 
 use crate::exchange::Side;
 use crate::numbers::LIMIT;
 
-/// The numbers that exchanges are made of, lowest first: the original set is the first `k` of them.
+/// The numbers that exchanges are made of, lowest first: at most `LIMIT`, of which the first `k` are the original set.
 #[derive(Clone, Copy)]
 pub struct Sides<'a> {
     pub pool: &'a [u16],
     pub k: usize,
+    pub ghost ascends: { IsStrictlyIncreasing pool.now },
+    pub ghost few: { length pool.now ≤ LIMIT },
+    pub ghost enough: { k ≤ length pool.now },
 }
 
 /// A number of a pool.
@@ -26,8 +31,7 @@ fn number_at(pool: &[u16], index: usize) -> usize
 
 /// The number at a place of a side.
 pub fn value_at(sides: &Sides<'_>, side: Side, place: usize) -> usize
-    requires few { sides.now.k ≤ length sides.now.pool.now }
-    requires within { place < count_of sides.now.pool.now sides.now.k side }
+    requires { place < count_of sides.now.pool.now sides.now.k side }
     ensures value { result ≡ value_of sides.now.pool.now sides.now.k side place }
     ensures small { result ≤ 65535 }
 {
@@ -39,7 +43,6 @@ pub fn value_at(sides: &Sides<'_>, side: Side, place: usize) -> usize
 
 /// The sum of the numbers at places of a side.
 pub fn total_of(sides: &Sides<'_>, side: Side, places: &[u16]) -> usize
-    requires few { sides.now.k ≤ length sides.now.pool.now }
     requires within { AllByRecursion (λ place. place < count_of sides.now.pool.now sides.now.k side) places.now }
     requires short { length places.now ≤ LIMIT }
     ensures value { result ≡ total (value_of sides.now.pool.now sides.now.k side) places.now }
@@ -54,7 +57,6 @@ pub fn total_of(sides: &Sides<'_>, side: Side, places: &[u16]) -> usize
 
 /// The sum of so many numbers of a side, from a place on.
 pub fn run_of(sides: &Sides<'_>, side: Side, first: usize, count: usize) -> usize
-    requires few { sides.now.k ≤ length sides.now.pool.now }
     requires within { first + count ≤ count_of sides.now.pool.now sides.now.k side }
     requires short { count ≤ LIMIT }
     ensures value { result ≡ run sides.now.pool.now sides.now.k side first count }

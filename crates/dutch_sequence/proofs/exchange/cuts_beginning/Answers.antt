@@ -10,7 +10,7 @@ returns g c = λ yes' path on of.
     let k = stage.k in
     let enough : k ≤ length pool = search rules in
     let some : 0 < stage.size = search rules in
-    let known = path-of_class pool k c.requires.ascends enough stage.size stage.difference c.args.beginning.now path some of on in
+    let known = path-of_class pool k c.args.stage.now.ascends enough stage.size stage.difference c.args.beginning.now path some of on in
     c.cuts.ensures yes' (set_of pool k stage.size path)
     (exchange-at (exchange_class pool k stage.size stage.difference c.args.beginning.now) (set_of pool k stage.size path) _ _ _ _ known
     c.split_at-2.ensures.front c.split_at-2.ensures.back

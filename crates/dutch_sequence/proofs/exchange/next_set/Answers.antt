@@ -9,14 +9,14 @@ pub returns-then-branch-clause-answer : goal.returns-then-branch-clause-answer
 returns-then-branch-clause-answer c =
     let p = c.loop-place.place in
     let found = drawn _ _ _ c.if-branch.true c.in_ok-climb_on.ensures.answer in
-    let came = sets-found c.args.pool.now c.args.k p.hint.items p.size p.difference p.descent.path.items c.climb_on.new.descent.path.items p.descent.number c.climb_on.new.descent.number p.descent.beyond c.climb_on.new.descent.beyond (sym c.climb_on.ensures.beyond) found.0 in
+    let came = sets-found c.args.sides.now.pool.now c.args.sides.now.k p.hint.items p.size p.difference p.descent.path.items c.climb_on.new.descent.path.items p.descent.number c.climb_on.new.descent.number p.descent.beyond c.climb_on.new.descent.beyond (sym c.climb_on.ensures.beyond) found.0 in
     (sym c.loop-place.invariant.sets ∙ came, found.1)
 
 pub returns-in_err-climb_on-clause-answer : goal.returns-in_err-climb_on-clause-answer
 unfolding trials_ahead
 returns-in_err-climb_on-clause-answer c =
     let p = c.loop-place.place in
-    let same = sets-by_hits c.args.pool.now c.args.k p.hint.items p.size p.difference c.climb_on.new.descent.path.items p.descent.path.items c.climb_on.new.descent.number p.descent.number c.climb_on.new.descent.beyond p.descent.beyond c.climb_on.ensures.beyond c.in_err-climb_on.ensures.answer.0 in
+    let same = sets-by_hits c.args.sides.now.pool.now c.args.sides.now.k p.hint.items p.size p.difference c.climb_on.new.descent.path.items p.descent.path.items c.climb_on.new.descent.number p.descent.number c.climb_on.new.descent.beyond p.descent.beyond c.climb_on.ensures.beyond c.in_err-climb_on.ensures.answer.0 in
     drawn-stopped _ _ _ _ c.from_residual.ensures.0 (same ∙ c.loop-place.invariant.sets, c.in_err-climb_on.ensures.answer.1, omega (arith, c.in_err-climb_on.ensures.answer.2))
 
 pub returns-then-not-next_stage-clause-answer : goal.returns-then-not-next_stage-clause-answer
@@ -24,7 +24,7 @@ returns-then-not-next_stage-clause-answer c =
     let p = c.loop-place.place in
     let ended = c.next_stage.ensures.ended c.if-not-next_stage.true in
     let none = drawn _ _ _ c.if-branch.false c.in_ok-climb_on.ensures.answer in
-    let same = sets-by_hits c.args.pool.now c.args.k p.hint.items p.size p.difference c.climb_on.new.descent.path.items p.descent.path.items c.climb_on.new.descent.number p.descent.number c.climb_on.new.descent.beyond p.descent.beyond c.climb_on.ensures.beyond
+    let same = sets-by_hits c.args.sides.now.pool.now c.args.sides.now.k p.hint.items p.size p.difference c.climb_on.new.descent.path.items p.descent.path.items c.climb_on.new.descent.number p.descent.number c.climb_on.new.descent.beyond p.descent.beyond c.climb_on.ensures.beyond
     (ap hits none.1 ∙ sym none.0) in
     (sym c.loop-place.invariant.sets ∙ sym same ∙ sym c.next_stage.ensures.sets ∙ ended.0, ended.0, ended.1)
 
@@ -33,9 +33,9 @@ unfolding trials_ahead
 loop-place-preserved c =
     let p = c.loop-place.place in
     let none = drawn _ _ _ c.if-branch.false c.in_ok-climb_on.ensures.answer in
-    let same = sets-by_hits c.args.pool.now c.args.k p.hint.items p.size p.difference c.climb_on.new.descent.path.items p.descent.path.items c.climb_on.new.descent.number p.descent.number c.climb_on.new.descent.beyond p.descent.beyond c.climb_on.ensures.beyond
+    let same = sets-by_hits c.args.sides.now.pool.now c.args.sides.now.k p.hint.items p.size p.difference c.climb_on.new.descent.path.items p.descent.path.items c.climb_on.new.descent.number p.descent.number c.climb_on.new.descent.beyond p.descent.beyond c.climb_on.ensures.beyond
     (ap hits none.1 ∙ sym none.0) in
-    let after = trials-after c.args.pool.now c.args.k p.hint.items p.size p.difference c.climb_on.new.descent.path.items p.descent.path.items c.climb_on.new.descent.number p.descent.number c.climb_on.new.descent.beyond p.descent.beyond c.climb_on.ensures.beyond in
+    let after = trials-after c.args.sides.now.pool.now c.args.sides.now.k p.hint.items p.size p.difference c.climb_on.new.descent.path.items p.descent.path.items c.climb_on.new.descent.number p.descent.number c.climb_on.new.descent.beyond p.descent.beyond c.climb_on.ensures.beyond in
     record {
       stands = c.next_stage.ensures.stands;
       sets = c.next_stage.ensures.sets ∙ same ∙ c.loop-place.invariant.sets;

@@ -26,28 +26,28 @@ more value test k position h =
 pub loop-position-preserved : goal.loop-position-preserved
 unfolding so_far
 loop-position-preserved c =
-    let value : ℕ → ℕ = value_of c.args.pool.now c.args.k Out in
+    let value : ℕ → ℕ = value_of c.args.sides.now.pool.now c.args.sides.now.k Out in
     let test : ℕ → Bool = λ place. not (is_member place c.args.outs.now) in
     let position : ℕ = c.loop-position.position in
-    let step = more value test c.args.k position (omega arith) in
-    let number : value (c.args.k - 1 - position) ≡ slice_index c.args.pool.now position =
-    ap (slice_index c.args.pool.now) (let e : c.args.k - 1 - (c.args.k - 1 - position) ≡ position = omega arith in e) in
-    let old : List ℕ = so_far value test (c.args.k - position) position in
+    let step = more value test c.args.sides.now.k position (omega arith) in
+    let number : value (c.args.sides.now.k - 1 - position) ≡ slice_index c.args.sides.now.pool.now position =
+    ap (slice_index c.args.sides.now.pool.now) (let e : c.args.sides.now.k - 1 - (c.args.sides.now.k - 1 - position) ≡ position = omega arith in e) in
+    let old : List ℕ = so_far value test (c.args.sides.now.k - position) position in
     elim c.if-not-contains.branch [
       | then-not-contains w ↦
-          let passed : test (c.args.k - 1 - position) ≡ true = not_from_false _ (sym c.contains.ensures.value ∙ w.if-not-contains.true) in
+          let passed : test (c.args.sides.now.k - 1 - position) ≡ true = not_from_false _ (sym c.contains.ensures.value ∙ w.if-not-contains.true) in
           record {
             items = ap (λ v. v.items) w.numbers-is ∙ w.push.ensures.items
-                ∙ ap (λ xs. xs ++ slice_index c.args.pool.now position ∷ []) c.loop-position.invariant.items
+                ∙ ap (λ xs. xs ++ slice_index c.args.sides.now.pool.now position ∷ []) c.loop-position.invariant.items
                 ∙ ap (λ x. old ++ x ∷ []) (sym number)
-                ∙ sym (step ∙ ap (λ b. cond b (old ++ value (c.args.k - 1 - position) ∷ []) old) passed);
+                ∙ sym (step ∙ ap (λ b. cond b (old ++ value (c.args.sides.now.k - 1 - position) ∷ []) old) passed);
             fits = omega (arith, ap (λ v. length v.items) w.numbers-is, w.push.ensures.len, c.loop-position.invariant.fits);
           }
       | else-not-contains w ↦
-          let failed : test (c.args.k - 1 - position) ≡ false = not_from_true _ (sym c.contains.ensures.value ∙ w.if-not-contains.false) in
+          let failed : test (c.args.sides.now.k - 1 - position) ≡ false = not_from_true _ (sym c.contains.ensures.value ∙ w.if-not-contains.false) in
           record {
             items = ap (λ v. v.items) w.numbers-is ∙ c.loop-position.invariant.items
-                ∙ sym (step ∙ ap (λ b. cond b (old ++ value (c.args.k - 1 - position) ∷ []) old) failed);
+                ∙ sym (step ∙ ap (λ b. cond b (old ++ value (c.args.sides.now.k - 1 - position) ∷ []) old) failed);
             fits = omega (arith, ap (λ v. length v.items) w.numbers-is, c.loop-position.invariant.fits);
           }
     ]

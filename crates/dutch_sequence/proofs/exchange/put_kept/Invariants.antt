@@ -6,6 +6,6 @@ use Rattle.dutch_sequence.proofs.exchange.put_kept.Given as goal
 
 abbrev pub invariant-loop-position : goal.invariant-loop-position
 invariant-loop-position l = record {
-  items : l.numbers.items ≡ reverse (map (value_of l.pool l.k Out) (filter (λ place. not (is_member place l.outs)) (numbers_from (l.k - l.position) l.position)));
+  items : l.numbers.items ≡ reverse (map (value_of l.sides.pool.now l.sides.k Out) (filter (λ place. not (is_member place l.outs)) (numbers_from (l.sides.k - l.position) l.position)));
   fits : length l.numbers.items ≤ l.position;
 }

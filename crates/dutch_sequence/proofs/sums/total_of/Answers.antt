@@ -4,8 +4,8 @@ use Rattle.dutch_sequence.specs.Prelude.{count_of, total, value_of}
 use Rattle.dutch_sequence.proofs.Turns.{at_index}
 use Rattle.dutch_sequence.proofs.sums.total_of.Goals as goal
 
-pub value_at-sum-requires-clause-within : goal.value_at-sum-requires-clause-within
-value_at-sum-requires-clause-within c =
+pub value_at-sum-requires : goal.value_at-sum-requires
+value_at-sum-requires c =
     at_index (λ place. place < count_of c.args.sides.now.pool.now c.args.sides.now.k c.args.side) c.args.places.now c.loop-place.place-index c.requires.within c.loop-place-test.true
 
 pub overflow_add-sum : goal.overflow_add-sum

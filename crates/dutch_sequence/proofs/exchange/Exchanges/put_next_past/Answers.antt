@@ -13,7 +13,7 @@ returns-clause-answer g c =
     let passed = subst (λ pool. Passes Idle (sets_from pool k old) (set_of pool k new.size new.descent.path.items ∷ sets_from pool k new)) c.deref.ensures.0 (drawn _ _ _ c.if-not-branch.false c.in_ok-next_set_past.ensures.answer).0 in
     passes-same Idle _ _ _
     (subst (λ coming. Passes Idle coming (set_of c.self.inside.pool.items k new.size new.descent.path.items ∷ sets_from c.self.inside.pool.items k new)) (ap (λ v. v.coming) c.self.view_is) passed)
-    (ap (λ set. set ∷ sets_from c.self.inside.pool.items k new) (sym (c.put_set.ensures ∙ ap (λ pool. set_of pool k new.size new.descent.path.items) c.deref-2.ensures.0)))
+    (ap (λ set. set ∷ sets_from c.self.inside.pool.items k new) (sym (c.put_set.ensures ∙ ap (λ pool. set_of pool k new.size new.descent.path.items) c.deref.ensures.0)))
 
 pub returns-then-not-branch-clause-answer : goal.returns-then-not-branch-clause-answer
 returns-then-not-branch-clause-answer g c =

@@ -11,7 +11,7 @@ returns-clause-answer c =
     let new = c.next_set.new.place in
     sym (ap (λ v. v.coming) c.self.view_is)
     ∙ subst (λ pool. sets_from pool k old ≡ set_of pool k new.size new.descent.path.items ∷ sets_from pool k new) c.deref.ensures.0 (drawn _ _ _ c.if-not-branch.false c.in_ok-next_set.ensures.answer).0
-    ∙ ap (λ set. set ∷ sets_from c.self.inside.pool.items k new) (sym (c.put_set.ensures ∙ ap (λ pool. set_of pool k new.size new.descent.path.items) c.deref-2.ensures.0))
+    ∙ ap (λ set. set ∷ sets_from c.self.inside.pool.items k new) (sym (c.put_set.ensures ∙ ap (λ pool. set_of pool k new.size new.descent.path.items) c.deref.ensures.0))
 
 pub returns-then-not-branch-clause-answer : goal.returns-then-not-branch-clause-answer
 returns-then-not-branch-clause-answer c =
