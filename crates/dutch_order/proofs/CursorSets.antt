@@ -3,7 +3,7 @@ use Rattle.std.proofs.Common.{◌≡◌, ℕ, zero, suc, ◌+◌, ◌-◌, ◌<�
 use Rattle.std.specs.Prelude.{Ok, Err, nat_le}
 use Rattle.std.specs.Option.{is_some, IfSome}
 use Rattle.std.specs.List.{AllByRecursion}
-use Rattle.std.proofs.lemmas.Bool.{ltb-true, lt-ltb, le-leb, eq-eqb, eqb-true, ne_eqb, or_cases, or_left, or_right, and_parts, and_from, not-true, not_from_false, false_from_ne_true, true≢false}
+use Rattle.std.proofs.lemmas.Bool.{ltb-true, lt-ltb, le-leb, eq-eqb, eqb-true, ne_eqb, and_parts, and_from, not-true, not_from_false, false_from_ne_true, true≢false}
 use Rattle.dutch_order.specs.Prelude.{subsets, tuples, is_member, without, numbers_from, IsIn, Frame, Arrangement, residents_of, left_of, remainder_pairs, ascends_above, are_different, are_of, is_set_of, is_tuple_of, is_of, of_bracket, moved_down_of, is_short}
 use Rattle.dutch_order.specs.declared.bracket.Shape.{Shape}
 use Rattle.dutch_order.specs.declared.cursor.CursorFault.TheVariants.{NotOfBracket}

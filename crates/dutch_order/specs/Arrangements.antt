@@ -1,6 +1,6 @@
 -- The arrangements of a bracket (C.04.3 A.3, B.2 to B.7): who is paired with whom, in article D's order.
 use Rattle.std.specs.Prelude.{ℕ, ◌+◌, ◌-◌, ◌*◌, ◌<◌, ◌≤◌, Bool, true, false, not, ◌&&◌, ◌||◌, if◌then◌else◌, List, [], ◌∷◌, ◌++◌, map, filter, flat_map, length, take, slice_index}
-use Rattle.dutch_sequence.specs.Choices.{is_member, all_meet, is_same, left_of, numbers_from}
+use Rattle.dutch_sequence.specs.Choices.{all_meet, is_same, left_of, numbers_from}
 use Rattle.dutch_sequence.specs.Transposition.{all_tuples}
 use Rattle.dutch_sequence.specs.Exchange.{exchanges}
 use Rattle.dutch_sequence.specs.Limbo.{limbo_exchanges, IsNonAscending}

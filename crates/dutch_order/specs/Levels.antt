@@ -1,5 +1,5 @@
 -- What the levels of a listing have still to give: a model that carries the listing, and which a reader of its promise may pass by.
-use Rattle.std.specs.Prelude.{ℕ, Bool, true, false, not, ◌&&◌, ◌||◌, List, [], ◌∷◌, ◌++◌, map, filter, length, if◌then◌else◌, Option, Some, None}
+use Rattle.std.specs.Prelude.{ℕ, Bool, true, false, not, ◌&&◌, ◌||◌, List, [], ◌∷◌, map, filter, length, if◌then◌else◌, Option, Some, None}
 use Rattle.dutch_sequence.specs.Choices.{all_meet, is_same, from_on, subsets, tuples, joined, left_of}
 use Rattle.dutch_sequence.specs.Keys.{IsIn}
 use Rattle.dutch_order.specs.Arrangements.{Frame, Arrangement, residents_of, moved_down_scores, remainder_pairs, down, leaves_one}
