@@ -568,7 +568,7 @@ impl Exchanges {
         ensures nothing { k ≡ 0 → result.left ≡ 0 }
     {
         let mut sets = Exchanges::ended();
-        sets.start(pool, k);
+        sets.start(&Sides { pool, k });
         sets
     }
 
@@ -581,7 +581,7 @@ impl Exchanges {
         ensures coming { result.coming ≡ from_on set.now (exchanges pool.now k) }
     {
         let mut sets = Exchanges::ended();
-        sets.start_from(pool, k, set);
+        sets.start_from(&Sides { pool, k }, set);
         sets
     }
 
@@ -602,29 +602,23 @@ impl Exchanges {
     }
 
     /// Begins anew, in place, as `new` does.
-    pub fn start(&mut self, pool: &[u16], k: usize)
-        requires ascends { IsStrictlyIncreasing pool.now }
-        requires few { length pool.now ≤ LIMIT }
-        requires enough { k ≤ length pool.now }
-        ensures coming { self.new.coming ≡ exchanges pool.now k }
-        ensures nothing { k ≡ 0 → self.new.left ≡ 0 }
+    pub fn start(&mut self, sides: &Sides<'_>)
+        ensures coming { self.new.coming ≡ exchanges sides.now.pool.now sides.now.k }
+        ensures nothing { sides.now.k ≡ 0 → self.new.left ≡ 0 }
     {
-        fill(&mut self.pool, pool);
-        self.k = k;
+        fill(&mut self.pool, sides.pool);
+        self.k = sides.k;
         self.place.enter(0, 0);
     }
 
     /// Begins anew, in place, as `from` does.
-    pub fn start_from(&mut self, pool: &[u16], k: usize, set: &[u16])
-        requires ascends { IsStrictlyIncreasing pool.now }
-        requires few { length pool.now ≤ LIMIT }
-        requires enough { k ≤ length pool.now }
-        requires given { IsIn set.now (subsets pool.now k) }
-        ensures coming { self.new.coming ≡ from_on set.now (exchanges pool.now k) }
+    pub fn start_from(&mut self, sides: &Sides<'_>, set: &[u16])
+        requires { IsIn set.now (subsets sides.now.pool.now sides.now.k) }
+        ensures { self.new.coming ≡ from_on set.now (exchanges sides.now.pool.now sides.now.k) }
     {
-        fill(&mut self.pool, pool);
-        self.k = k;
-        enter_at(&Sides { pool, k }, set, &mut self.place);
+        fill(&mut self.pool, sides.pool);
+        self.k = sides.k;
+        enter_at(sides, set, &mut self.place);
     }
 
     /// Fills a list with the next one, but sets that the cuts know to be idle may be skipped: they are asked about each

@@ -31,4 +31,5 @@ pub use limbo::LimboExchanges;
 pub use numbers::{LIMIT, Numbers, numbered_from};
 pub use rules::Rule;
 pub use steps::{Budget, Drawn, Step, Stopped};
+pub use sums::Sides;
 pub use transposition::{Meeting, Transpositions};

@@ -44,17 +44,17 @@ fn place_leads(scores: &[u16], k: usize, path: &[u16], place: usize) -> bool
 /// Whether a place may be the next one of a set: it has the score that its place has in the first set, and it leaves
 /// enough places with that score for those that must follow.
 #[tactic(auto, unfolding(crate::specs::LimboSearch::mirrors))]
-fn place_mirrors(scores: &[u16], k: usize, path: &[u16], place: usize) -> bool
-    requires within { AllByRecursion (λ place. place < length scores.now) path.now }
-    requires second { k ≤ length path.now }
-    requires opened { length path.now < k + k }
-    requires few { k ≤ LIMIT }
-    requires narrow { length scores.now ≤ LIMIT }
-    requires tried { place + (k + k - 1 - length path.now) < length scores.now }
-    ensures { result ≡ mirrors scores.now k path.now place }
+fn place_mirrors(ranked: &Ranked<'_>, path: &[u16], place: usize) -> bool
+    requires within { AllByRecursion (λ place. place < length ranked.now.scores.now) path.now }
+    requires second { ranked.now.k ≤ length path.now }
+    requires opened { length path.now < ranked.now.k + ranked.now.k }
+    requires tried { place + (ranked.now.k + ranked.now.k - 1 - length path.now) < length ranked.now.scores.now }
+    ensures { result ≡ mirrors ranked.now.scores.now ranked.now.k path.now place }
 {
-    let score = scores[path[path.len() - k] as usize];
-    let ahead = front_with(scores, score, &path[path.len() - k + 1..k]);
+    let scores = ranked.scores;
+    let first = path.len() - ranked.k;
+    let score = scores[path[first] as usize];
+    let ahead = front_with(scores, score, &path[first + 1..ranked.k]);
     scores[place] == score && scores[place + ahead] == score
 }
 
@@ -132,6 +132,10 @@ impl<'a> Tree for Ranked<'a> {
 
     ghost within = { λ t path. unfold half_stop in Prim.grind (arith, nat_tests) };
 
+    ghost few = { λ t. Prim.grind arith };
+
+    ghost narrow = { λ t. Prim.grind arith };
+
     fn places(&self) -> usize {
         self.k + self.k
     }
@@ -154,7 +158,7 @@ impl<'a> Tree for Ranked<'a> {
         if path.len() < self.k {
             place_leads(self.scores, self.k, path, place as usize)
         } else {
-            place_mirrors(self.scores, self.k, path, place as usize)
+            place_mirrors(self, path, place as usize)
         }
     }
 }

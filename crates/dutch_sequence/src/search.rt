@@ -10,6 +10,7 @@
 // finds into a list that it is handed (`put_next`), and begins anew in place, at the cost of what it held (`start`).
 ghost use Rattle.std.specs.Prelude.{◌≡◌, ◌+◌, ◌-◌, ◌<◌, ◌≤◌, ◌⊎◌, ℕ, List, None, Some, [], ◌∷◌, ◌++◌, length, true};
 ghost use Rattle.std.specs.Prelude.{false};
+ghost use Rattle.dutch_sequence.specs.declared.search.TheConstants.{PLACES};
 ghost use Rattle.dutch_sequence.specs.Trials.{Plan, Tried, entry, below, ahead, hits, trials, lower, lowest};
 ghost use Rattle.dutch_sequence.specs.Hints.{hint_after, first_hint};
 ghost use Rattle.dutch_sequence.specs.Choices.{GoesOn};
@@ -58,6 +59,12 @@ pub trait Tree {
 
     /// Every number tried is below the width.
     ghost within: { (tree : Self) (path : _) → (plan tree).stop path ≤ (plan tree).width };
+
+    /// A path has room for all places.
+    ghost few: { (tree : Self) → (plan tree).places ≤ PLACES };
+
+    /// And for each number that is tried.
+    ghost narrow: { (tree : Self) → (plan tree).width ≤ PLACES };
 }
 
 /// Tells of a beginning of paths whether all whole paths that begin so are idle.
@@ -134,6 +141,10 @@ impl<'a, T: Tree> Tree for Hinted<'a, T> {
     ghost plan = { λ t. hinted t.hint.now.items (T.plan t.tree) };
 
     ghost within = { λ t path. T.Tree.within t.tree path };
+
+    ghost few = { λ t. T.Tree.few t.tree };
+
+    ghost narrow = { λ t. T.Tree.narrow t.tree };
 
     fn places(&self) -> usize {
         self.tree.places()
@@ -259,8 +270,6 @@ fn leave_idle<T: Tree, C: CutsPaths>(tree: &T, cuts: &C, descent: &mut Descent)
 fn try_number<T: Tree>(tree: &T, descent: &mut Descent) -> bool
     requires opened { IsOpen (T.plan tree.now) descent.old.path.items }
     requires tried { descent.old.number < (T.plan tree.now).stop descent.old.path.items }
-    requires few { (T.plan tree.now).places ≤ PLACES }
-    requires narrow { (T.plan tree.now).width ≤ PLACES }
     ensures stands { Stands (T.plan tree.now) descent.new.path.items }
     ensures goes_on { ahead (T.plan tree.now) descent.old.path.items descent.old.number
         ≡ Tried ((T.plan tree.now).beyond descent.old.path.items descent.old.number)
@@ -312,8 +321,6 @@ pub fn climb_past<T: Tree, C: CutsPaths>(
     budget: &mut Budget,
 ) -> Drawn
     requires standing { Stands (T.plan tree.now) descent.old.path.items }
-    requires few { (T.plan tree.now).places ≤ PLACES }
-    requires narrow { (T.plan tree.now).width ≤ PLACES }
     requires may_ask { (path : List ℕ) → Stands (T.plan tree.now) path → C.MayAsk cuts.now path }
     ensures stands { Stands (T.plan tree.now) descent.new.path.items }
     ensures answer { MatchDrawn result
@@ -363,8 +370,6 @@ pub fn climb_past<T: Tree, C: CutsPaths>(
 /// is left out.
 pub fn climb_on<T: Tree>(tree: &T, descent: &mut Descent, budget: &mut Budget) -> Drawn
     requires standing { Stands (T.plan tree.now) descent.old.path.items }
-    requires few { (T.plan tree.now).places ≤ PLACES }
-    requires narrow { (T.plan tree.now).width ≤ PLACES }
     ensures stands { Stands (T.plan tree.now) descent.new.path.items }
     ensures answer { MatchDrawn result
         ((hits (ahead (T.plan tree.now) descent.old.path.items descent.old.number)

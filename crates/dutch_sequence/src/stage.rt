@@ -116,6 +116,10 @@ impl<'a> Tree for ExchangeStage<'a> {
 
     ghost within = { λ t path. unfold half_stop in Prim.grind (arith, nat_tests) };
 
+    ghost few = { λ t. Prim.grind arith };
+
+    ghost narrow = { λ t. Prim.grind arith };
+
     fn places(&self) -> usize {
         self.size + self.size
     }

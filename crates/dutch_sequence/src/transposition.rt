@@ -3,6 +3,7 @@
 ghost use Rattle.std.specs.Prelude.{◌≡◌, ◌+◌, ◌*◌, ◌<◌, ◌≤◌, ℕ, [], ◌∷◌, length, map, filter};
 ghost use Rattle.std.specs.List.{AllByRecursion};
 ghost use Rattle.std.specs.List.Sorted.{IsStrictlyIncreasing};
+ghost use Rattle.dutch_sequence.specs.declared.numbers.TheConstants.{LIMIT};
 ghost use Rattle.dutch_sequence.specs.Transposition.{all_tuples, transpositions, short_beginnings};
 ghost use Rattle.dutch_sequence.specs.TranspositionSearch.{transposition_plan, numbers_at, place_in, places_in};
 ghost use Rattle.dutch_sequence.specs.Choices.{tuples, all_meet, from_on};
@@ -57,11 +58,14 @@ fn put_places(pool: &[u16], numbers: &[u16], path: &mut Path)
     }
 }
 
-/// First players, and the pool from which each gets an opponent.
+/// First players, and the pool from which each gets an opponent: at most `LIMIT` of each, and the pool ascends.
 #[derive(Drop)]
 pub struct Meeting<'s> {
     pub first: &'s [u16],
     pub pool: &'s [u16],
+    pub ghost ascends: { IsStrictlyIncreasing pool.now },
+    pub ghost few_first: { length first.now ≤ LIMIT },
+    pub ghost few: { length pool.now ≤ LIMIT },
 }
 
 /// The same, with the rule that says who may meet.
@@ -70,14 +74,20 @@ struct Opponents<'a, R> {
     first: &'a Numbers,
     pool: &'a Numbers,
     rule: &'a R,
+    ghost few: { length first.now.items ≤ LIMIT },
+    ghost narrow: { length pool.now.items ≤ LIMIT },
 }
 
 impl<'a, R: Rule> Tree for Opponents<'a, R> {
-    ghost use Rattle.std.proofs.Common.{rules};
+    ghost use Rattle.std.proofs.Common.{arith, rules};
 
     ghost plan = { λ t. transposition_plan (R.meets t.rule.now) t.first.now.items t.pool.now.items };
 
     ghost within = { λ t p. Prim.search rules };
+
+    ghost few = { λ t. Prim.grind arith };
+
+    ghost narrow = { λ t. Prim.grind arith };
 
     fn places(&self) -> usize {
         self.first.len()
@@ -208,9 +218,6 @@ impl<'a, R: Rule> Transpositions<'a, R> {
 
     /// Begins anew, in place, as `new` does.
     pub fn start(&mut self, meeting: &Meeting<'_>, rule: &'a R)
-        requires ascends { IsStrictlyIncreasing meeting.now.pool.now }
-        requires few_first { length meeting.now.first.now ≤ LIMIT }
-        requires few { length meeting.now.pool.now ≤ LIMIT }
         ensures coming { self.new.coming
             ≡ transpositions (R.meets rule.now) meeting.now.first.now meeting.now.pool.now }
         ensures left { self.new.left ≡ length meeting.now.pool.now * length
@@ -225,9 +232,6 @@ impl<'a, R: Rule> Transpositions<'a, R> {
 
     /// Begins anew, in place, as `from` does.
     pub fn start_from(&mut self, meeting: &Meeting<'_>, rule: &'a R, tuple: &[u16])
-        requires ascends { IsStrictlyIncreasing meeting.now.pool.now }
-        requires few_first { length meeting.now.first.now ≤ LIMIT }
-        requires few { length meeting.now.pool.now ≤ LIMIT }
         requires given { IsIn tuple.now (tuples meeting.now.pool.now (length meeting.now.first.now)) }
         ensures coming { self.new.coming ≡ filter (all_meet (R.meets rule.now) meeting.now.first.now)
             (from_on tuple.now (all_tuples meeting.now.pool.now (length meeting.now.first.now))) }

@@ -7,19 +7,19 @@ use Rattle.dutch_sequence.proofs.exchange.Exchanges.start_from.Goals as goal
 
 pub invariant_of-self : goal.invariant_of-self
 invariant_of-self c =
-    let room = exchange-room c.args.pool.now c.args.k c.requires.ascends c.requires.enough c.args.set.now c.requires.given in
+    let room = exchange-room c.args.sides.now.pool.now c.args.sides.now.k c.args.sides.now.ascends c.args.sides.now.enough c.args.set.now c.requires in
     let place = c.enter_at.new.place in
     let at = c.enter_at.ensures in
-    let late = late-place c.args.pool.now c.args.k c.requires.ascends c.requires.enough c.args.set.now c.requires.given
+    let late = late-place c.args.sides.now.pool.now c.args.sides.now.k c.args.sides.now.ascends c.args.sides.now.enough c.args.set.now c.requires
     c.fill.new.list.items c.fill.ensures place at.size at.difference at.hint at.path at.number at.beyond in
     let long = ap length c.fill.ensures in (
-      omega (arith, long, c.requires.few),
-      omega (arith, long, c.requires.enough),
-      subst IsStrictlyIncreasing (sym c.fill.ensures) c.requires.ascends,
+      omega (arith, long, c.args.sides.now.few),
+      omega (arith, long, c.args.sides.now.enough),
+      subst IsStrictlyIncreasing (sym c.fill.ensures) c.args.sides.now.ascends,
       (
         omega (arith, c.enter_at.ensures.size, room.0),
         omega (arith, long, c.enter_at.ensures.size, room.2),
-        (omega (arith, ap length c.enter_at.ensures.path), subst (Walked (hinted place.hint.items (exchange_plan c.fill.new.list.items c.args.k place.size place.difference)) []) (sym c.enter_at.ensures.path) tt),
+        (omega (arith, ap length c.enter_at.ensures.path), subst (Walked (hinted place.hint.items (exchange_plan c.fill.new.list.items c.args.sides.now.k place.size place.difference)) []) (sym c.enter_at.ensures.path) tt),
         late.0,
         late.1,
       ),
@@ -27,5 +27,5 @@ invariant_of-self c =
 
 pub returns : goal.returns
 returns c =
-    let late = exchanges-from c.args.pool.now c.args.k c.requires.ascends c.requires.enough c.args.set.now c.requires.given in
-    record { coming = cc }
+    let late = exchanges-from c.args.sides.now.pool.now c.args.sides.now.k c.args.sides.now.ascends c.args.sides.now.enough c.args.set.now c.requires in
+    cc
