@@ -7,9 +7,9 @@ here=$(cd "$(dirname "$0")" && pwd)
 work=$(mktemp -d)
 trap 'rm -rf "$work"' EXIT
 mkdir "$work/crates"
-cp -r "$here/../crates/dutch_order" "$work/crates/dutch_order"
+cp -r "$here/../crates/dutch_sequence" "$here/../crates/dutch_order" "$work/crates"
 mkdir -p "$work/crates/candidates/src"
 cp "$here/candidates.rattle" "$work/crates/candidates/src/main.rt"
-printf 'dutch_order: arrayvec itoa thiserror\ncandidates: dutch_order arrayvec\n' > "$work/crates.txt"
+printf 'dutch_sequence: arrayvec\ndutch_order: dutch_sequence arrayvec itoa thiserror\ncandidates: dutch_order arrayvec\n' > "$work/crates.txt"
 cd "$work/crates/candidates"
 rt try

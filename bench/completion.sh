@@ -8,13 +8,13 @@ reports=$(cd "${1:-$here/reports}" && pwd)
 work=$(mktemp -d)
 trap 'rm -rf "$work"' EXIT
 mkdir "$work/crates"
-for crate in trf16 dutch_player dutch_order dual matching dutch_bracket; do
+for crate in trf16 dutch_player dutch_sequence dutch_order dual matching dutch_bracket; do
     cp -r "$here/../crates/$crate" "$work/crates/$crate"
 done
 mkdir -p "$work/crates/completion/src"
 cp "$here/completion.rattle" "$work/crates/completion/src/main.rt"
 {
-    grep -E '^(trf16|dutch_player|dutch_order|dual|matching|dutch_bracket):' "$here/../crates.txt"
+    grep -E '^(trf16|dutch_player|dutch_sequence|dutch_order|dual|matching|dutch_bracket):' "$here/../crates.txt"
     echo 'completion: dutch_bracket dutch_player dutch_order trf16 arrayvec'
 } > "$work/crates.txt"
 set --

@@ -6,9 +6,9 @@ here=$(cd "$(dirname "$0")" && pwd)
 work=$(mktemp -d)
 trap 'rm -rf "$work"' EXIT
 mkdir "$work/crates"
-cp -r "$here/../crates/dutch_order" "$work/crates/dutch_order"
+cp -r "$here/../crates/dutch_sequence" "$here/../crates/dutch_order" "$work/crates"
 mkdir -p "$work/crates/generators/src"
 cp "$here/generators.rattle" "$work/crates/generators/src/main.rt"
-printf 'dutch_order: arrayvec itoa thiserror\ngenerators: dutch_order\n' > "$work/crates.txt"
+printf 'dutch_sequence: arrayvec\ndutch_order: dutch_sequence arrayvec itoa thiserror\ngenerators: dutch_order\n' > "$work/crates.txt"
 cd "$work/crates/generators"
 rt try

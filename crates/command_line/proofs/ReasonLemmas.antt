@@ -3,7 +3,7 @@ use Rattle.std.proofs.Common.{◌≡◌, ◌∙◌, ℕ, ◌<◌, ◌≤◌, ◌
 use Rattle.std.specs.List.{list_any}
 use Rattle.std.proofs.lemmas.Bool.{and_parts, and_from, cases_lt}
 use Rattle.dutch_order.specs.Prelude.{Arrangement, IsIn}
-use Rattle.dutch_order.proofs.Orders.{filter-IsIn}
+use Rattle.dutch_sequence.proofs.Orders.{filter-IsIn}
 use Rattle.dutch_player.specs.Prelude.{Facts}
 use Rattle.dutch_pair.specs.Prelude.{above_lower, lower_of, IsStage, IsInstead}
 use Rattle.dutch_bracket.specs.Prelude.{frame_of, can_be_chosen, candidates_of, eligible, fits, has_member}

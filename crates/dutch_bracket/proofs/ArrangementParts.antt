@@ -6,12 +6,12 @@ use Rattle.std.proofs.lemmas.Bool.Decides.{nat_tests}
 use Rattle.std.proofs.lemmas.List.{length-take-le}
 use Rattle.dutch_order.specs.declared.bracket.Shape.{Shape}
 use Rattle.dutch_order.specs.Prelude.{numbers_from, subsets, tuples, is_member, without, IsIn, sorted, lower_first, exchanges, exchange_cmp, limbo_exchanges, limbo_cmp, Frame, Arrangement, left_of, residents_of, moved_down_scores, remainder_pairs, with_s2r, with_s1r, with_s2, arrangements}
-use Rattle.dutch_order.proofs.HalfWalks.{Climbs}
-use Rattle.dutch_order.proofs.Lists.{filter-all, filter-same}
-use Rattle.dutch_order.proofs.Orders.{member_has, IsIn-append, IsIn-map, IsIn-flat_map, Rises, Rises-filter}
-use Rattle.dutch_order.proofs.Sets.{subsets-climb, sorted-in}
-use Rattle.dutch_order.proofs.Members.{length-numbers}
-use Rattle.dutch_order.proofs.Counts.{subsets-length, tuples-length, left-append}
+use Rattle.dutch_sequence.proofs.HalfWalks.{Climbs}
+use Rattle.dutch_sequence.proofs.Lists.{filter-all, filter-same}
+use Rattle.dutch_sequence.proofs.Orders.{member_has, IsIn-append, IsIn-map, IsIn-flat_map, Rises, Rises-filter}
+use Rattle.dutch_sequence.proofs.Sets.{subsets-climb, sorted-in}
+use Rattle.dutch_sequence.proofs.Members.{length-numbers}
+use Rattle.dutch_sequence.proofs.Counts.{subsets-length, tuples-length, left-append}
 use Rattle.dutch_bracket.proofs.AllLemmas.{all_filter}
 use Rattle.dutch_bracket.proofs.Totals.{total, total_length}
 pub use Rattle.dutch_order.proofs.CursorArrangements.{rises-numbers as numbers_rise}

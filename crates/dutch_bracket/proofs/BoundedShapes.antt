@@ -3,7 +3,7 @@ use Rattle.std.proofs.Common.{◌≡◌, ℕ, ◌<◌, Bool, false, List, None, 
 use Rattle.std.proofs.lemmas.Bool.{false_from_ne_true, and_parts}
 use Rattle.dutch_order.specs.declared.bracket.Shape.{Shape}
 use Rattle.dutch_order.specs.Prelude.{Fits}
-use Rattle.dutch_order.proofs.Orders.{IsIn-map}
+use Rattle.dutch_sequence.proofs.Orders.{IsIn-map}
 use Rattle.dutch_player.specs.Prelude.{Facts}
 use Rattle.dutch_bracket.specs.Prelude.{IsMost, Reached, frame_of, eligible, down_from, fits, has_member, shapes_with}
 use Rattle.dutch_bracket.proofs.JoinedPairs.{eligible_candidate}

@@ -11,7 +11,7 @@ use Rattle.std.proofs.lemmas.List.Folds.{list_any_at}
 use Rattle.std.proofs.lemmas.Bool.{ne_eqb, cases_eq, eq-eqb, or_cases, and_parts, and_from, or_left, or_right, cases_Bool, false_from_ne_true}
 use Rattle.dutch_order.specs.declared.bracket.Shape.{Shape}
 use Rattle.dutch_order.specs.Prelude.{IsIn, Frame, Arrangement, arrangements, is_legal, down}
-use Rattle.dutch_order.proofs.Orders.{IsIn-filter, IsIn-map}
+use Rattle.dutch_sequence.proofs.Orders.{IsIn-filter, IsIn-map}
 use Rattle.dutch_player.specs.Prelude.{Facts}
 use Rattle.dutch_bracket.specs.Prelude.{can_cover, left_over, meets_one, nobody, some_partner, takes_one, seat_of, score_at, AllNumbers, seats_meet, seats_may_be_left, Reached, frame_of, numbers_meet, number_may_be_left, down_from, fits, shapes_with, has_member, first_with, is_penultimate, completable, downfloaters, candidates_of, eligible, can_go_out}
 use Rattle.dutch_bracket.proofs.GhostPairs.{down_count}

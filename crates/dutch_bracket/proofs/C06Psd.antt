@@ -13,9 +13,9 @@ use Rattle.std.proofs.lemmas.Map.Lookups.{exact_bytes}
 use Rattle.std.proofs.lemmas.Bool.{eqb-true, or_cases}
 use Rattle.dutch_order.specs.declared.bracket.Shape.{Shape}
 use Rattle.dutch_order.specs.Prelude.{numbers_from, is_member, IsIn, Arrangement, arrangements, down, left_of, remainder_pairs}
-use Rattle.dutch_order.proofs.HalfWalks.{Climbs, Climbs-room}
-use Rattle.dutch_order.proofs.Members.{climbs-filter, filter-climbs, filter-length, length-numbers}
-use Rattle.dutch_order.proofs.ExchangeSets.{numbers-climb}
+use Rattle.dutch_sequence.proofs.HalfWalks.{Climbs, Climbs-room}
+use Rattle.dutch_sequence.proofs.Members.{climbs-filter, filter-climbs, filter-length, length-numbers}
+use Rattle.dutch_sequence.proofs.ExchangeSets.{numbers-climb}
 use Rattle.dutch_player.specs.Prelude.{Facts}
 use Rattle.dutch_bracket.specs.Prelude.{HasPairsOf, seated_so, residents_down, is_lower, IsFlat, quality, repeated, psd_with, IsUniform, is_uniform, highest_first, psd, quality_with, Reached, frame_of, IsOf, downfloaters, quality_of, seat_of, score_at, all_pairs, difference, difference_down, lowest}
 use Rattle.dutch_bracket.proofs.ArrangementParts.{parts_of}

@@ -6,7 +6,7 @@ use Rattle.std.proofs.lemmas.Bool.{and_from, and_parts, cases_lt}
 use Rattle.std.proofs.lemmas.Bool.Decides.{nat_tests}
 use Rattle.dutch_order.specs.declared.bracket.Shape.{Shape}
 use Rattle.dutch_order.specs.Prelude.{all_meet, IsIn, Frame, Arrangement, arrangements, candidates, is_legal, leaves_one, down}
-use Rattle.dutch_order.proofs.Orders.{IsIn-filter, IsIn-flat_map, filter-IsIn}
+use Rattle.dutch_sequence.proofs.Orders.{IsIn-filter, IsIn-flat_map, filter-IsIn}
 use Rattle.dutch_player.proofs.PresentLemmas.{or_more}
 use Rattle.dutch_bracket.specs.Prelude.{down_from, fits, greatest_shape, has_member, shapes_with}
 use Rattle.dutch_bracket.proofs.ShapeLaws.{all, among, down_in, greatest_known, of_pairs}

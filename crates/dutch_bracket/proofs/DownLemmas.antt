@@ -2,7 +2,7 @@
 use Rattle.std.proofs.Common.{◌≡◌, ◌<◌, ◌≤◌, ℕ, Bool, not, List, length, arith}
 use Rattle.std.proofs.lemmas.List.{length-map}
 use Rattle.dutch_order.specs.Prelude.{is_member, numbers_from, Arrangement, down, paired}
-use Rattle.dutch_order.proofs.Members.{filter-length, length-numbers}
+use Rattle.dutch_sequence.proofs.Members.{filter-length, length-numbers}
 use Rattle.dutch_player.specs.Prelude.{Facts}
 use Rattle.dutch_bracket.specs.Prelude.{Reached, frame_of, AllNumbers, score_at}
 use Rattle.dutch_bracket.proofs.AllLemmas.{all_filter}

@@ -3,8 +3,8 @@ use Rattle.std.proofs.Common.{◌≡◌, ℕ, ◌+◌, ◌-◌, ◌≤◌, List,
 use Rattle.std.proofs.lemmas.List.{length-map}
 use Rattle.dutch_order.specs.declared.bracket.Shape.{Shape}
 use Rattle.dutch_order.specs.Prelude.{numbers_from, IsIn, Frame, Arrangement, down, left_of, residents_of, remainder_pairs, arrangements}
-use Rattle.dutch_order.proofs.Lists.{map-numbers_from}
-use Rattle.dutch_order.proofs.Members.{length-numbers, numbers-append}
+use Rattle.dutch_sequence.proofs.Lists.{map-numbers_from}
+use Rattle.dutch_sequence.proofs.Members.{length-numbers, numbers-append}
 use Rattle.dutch_player.specs.Prelude.{Facts}
 use Rattle.dutch_bracket.specs.Prelude.{seat_of, score_at, pairs_of, all_pairs, Reached, frame_of, downfloaters}
 use Rattle.dutch_bracket.proofs.ArrangementParts.{subset_whole, numbers_rise, lists_of, residents_whole, parts_of}

@@ -3,7 +3,7 @@ use Rattle.std.proofs.Common.{◌≡◌, ◌<◌, ◌≤◌, ℕ, List, [], ◌�
 use Rattle.dutch_order.specs.Prelude.{Arrangement, BeginsAt, GoesOn}
 use Rattle.dutch_order.specs.declared.prefix.Filling.{Filling}
 use Rattle.dutch_order.specs.declared.prefix.Filling.TheVariants.{S1, S2, S2r}
-use Rattle.dutch_order.proofs.Moves.{AllByRecursion-take}
+use Rattle.dutch_sequence.proofs.Moves.{AllByRecursion-take}
 use Rattle.dutch_player.specs.Prelude.{Facts}
 use Rattle.dutch_bracket.specs.Prelude.{IsPair, seat_of, pairs_of, all_pairs, AreSeats, AllNumbers, AllPairs, Reached, HasPairsOf, LacksEndOfS2r, lists_by}
 use Rattle.dutch_bracket.proofs.AllLemmas.{all_join}

@@ -10,7 +10,7 @@ use Rattle.std.proofs.lemmas.Option.{slice_get_within}
 use Rattle.matching.specs.Matchings.{Gives, IsPair, IsMatching}
 use Rattle.dutch_order.specs.declared.bracket.Shape.{Shape}
 use Rattle.dutch_order.specs.Prelude.{numbers_from, IsMovedDown, IsIn, Frame, Fits, candidates}
-use Rattle.dutch_order.proofs.FoundPaths.{in-numbers}
+use Rattle.dutch_sequence.proofs.FoundPaths.{in-numbers}
 use Rattle.dutch_player.specs.Prelude.{Facts}
 use Rattle.dutch_bracket.specs.Prelude.{Reached, IsOf, ends_round, frame_of, numbers_meet, number_may_be_left, candidates_of, eligible, is_penultimate, shape_of, score_at, IsGreater, has_member, AreMatched, Joins, IsMost, go_together, is_matched, is_matched_at, joins_of_all, mate_at, mate_of, matched_shape, may_pair, takes_bye}
 use Rattle.dutch_bracket.specs.Joins.{joined, vertices}

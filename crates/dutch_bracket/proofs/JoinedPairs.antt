@@ -11,7 +11,7 @@ use Rattle.dutch_order.specs.declared.bracket.Shape.{Shape}
 use Rattle.dutch_order.specs.Prelude.{numbers_from, all_meet, IsIn, by_place, IsMovedDown, IsResident, Frame, Arrangement, left_of, residents_of}
 use Rattle.dutch_order.proofs.CursorSets.{AreLists}
 use Rattle.dutch_order.proofs.FormArrangements.{lists-in, in-moved_down, in-residents}
-use Rattle.dutch_order.proofs.Members.{length-numbers, numbers-append}
+use Rattle.dutch_sequence.proofs.Members.{length-numbers, numbers-append}
 use Rattle.dutch_order.proofs.NoneTwice.{in-left, places-count}
 use Rattle.dutch_player.specs.Prelude.{Facts}
 use Rattle.dutch_bracket.specs.Prelude.{Reached, frame_of, numbers_meet, candidates_of, eligible, score_at, has_member, Joins, AreAtMost, IsMost, go_together, may_pair}

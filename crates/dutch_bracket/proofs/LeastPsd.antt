@@ -8,19 +8,19 @@ use Rattle.std.proofs.lemmas.List.{length-map, length-take, get_or-map, get_or-t
 use Rattle.std.proofs.lemmas.List.Elements.{filter-append}
 use Rattle.dutch_order.specs.declared.bracket.Shape.{Shape}
 use Rattle.dutch_order.specs.Prelude.{numbers_from, subsets, tuples, is_member, IsIn, sorted, lower_first, exchanges, sum_of, limbo_exchanges, score_of, limbo_cmp, Frame, Arrangement, left_of, residents_of, moved_down_scores, remainder_pairs, with_s2r, with_s1r, with_s2, arrangements, is_legal, down}
-use Rattle.dutch_order.proofs.HalfWalks.{Climbs}
-use Rattle.dutch_order.proofs.Orders.{member_has, IsIn-append, IsIn-map, IsIn-flat_map, is_before-cases}
-use Rattle.dutch_order.proofs.Members.{climbs-filter}
-use Rattle.dutch_order.proofs.Sets.{subsets-climb, subsets-ascend, sorted-ascends}
-use Rattle.dutch_order.proofs.LimboSets.{limbo_key-apart}
+use Rattle.dutch_sequence.proofs.HalfWalks.{Climbs}
+use Rattle.dutch_sequence.proofs.Orders.{member_has, IsIn-append, IsIn-map, IsIn-flat_map, is_before-cases}
+use Rattle.dutch_sequence.proofs.Members.{climbs-filter}
+use Rattle.dutch_sequence.proofs.Sets.{subsets-climb, subsets-ascend, sorted-ascends}
+use Rattle.dutch_sequence.proofs.LimboSets.{limbo_key-apart}
 pub use Rattle.dutch_order.proofs.Once.{kept-is_in as in_filter}
 use Rattle.dutch_player.specs.Prelude.{Facts}
 use Rattle.dutch_bracket.specs.Prelude.{seat_of, score_at, all_pairs, lowest, difference, difference_down, Reached, frame_of, numbers_meet, number_may_be_left, one_if, psd, is_lower, lowest_list_upto, lowest_list, legal_in, psd_in, repeated}
 use Rattle.dutch_bracket.proofs.Copies.{copies, Falls, Lower, highest_first_falls, highest_first_copies, not_lower, lower_copies, more_first, same_first}
 use Rattle.dutch_bracket.proofs.ArrangementParts.{Parts, parts_of}
 use Rattle.dutch_bracket.proofs.PsdParts.{OneScore, psd_copies, copies_shared}
-use Rattle.dutch_order.proofs.ByKeys.{is_before, turned, Ascends, limbo_key}
-use Rattle.dutch_order.proofs.Comparing.{limbo_cmp-is}
+use Rattle.dutch_sequence.proofs.ByKeys.{is_before, turned, Ascends, limbo_key}
+use Rattle.dutch_sequence.proofs.Comparing.{limbo_cmp-is}
 
 -- two counts that agree from a number on agree wherever the sums that they make agree above d
 same_above : (ha hb ca cb la lb t k : ℕ → ℕ) (bound d : ℕ)

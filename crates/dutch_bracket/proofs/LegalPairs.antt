@@ -9,7 +9,7 @@ use Rattle.dutch_player.specs.Prelude.{Facts, may_meet}
 use Rattle.dutch_bracket.specs.Prelude.{seat_of, pairs_of, all_pairs, Reached, frame_of, is_number, numbers_meet, number_may_be_left, candidates_of}
 use Rattle.dutch_bracket.proofs.AllLemmas.{all_join}
 use Rattle.dutch_bracket.proofs.FixedPairs.{Beside}
-use Rattle.dutch_order.proofs.Orders.{IsIn-filter, all_members, member_has}
+use Rattle.dutch_sequence.proofs.Orders.{IsIn-filter, all_members, member_has}
 
 pub in_passes : {X : Type 0} (p : X → Bool) (x : X) (xs : List X) → IsIn x (filter p xs) → p x ≡ true
 in_passes p x xs m = (IsIn-filter p x xs m).1

@@ -9,8 +9,8 @@ use Rattle.dutch_order.specs.Prelude.{is_member, all_meet, moved_down_of, NoneTw
 use Rattle.dutch_order.proofs.CursorSets.{AreLists, numbers-within}
 use Rattle.dutch_order.proofs.FormArrangements.{in-lists, moved_down-in, in-moved_down, resident-in, in-residents}
 use Rattle.dutch_order.proofs.NoneTwice.{in-left, left-in, rises-twice, twice-different}
-use Rattle.dutch_order.proofs.Orders.{Rises-filter, IsIn-front, IsIn-back, IsIn-map, map-IsIn, IsIn-filter, filter-IsIn}
-use Rattle.dutch_order.proofs.StageSets.{Climbs-length}
+use Rattle.dutch_sequence.proofs.Orders.{Rises-filter, IsIn-front, IsIn-back, IsIn-map, map-IsIn, IsIn-filter, filter-IsIn}
+use Rattle.dutch_sequence.proofs.StageSets.{Climbs-length}
 use Rattle.dutch_bracket.specs.Prelude.{has_member}
 use Rattle.dutch_bracket.proofs.ArrangementParts.{numbers_rise, parts_of}
 use Rattle.dutch_bracket.proofs.ShapeSearch.{has_in}

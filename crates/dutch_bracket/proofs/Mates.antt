@@ -3,7 +3,7 @@ use Rattle.std.proofs.Common.{◌≡◌, ℕ, zero, suc, ◌≤◌, Bool, true, 
 use Rattle.std.proofs.lemmas.List.{length-append}
 use Rattle.std.proofs.lemmas.Bool.{cases_eq, eq-eqb, ne_eqb}
 use Rattle.dutch_order.specs.Prelude.{IsIn, NoneTwice}
-use Rattle.dutch_order.proofs.Orders.{IsIn-append, IsIn-front, IsIn-back}
+use Rattle.dutch_sequence.proofs.Orders.{IsIn-append, IsIn-front, IsIn-back}
 use Rattle.dutch_order.proofs.NoneTwice.{twice-back, twice-apart}
 use Rattle.dutch_bracket.specs.Completion.{Covers, MayBeLeftOut, Completable}
 use Rattle.dutch_bracket.specs.Prelude.{nobody}

@@ -8,9 +8,9 @@ use Rattle.std.proofs.lemmas.List.Kept.{IsStrictlyIncreasing-filter}
 use Rattle.std.proofs.lemmas.Simd.{map-map}
 use Rattle.std.proofs.lemmas.Bool.{cases_lt}
 use Rattle.dutch_order.specs.Prelude.{numbers_from, is_member, Candidate, paired}
-use Rattle.dutch_order.proofs.Counts.{numbers-rise}
-use Rattle.dutch_order.proofs.Orders.{Rises, Rises-from}
-use Rattle.dutch_order.proofs.Turns.{at_index}
+use Rattle.dutch_sequence.proofs.Counts.{numbers-rise}
+use Rattle.dutch_sequence.proofs.Orders.{Rises, Rises-from}
+use Rattle.dutch_sequence.proofs.Turns.{at_index}
 use Rattle.dutch_player.specs.Prelude.{Facts}
 use Rattle.dutch_bracket.specs.declared.reached.BracketKind.TheVariants.{Ordinary}
 use Rattle.dutch_bracket.specs.Prelude.{seat_of, score_at, AreSeats, AllNumbers, Reached, frame_of, IsOf, next_bracket, IsFlat, IsOfBracket, AreLeft, IsNext}

@@ -4,7 +4,7 @@ use Rattle.std.specs.Prelude.{if◌then◌else◌, slice_index, swap}
 use Rattle.std.proofs.Math.Bool.{and-true}
 use Rattle.std.proofs.Math.Nat.{mul-le-mul_right}
 use Rattle.std.proofs.lemmas.List.{drop_more, drop_all, take_more}
-use Rattle.dutch_order.specs.declared.steps.Budget.{Budget}
+use Rattle.dutch_sequence.specs.declared.steps.Budget.{Budget}
 use Rattle.dutch_bracket.specs.declared.completion.Answer.{Answer}
 use Rattle.dutch_bracket.specs.declared.completion.Answer.TheVariants.{Yes, No, Undecided}
 use Rattle.dutch_bracket.specs.declared.completion.Spare.{Spare}

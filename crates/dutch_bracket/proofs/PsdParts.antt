@@ -7,11 +7,11 @@ use Rattle.std.proofs.lemmas.List.Elements.{filter-append}
 use Rattle.std.proofs.lemmas.Simd.{map-map}
 use Rattle.std.proofs.lemmas.Bool.{ne_eqb}
 use Rattle.std.proofs.Math.Bool.{or-false}
-use Rattle.dutch_order.proofs.Lists.{filter-all}
+use Rattle.dutch_sequence.proofs.Lists.{filter-all}
 use Rattle.dutch_order.specs.Prelude.{numbers_from, is_member, Frame, Arrangement, left_of, paired, down}
-use Rattle.dutch_order.proofs.HalfWalks.{Climbs}
-use Rattle.dutch_order.proofs.Members.{filter-numbers, numbers-append}
-use Rattle.dutch_order.proofs.Counts.{left-append, member-append}
+use Rattle.dutch_sequence.proofs.HalfWalks.{Climbs}
+use Rattle.dutch_sequence.proofs.Members.{filter-numbers, numbers-append}
+use Rattle.dutch_sequence.proofs.Counts.{left-append, member-append}
 use Rattle.dutch_player.specs.Prelude.{Facts}
 use Rattle.dutch_bracket.specs.Prelude.{seat_of, score_at, pairs_of, all_pairs, lowest, difference, difference_down, Reached, frame_of, one_if, repeated}
 use Rattle.dutch_bracket.proofs.Copies.{copies, copies_append}

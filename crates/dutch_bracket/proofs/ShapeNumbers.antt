@@ -5,8 +5,8 @@ use Rattle.std.proofs.lemmas.Bool.{leb-true, and_parts}
 use Rattle.std.proofs.lemmas.List.{length-map}
 use Rattle.dutch_order.specs.declared.bracket.Shape.{Shape}
 use Rattle.dutch_order.specs.Prelude.{Arrangement, Fits, remainder_pairs, numbers_from}
-use Rattle.dutch_order.proofs.Members.{length-numbers}
-use Rattle.dutch_order.specs.declared.numbers.TheConstants.{LIMIT}
+use Rattle.dutch_sequence.proofs.Members.{length-numbers}
+use Rattle.dutch_sequence.specs.declared.numbers.TheConstants.{LIMIT}
 use Rattle.dutch_player.specs.Prelude.{Facts}
 use Rattle.dutch_bracket.specs.Prelude.{Reached, IsOf, is_number, frame_of, score_at, AllNumbers, residents_down, HasNumbers, are_numbers, is_of_shape}
 use Rattle.dutch_bracket.proofs.ArrangementParts.{numbers_within}

@@ -2,7 +2,7 @@
 use Rattle.std.specs.Prelude.{◌≡◌, ℕ, zero, suc, ◌+◌, ◌*◌, ◌<◌, ◌≤◌, Bool, true, false, ◌&&◌, List, [], ◌∷◌, flat_map, map}
 use Rattle.std.specs.List.{list_all, list_any}
 use Rattle.dutch_order.specs.Prelude.{leaves_one}
-use Rattle.dutch_order.specs.declared.steps.Budget.{Budget}
+use Rattle.dutch_sequence.specs.declared.steps.Budget.{Budget}
 use Rattle.dutch_bracket.specs.declared.completion.Answer.{Answer}
 use Rattle.dutch_bracket.specs.declared.completion.Answer.TheVariants.{Yes, No, Undecided}
 -- A.9: some list of pairs of those who may meet leaves out at most one of the players, who may be left out; in each pair the one first who

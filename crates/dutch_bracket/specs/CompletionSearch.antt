@@ -2,7 +2,7 @@
 -- reader of the promises may pass by.
 use Rattle.std.specs.Prelude.{ℕ, zero, suc, Bool, true, false, ◌&&◌, ◌||◌, List, [], ◌∷◌, ◌++◌}
 use Rattle.std.specs.List.{list_any}
-use Rattle.dutch_order.specs.declared.steps.Budget.{Budget}
+use Rattle.dutch_sequence.specs.declared.steps.Budget.{Budget}
 use Rattle.dutch_bracket.specs.declared.completion.Answer.{Answer}
 use Rattle.dutch_bracket.specs.declared.completion.Spare.{Spare}
 use Rattle.dutch_bracket.specs.Completion.{SpendsAtMost, IsStopped, Takes, Tells}

@@ -5,7 +5,7 @@ use Rattle.dutch_bracket.specs.declared.reached.BracketKind.{BracketKind}
 use Rattle.dutch_bracket.specs.declared.reached.BracketKind.TheVariants.{Ordinary, Last, Penultimate, Collapsed}
 use Rattle.dutch_player.specs.Prelude.{Facts, seat_at, may_meet}
 use Rattle.dutch_bracket.specs.Seated.{seat_of, score_at, AreSeats}
-use Rattle.dutch_order.specs.declared.numbers.TheConstants.{LIMIT}
+use Rattle.dutch_sequence.specs.declared.numbers.TheConstants.{LIMIT}
 
 -- a bracket that is reached: its number, counted from 1, its kind, how many of its players were moved down, and the seats of its players by
 -- rank [A.3, A.9]

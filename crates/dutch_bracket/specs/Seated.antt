@@ -6,7 +6,7 @@ use Rattle.dutch_player.specs.declared.float.Float.{Float}
 use Rattle.dutch_player.specs.declared.float.Float.TheVariants.{Up, Down}
 use Rattle.dutch_player.specs.Prelude.{Facts, seat_at}
 use Rattle.dutch_bracket.specs.declared.seated.Floater.{Floater}
-use Rattle.dutch_order.specs.declared.numbers.TheConstants.{LIMIT}
+use Rattle.dutch_sequence.specs.declared.numbers.TheConstants.{LIMIT}
 
 -- the pairs of a candidate, its downfloaters, and the lowest score in its bracket [B.2, B.3]
 pub record Seated : Type 0 where

@@ -1,7 +1,7 @@
 // Which candidates of a bracket can be chosen (C.04.3 C.4), and the first of a shape. Whether seats can be paired out
 // is told by a search of few steps, else by a matching, else by the whole search.
 ghost use Rattle.std.specs.Prelude.{◌≡◌, ◌+◌, ◌≤◌, ◌++◌, false, length, map, min};
-ghost use Rattle.dutch_order.specs.declared.numbers.TheConstants.{LIMIT};
+ghost use Rattle.dutch_sequence.specs.declared.numbers.TheConstants.{LIMIT};
 ghost use Rattle.dutch_order.specs.Prelude.{down, MatchDrawn, MatchFound, Spends};
 ghost use Rattle.dutch_bracket.specs.Seated.{seat_of, AllNumbers};
 ghost use Rattle.dutch_bracket.specs.Shapes.{IsFirst, has_member};

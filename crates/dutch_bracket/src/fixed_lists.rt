@@ -1,7 +1,7 @@
 // The lists that a beginning fixes, and the pairs that they make (C.04.3 B.6, B.7).
 ghost use Rattle.std.specs.Prelude.{◌≡◌, ◌≤◌, ◌&&◌, true, length};
 ghost use Rattle.arrayvec.specs.ArrayVec.{array_vec_len};
-ghost use Rattle.dutch_order.specs.declared.numbers.TheConstants.{LIMIT};
+ghost use Rattle.dutch_sequence.specs.declared.numbers.TheConstants.{LIMIT};
 ghost use Rattle.dutch_bracket.specs.Seated.{AllPairs, HasSeats, all_pairs};
 ghost use Rattle.dutch_bracket.specs.Beginnings.{HasNumbers, are_numbers, fixed, fixed_lists, has_s1, is_of_shape};
 

@@ -1,6 +1,6 @@
 // Seats as a graph, for whoever finds matchings (C.04.3 A.9, C.1 to C.3).
 ghost use Rattle.std.specs.Prelude.{◌≡◌, ◌≤◌, length};
-ghost use Rattle.dutch_order.specs.declared.numbers.TheConstants.{LIMIT};
+ghost use Rattle.dutch_sequence.specs.declared.numbers.TheConstants.{LIMIT};
 ghost use Rattle.dutch_bracket.specs.Meetings.{joined_seats};
 
 use crate::seats::seats;
@@ -19,7 +19,7 @@ pub struct Meetings<'a> {
 
 impl<'a> Model for Meetings<'a> {
     ghost use Rattle.std.specs.Prelude.{◌≤◌, length};
-    ghost use Rattle.dutch_order.specs.declared.numbers.TheConstants.{LIMIT};
+    ghost use Rattle.dutch_sequence.specs.declared.numbers.TheConstants.{LIMIT};
     ghost use Rattle.dutch_bracket.specs.Meetings.{Meetings};
 
     ghost Value = { Meetings };

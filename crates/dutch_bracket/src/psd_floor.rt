@@ -1,7 +1,7 @@
 // The PSD that S1 gives in a bracket whose residents have one score (C.04.3 C.6).
 ghost use Rattle.std.specs.Prelude.{◌≡◌, ◌+◌, ◌-◌, ◌<◌, ◌≤◌, length, map};
 ghost use Rattle.arrayvec.specs.ArrayVec.{array_vec_len};
-ghost use Rattle.dutch_order.specs.declared.numbers.TheConstants.{LIMIT};
+ghost use Rattle.dutch_sequence.specs.declared.numbers.TheConstants.{LIMIT};
 ghost use Rattle.dutch_order.specs.Prelude.{Fits, left_of, remainder_pairs, numbers_from};
 ghost use Rattle.dutch_bracket.specs.Seated.{seat_of, score_at, AllNumbers};
 ghost use Rattle.dutch_bracket.specs.Quality.{placed_all};

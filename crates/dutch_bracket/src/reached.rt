@@ -4,7 +4,7 @@
 ghost use Rattle.std.specs.Prelude.{◌≡◌, ◌+◌, ◌*◌, ◌<◌, ◌≤◌, ◌++◌, ℕ, true, length, map, slice_index};
 ghost use Rattle.arrayvec.specs.ArrayVec.{array_vec_len};
 ghost use Rattle.dutch_order.specs.Prelude.{IsBracket};
-ghost use Rattle.dutch_order.specs.declared.numbers.TheConstants.{LIMIT};
+ghost use Rattle.dutch_sequence.specs.declared.numbers.TheConstants.{LIMIT};
 ghost use Rattle.dutch_bracket.specs.Seated.{seat_of, score_at, AreSeats};
 ghost use Rattle.dutch_bracket.specs.Brackets.{bracket};
 ghost use Rattle.trf16.specs.declared.limits.TheConstants.{MOST_ROUNDS};

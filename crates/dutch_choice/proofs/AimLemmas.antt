@@ -5,8 +5,8 @@ use Rattle.std.specs.List.{list_any, AllByRecursion}
 use Rattle.std.specs.Option.{MatchOption}
 use Rattle.std.proofs.lemmas.Bool.{true≢false, not-true, not-false, or_right}
 use Rattle.dutch_order.specs.Prelude.{MatchFound, Passes, Arrangement}
-use Rattle.dutch_order.specs.declared.steps.Stopped.{Stopped}
-use Rattle.dutch_order.proofs.Lists.{filter-all}
+use Rattle.dutch_sequence.specs.declared.steps.Stopped.{Stopped}
+use Rattle.dutch_sequence.proofs.Lists.{filter-all}
 use Rattle.dutch_order.specs.declared.bracket.Shape.{Shape}
 use Rattle.dutch_choice.specs.declared.pass.Best.{Best}
 use Rattle.dutch_choice.specs.declared.wish.Wish.{Wish}

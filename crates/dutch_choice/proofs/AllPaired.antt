@@ -5,14 +5,13 @@ use Rattle.std.proofs.lemmas.Bool.Decides.{nat_tests}
 use Rattle.std.proofs.lemmas.Bool.{false_from_ne_true, not-true, true≢false}
 use Rattle.dutch_order.specs.declared.bracket.Shape.{Shape}
 use Rattle.dutch_order.specs.Prelude.{Arrangement, Frame, arrangements, left_of, paired, remainder_pairs, residents_of, is_member, numbers_from, IsIn}
-use Rattle.dutch_order.proofs.CursorSets.{in-member}
-use Rattle.dutch_order.proofs.Members.{length-numbers}
+use Rattle.dutch_sequence.proofs.Orders.{in-member, IsIn-back, IsIn-front}
+use Rattle.dutch_sequence.proofs.Members.{length-numbers}
 use Rattle.dutch_order.proofs.NoneTwice.{left-in}
-use Rattle.dutch_order.proofs.Orders.{IsIn-back, IsIn-front}
 use Rattle.dutch_choice.specs.declared.wish.Wish.TheVariants.{LeftOver}
 use Rattle.dutch_choice.specs.Prelude.{grants}
 use Rattle.dutch_bracket.proofs.ArrangementParts.{lists_of, numbers_rise, parts_of, subset_whole}
-use Rattle.dutch_order.proofs.FoundPaths.{in-numbers}
+use Rattle.dutch_sequence.proofs.FoundPaths.{in-numbers}
 use Rattle.dutch_bracket.proofs.Totals.{total_length}
 
 pub equal : (a b : ℕ) → nat_eq a b ≡ true → a ≡ b

@@ -9,8 +9,8 @@ use Rattle.arrayvec.specs.ArrayVec.{ArrayVec}
 use Rattle.lru.specs.LruCache.{LruCache, lru_cache, promoted, put_entries}
 use Rattle.lru.proofs.CallerLemmas.{Contains-lookup_entry, Contains-lookup, Contains-promoted, Contains-put_entries}
 use Rattle.dutch_order.specs.Prelude.{is_same}
-use Rattle.dutch_order.specs.declared.numbers.TheConstants.{LIMIT}
-use Rattle.dutch_order.proofs.FromOn.{is_same-true}
+use Rattle.dutch_sequence.specs.declared.numbers.TheConstants.{LIMIT}
+use Rattle.dutch_sequence.proofs.FromOn.{is_same-true}
 use Rattle.dutch_player.specs.Prelude.{Facts}
 use Rattle.dutch_bracket.specs.Prelude.{AreLeft, Reached, NextValue}
 use Rattle.dutch_bracket.proofs.NextBrackets.{down_short}

@@ -4,7 +4,7 @@ use Rattle.std.proofs.lemmas.Bool.{and_parts, leb-true}
 use Rattle.std.proofs.lemmas.List.{length-map}
 use Rattle.std.specs.Prelude.{nat_le}
 use Rattle.dutch_order.specs.Prelude.{Arrangement, down, by_place, pairs_by_number, IsIn}
-use Rattle.dutch_order.proofs.Orders.{IsIn-append, IsIn-back, IsIn-front, map-IsIn}
+use Rattle.dutch_sequence.proofs.Orders.{IsIn-append, IsIn-back, IsIn-front, map-IsIn}
 use Rattle.dutch_player.specs.Prelude.{Facts}
 use Rattle.dutch_floors.specs.declared.premise.Premise.TheVariants.{Down, Meet}
 use Rattle.dutch_choice.specs.declared.wish.Wish.TheVariants.{LeftOver, Pair}
@@ -12,7 +12,7 @@ use Rattle.dutch_floors.specs.Premises.{Holds}
 use Rattle.dutch_bracket.specs.Prelude.{IsOf, Reached, frame_of, is_number, all_pairs, pairs_of, score_at, seat_of}
 use Rattle.dutch_choice.specs.Prelude.{grants}
 use Rattle.dutch_choice.proofs.BestGranting.{over_by_test, pair_by_test}
-use Rattle.dutch_order.proofs.FoundPaths.{in-numbers}
+use Rattle.dutch_sequence.proofs.FoundPaths.{in-numbers}
 
 -- a number of a bracket has a seat of the field
 pub bounds : (reached : Reached) (z : ℕ) → is_number reached z ≡ true → (1 ≤ z) × (z ≤ length reached.seats)

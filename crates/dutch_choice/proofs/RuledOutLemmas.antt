@@ -8,10 +8,10 @@ use Rattle.dutch_order.specs.declared.bracket.Shape.{Shape}
 use Rattle.dutch_order.specs.declared.prefix.Filling.{Filling}
 use Rattle.dutch_order.specs.declared.prefix.Filling.TheVariants.{S1, S2, S2r}
 use Rattle.dutch_order.specs.Prelude.{Frame, Arrangement, arrangements, left_of, paired, residents_of, is_member, by_place, pairs_by_number, players_in, NoneTwice, IsIn, Begins, BeginsAt, Beginning, GoesOn}
-use Rattle.dutch_order.proofs.CursorSets.{AreLists, member-in, in-member}
+use Rattle.dutch_order.proofs.CursorSets.{AreLists}
+use Rattle.dutch_sequence.proofs.Orders.{member-in, in-member, IsIn-append, IsIn-front, IsIn-back}
 use Rattle.dutch_order.proofs.FormArrangements.{form-of, in-moved_down, in-residents, lists-in}
 use Rattle.dutch_order.proofs.NoneTwice.{in-left}
-use Rattle.dutch_order.proofs.Orders.{IsIn-append, IsIn-front, IsIn-back}
 use Rattle.dutch_choice.specs.declared.wish.Wish.{Wish}
 use Rattle.dutch_choice.specs.declared.wish.Wish.TheVariants.{Pair, LeftOver}
 use Rattle.dutch_bracket.specs.Prelude.{fixed_lists, lists_by}

@@ -1,7 +1,7 @@
 -- Lists of which some first ones are skipped.
 use Rattle.std.proofs.Common.{List, sym, subst}
 use Rattle.dutch_order.specs.Prelude.{IsIn, Passes}
-use Rattle.dutch_order.proofs.Orders.{IsIn-back}
+use Rattle.dutch_sequence.proofs.Orders.{IsIn-back}
 
 -- who is left was there before
 pub left_was_there : {T : Type 0} (Idle : T → Type 0) (x : T) (before after : List T) → Passes Idle before after → IsIn x after → IsIn x before

@@ -3,7 +3,7 @@ use Rattle.std.proofs.Common.{◌≡◌, ℕ, Bool, ◌||◌, List, [], ◌∷�
 use Rattle.std.specs.List.{list_any, zip}
 use Rattle.std.proofs.lemmas.List.Folds.{list_any-append}
 use Rattle.dutch_order.specs.Prelude.{Arrangement, paired, is_member, by_place, pairs_by_number}
-use Rattle.dutch_order.proofs.Counts.{member-append}
+use Rattle.dutch_sequence.proofs.Counts.{member-append}
 
 zipped : (xs ys : List ℕ) → by_place xs ys ≡ zip xs ys
 zipped [] ys = refl

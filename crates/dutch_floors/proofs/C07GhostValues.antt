@@ -7,8 +7,8 @@ use Rattle.std.specs.List.{AllByRecursion}
 use Rattle.std.proofs.lemmas.List.{length-map, nil_from_length}
 use Rattle.dutch_order.specs.declared.bracket.Shape.{Shape}
 use Rattle.dutch_order.specs.Prelude.{numbers_from, is_member, IsIn, Frame, Arrangement, left_of, arrangements}
-use Rattle.dutch_order.proofs.Lists.{filter-all}
-use Rattle.dutch_order.proofs.Members.{climbs-filter, filter-length, length-numbers}
+use Rattle.dutch_sequence.proofs.Lists.{filter-all}
+use Rattle.dutch_sequence.proofs.Members.{climbs-filter, filter-length, length-numbers}
 use Rattle.dutch_player.specs.Prelude.{Facts}
 use Rattle.dutch_bracket.specs.declared.reached.BracketKind.TheVariants.{Ordinary}
 use Rattle.dutch_bracket.specs.Prelude.{seat_of, score_at, Reached, IsOf, frame_of, NextValue, value_in, IsFlat, IsNext, repeated, IsUniform, downfloaters, IsNotBetter, ghosts_meet, ghost_may_be_left, ghost_frame, ghost_floor}
@@ -17,7 +17,7 @@ use Rattle.dutch_bracket.proofs.AllLemmas.{all_filter}
 use Rattle.dutch_bracket.proofs.ArrangementParts.{parts_of, numbers_within}
 use Rattle.dutch_bracket.proofs.C07WeakerRules.{always_a_shape}
 use Rattle.dutch_floors.proofs.C07Ghosts.{all_same, none_lower_than_none, ghosts_tell_of_the_next_bracket}
-use Rattle.dutch_order.specs.declared.numbers.TheConstants.{LIMIT}
+use Rattle.dutch_sequence.specs.declared.numbers.TheConstants.{LIMIT}
 
 -- a value that is not better than with a PSD is not better than with none
 without_psd : (value : NextValue) (pairs : ℕ) (psd : List ℕ) → IsNotBetter value pairs psd → IsNotBetter value pairs []

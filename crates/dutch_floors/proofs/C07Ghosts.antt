@@ -22,7 +22,7 @@ use Rattle.dutch_bracket.proofs.DownLemmas.{down_numbers}
 use Rattle.dutch_bracket.proofs.NextBrackets.{left_by_candidate, next_of, next_flat}
 use Rattle.dutch_bracket.proofs.LeastPsd.{in_filter}
 use Rattle.dutch_bracket.proofs.PsdParts.{down_parts}
-use Rattle.dutch_order.proofs.Lists.{map-numbers_from}
+use Rattle.dutch_sequence.proofs.Lists.{map-numbers_from}
 use Rattle.dutch_bracket.proofs.C07WeakerRules.{a_weaker_rule_has_no_fewer_pairs, found_fits, found_few, always_a_shape}
 use Rattle.dutch_floors.proofs.C07PsdFloor.{no_psd_is_below_the_floor}
 use Rattle.dutch_bracket.proofs.ShapeSearch.{fits_by_test, first_has}

@@ -7,7 +7,7 @@ use Rattle.dutch_order.specs.declared.bracket.Shape.{Shape}
 use Rattle.dutch_order.specs.declared.prefix.Filling.{Filling}
 use Rattle.dutch_order.specs.declared.prefix.Filling.TheVariants.{S1, S2, S2r}
 use Rattle.dutch_order.specs.Prelude.{Arrangement, Fits, arrangements, down, IsIn, BeginsAt}
-use Rattle.dutch_order.proofs.FromOn.{is_same-true}
+use Rattle.dutch_sequence.proofs.FromOn.{is_same-true}
 use Rattle.dutch_player.specs.Prelude.{Facts}
 use Rattle.dutch_floors.specs.declared.outlook.Outlook.{Outlook}
 use Rattle.dutch_bracket.specs.declared.reached.BracketKind.{BracketKind}

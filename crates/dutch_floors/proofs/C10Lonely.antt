@@ -9,8 +9,8 @@ use Rattle.std.proofs.lemmas.List.{length-map}
 use Rattle.std.proofs.lemmas.List.Sums.{sum_by-append, sum_by-cons}
 use Rattle.dutch_order.specs.declared.bracket.Shape.{Shape}
 use Rattle.dutch_order.specs.Prelude.{all_meet, is_member, without, tuples, IsIn, Arrangement, left_of, residents_of, remainder_pairs}
-use Rattle.dutch_order.proofs.Counts.{left-append}
-use Rattle.dutch_order.proofs.Orders.{all_members, IsIn-flat_map, IsIn-map, Rises, Rises-filter}
+use Rattle.dutch_sequence.proofs.Counts.{left-append}
+use Rattle.dutch_sequence.proofs.Orders.{all_members, IsIn-flat_map, IsIn-map, Rises, Rises-filter}
 use Rattle.dutch_player.specs.Prelude.{Facts}
 use Rattle.dutch_bracket.specs.declared.colours_missed.Miss.TheVariants.{Preference}
 use Rattle.dutch_bracket.specs.Prelude.{seat_of, score_at, pairs_of, all_pairs, Reached, frame_of, numbers_meet, candidates_of, quality_of, one_if, misses, count_in, count_in_pairs, quality_with, LacksEndOfS2r, beyond, suits, lonely, lonely_first, lonely_second, residents_down, quality}

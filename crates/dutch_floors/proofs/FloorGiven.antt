@@ -6,7 +6,7 @@ use Rattle.std.proofs.lemmas.Bool.{true≢false}
 use Rattle.std.proofs.lemmas.Bool.Decides.{nat_tests}
 use Rattle.dutch_order.specs.declared.prefix.Filling.{Filling}
 use Rattle.dutch_order.specs.Prelude.{Arrangement, arrangements, IsIn, BeginsAt, Beginning}
-use Rattle.dutch_order.proofs.Orders.{IsIn-append, IsIn-back, IsIn-front}
+use Rattle.dutch_sequence.proofs.Orders.{IsIn-append, IsIn-back, IsIn-front}
 use Rattle.dutch_player.specs.Prelude.{Facts}
 use Rattle.dutch_floors.specs.declared.premise.Premise.{Premise}
 use Rattle.dutch_floors.specs.declared.premise.Premise.TheVariants.{Down, Meet}

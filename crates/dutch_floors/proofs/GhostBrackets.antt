@@ -5,7 +5,7 @@ use Rattle.std.specs.Prelude.{slice_index}
 use Rattle.std.proofs.lemmas.List.{length-map, get_or-map}
 use Rattle.dutch_order.specs.declared.bracket.Shape.{Shape}
 use Rattle.dutch_order.specs.Prelude.{numbers_from, IsBracket}
-use Rattle.dutch_order.proofs.Members.{length-numbers}
+use Rattle.dutch_sequence.proofs.Members.{length-numbers}
 use Rattle.dutch_player.specs.Prelude.{Facts}
 use Rattle.dutch_bracket.specs.Prelude.{seat_of, score_at, Reached, IsOf, IsFlat, IsNext, residents_down, repeated, ghost_frame}
 use Rattle.dutch_floors.specs.GhostValues.{first_limbo, first_ghosts}

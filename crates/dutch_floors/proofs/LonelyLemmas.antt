@@ -4,12 +4,12 @@ use Rattle.std.proofs.lemmas.List.{length-map, append-nil}
 use Rattle.std.proofs.lemmas.List.Elements.{filter-append}
 use Rattle.std.specs.List.{AllByRecursion}
 use Rattle.dutch_order.specs.Prelude.{is_member, numbers_from, left_of, Arrangement}
-use Rattle.dutch_order.proofs.Members.{numbers-append}
+use Rattle.dutch_sequence.proofs.Members.{numbers-append}
 use Rattle.dutch_player.specs.Prelude.{Facts}
 use Rattle.dutch_bracket.specs.Prelude.{Reached, score_at, AllNumbers, has_bit, beyond, pool}
 use Rattle.dutch_bracket.proofs.AllLemmas.{all_filter}
 use Rattle.dutch_bracket.proofs.ArrangementParts.{numbers_within}
-use Rattle.dutch_order.proofs.Skipping.{filter-keeps, filter-drops}
+use Rattle.dutch_sequence.proofs.Skipping.{filter-keeps, filter-drops}
 
 three : (p q r : ℕ → Bool) (x : ℕ) (xs ys : List ℕ) (a b c : Bool) → p x ≡ not a → q x ≡ not b → r x ≡ not c
     → ys ≡ filter r (filter q (filter p xs)) → cond (not ((a || b) || c)) (x ∷ ys) ys ≡ filter r (filter q (filter p (x ∷ xs)))

@@ -3,7 +3,7 @@ use Rattle.std.specs.Prelude.{◌≡◌, ℕ, ◌≤◌, Bool, List, map, length
 use Rattle.std.specs.List.{list_any}
 use Rattle.dutch_player.specs.Prelude.{Facts}
 use Rattle.dutch_bracket.specs.Prelude.{AreSeats, some_meets, may_bye}
-use Rattle.dutch_order.specs.declared.numbers.TheConstants.{LIMIT}
+use Rattle.dutch_sequence.specs.declared.numbers.TheConstants.{LIMIT}
 
 -- the players of a bracket, for whose downfloaters ghosts stand, and lower players, by seat
 pub record Above : Type 0 where

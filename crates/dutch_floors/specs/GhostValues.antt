@@ -4,7 +4,7 @@ use Rattle.dutch_order.specs.declared.bracket.Shape.{Shape}
 use Rattle.dutch_order.specs.Prelude.{numbers_from, candidates}
 use Rattle.dutch_player.specs.Prelude.{Facts}
 use Rattle.dutch_bracket.specs.Prelude.{NextValue, no_value, Reached, seat_of, score_at, greatest_shape, ghosts_meet, ghost_may_be_left, ghost_scores, ghost_frame, ghost_floor}
-use Rattle.dutch_order.specs.declared.numbers.TheConstants.{LIMIT}
+use Rattle.dutch_sequence.specs.declared.numbers.TheConstants.{LIMIT}
 
 -- the scores of the moved-down players whom the first S1 of a shape leaves over
 abbrev pub first_limbo : Facts → Reached → Shape → List ℕ

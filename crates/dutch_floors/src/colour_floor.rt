@@ -1,6 +1,6 @@
 // How many players miss their colour preference at least, by the pairs that are fixed (C.04.3 C.10, C.11).
 ghost use Rattle.std.specs.Prelude.{◌≡◌, ◌+◌, ◌-◌, ◌*◌, ◌<◌, ◌≤◌, length, sum_by};
-ghost use Rattle.dutch_order.specs.declared.numbers.TheConstants.{LIMIT};
+ghost use Rattle.dutch_sequence.specs.declared.numbers.TheConstants.{LIMIT};
 ghost use Rattle.dutch_bracket.specs.declared.colours_missed.Miss.TheVariants.{Preference, StrongPreference};
 ghost use Rattle.dutch_bracket.specs.Prelude.{misses, count_in, count_in_pairs, AllPairs, AreSeats, HasSeats, in_both};
 ghost use Rattle.dutch_floors.specs.FloorOf.{AreWants, more_in, served_in, wanting};

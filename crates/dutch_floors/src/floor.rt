@@ -3,7 +3,7 @@
 ghost use Rattle.std.specs.Prelude.{◌≡◌, ◌<◌, ◌≤◌, ◌||◌, ◌&&◌, IfSome, true, length};
 ghost use Rattle.std.specs.Result.{MatchResult};
 ghost use Rattle.dutch_order.specs.Prelude.{Fits, Spends};
-ghost use Rattle.dutch_order.specs.declared.numbers.TheConstants.{LIMIT};
+ghost use Rattle.dutch_sequence.specs.declared.numbers.TheConstants.{LIMIT};
 ghost use Rattle.dutch_bracket.specs.Prelude.{next_in, quality_in, fixed, HasNumbers, fixed_lists, psd_with};
 ghost use Rattle.dutch_bracket.specs.Prelude.{IsOf, frame_of, AllNumbers, HasSeats, floor_over, has_s1, is_uniform};
 ghost use Rattle.dutch_bracket.specs.Prelude.{IsNoBetter};

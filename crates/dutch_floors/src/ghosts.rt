@@ -3,7 +3,7 @@
 ghost use Rattle.std.specs.Prelude.{◌≡◌, ◌+◌, ◌-◌, ◌*◌, ◌<◌, ◌≤◌, ◌&&◌, true, false, map, slice_index, length};
 ghost use Rattle.std.specs.List.{list_any};
 ghost use Rattle.std.specs.Result.{MatchResult};
-ghost use Rattle.dutch_order.specs.declared.numbers.TheConstants.{LIMIT};
+ghost use Rattle.dutch_sequence.specs.declared.numbers.TheConstants.{LIMIT};
 ghost use Rattle.dutch_player.specs.Prelude.{may_meet};
 ghost use Rattle.dutch_bracket.specs.Prelude.{AreSeats, is_upto, some_meets, may_bye, ghosts_meet, ghost_may_be_left};
 ghost use Rattle.dutch_bracket.specs.Prelude.{group_here};

@@ -5,13 +5,13 @@ use Rattle.std.proofs.lemmas.List.Elements.{filter-append}
 use Rattle.std.proofs.lemmas.Bool.{cases_Bool, true≢false, and_from, and_left}
 use Rattle.dutch_order.specs.declared.bracket.Shape.{Shape}
 use Rattle.dutch_order.specs.Prelude.{tuples, subsets, all_meet, is_same, from_on, numbers_from, IsIn, sorted, lower_first, exchanges, exchange_cmp, limbo_exchanges, limbo_cmp, Frame, Arrangement, residents_of, moved_down_scores, left_of, remainder_pairs, with_s2r, with_s1r, with_s2, arrangements, is_same_arrangement, behind, rest, is_legal, candidates, AreCandidates, candidates_from, joined, arranged, without_own, blocks_from, in_s1r, s1r_blocks, in_s2, s2_blocks, in_s1, s1_blocks, in_bracket, pairs_meet, may_leave, HasS2, Of, Passes}
-use Rattle.dutch_order.proofs.Skipping.{all-members, passes-keeps}
-use Rattle.dutch_order.proofs.FromOn.{is_same-refl, is_same-true, elsewhere}
-use Rattle.dutch_order.proofs.Lists.{filter-flat_map, flat_map-filter, flat_map-same, filter-same}
-use Rattle.dutch_order.proofs.Sets.{sorted-in}
-use Rattle.dutch_order.proofs.Orders.{IsIn-flat_map, IsIn-map}
+use Rattle.dutch_sequence.proofs.Skipping.{all-members, passes-keeps}
+use Rattle.dutch_sequence.proofs.FromOn.{is_same-refl, is_same-true, elsewhere}
+use Rattle.dutch_sequence.proofs.Lists.{filter-flat_map, flat_map-filter, flat_map-same, filter-same}
+use Rattle.dutch_sequence.proofs.Sets.{sorted-in}
+use Rattle.dutch_sequence.proofs.Orders.{IsIn-flat_map, IsIn-map}
 use Rattle.dutch_order.proofs.Listed.{joined-map, flat_map-members, s2r-listed, s1r-either, s1r-barred, s2-listed, exchange-length, limbo-length, legal-parts, candidates-listed}
-use Rattle.dutch_order.proofs.Members.{filter-map}
+use Rattle.dutch_sequence.proofs.Members.{filter-map}
 
 same-refl : (a : Arrangement) → is_same_arrangement a a ≡ true
 same-refl a =

@@ -3,9 +3,9 @@ use Rattle.std.proofs.Common.{◌≡◌, ℕ, Bool, true, false, if◌then◌els
 use Rattle.std.specs.List.{AllByRecursion}
 use Rattle.dutch_order.specs.Prelude.{Arrangement, left_of, is_same, Of, arranged, blocks_from, if_own, in_s1r, in_s2, s1r_blocks, exchanges, GoesOn, Passes}
 use Rattle.std.proofs.lemmas.Bool.{cases_Bool, true≢false}
-use Rattle.dutch_order.proofs.FromOn.{is_same-true}
-use Rattle.dutch_order.proofs.LeftOut.{passes-nothing}
-use Rattle.dutch_order.proofs.Skipping.{all-joined, passes-map, passes-none}
+use Rattle.dutch_sequence.proofs.FromOn.{is_same-true}
+use Rattle.dutch_sequence.proofs.LeftOut.{passes-nothing}
+use Rattle.dutch_sequence.proofs.Skipping.{all-joined, passes-map, passes-none}
 
 -- the next choice is taken: its block stands before whole ones
 pub block-comes : (part : Arrangement → List ℕ) (block : Option Arrangement → List ℕ → List Arrangement) (own : Option Arrangement) (choice : List ℕ) (coming later : List (List ℕ)) → coming ≡ choice ∷ later → blocks_from part block own coming ≡ block (if_own part own choice) choice ∷ map (block None) later

@@ -5,8 +5,8 @@ use Rattle.std.proofs.lemmas.List.{length-take-le}
 use Rattle.std.proofs.lemmas.Bool.{and_from}
 use Rattle.dutch_order.specs.Prelude.{subsets, tuples, is_member, numbers_from, IsIn, sorted, lower_first, exchange_cmp, exchanges, limbo_cmp, limbo_exchanges, Frame, Arrangement, residents_of, moved_down_scores, left_of, remainder_pairs, with_s2r, with_s1r, with_s2, arrangements, is_set_of, is_tuple_of, is_of, moved_down_of}
 use Rattle.dutch_order.specs.declared.bracket.Shape.{Shape}
-use Rattle.dutch_order.proofs.Orders.{Rises, Rises-filter, all_members, IsIn-map, map-IsIn, IsIn-flat_map, flat_map-IsIn}
-use Rattle.dutch_order.proofs.Sets.{sorted-in, in-sorted}
+use Rattle.dutch_sequence.proofs.Orders.{Rises, Rises-filter, all_members, IsIn-map, map-IsIn, IsIn-flat_map, flat_map-IsIn}
+use Rattle.dutch_sequence.proofs.Sets.{sorted-in, in-sorted}
 use Rattle.dutch_order.proofs.CursorSets.{subset-from, subset-to, tuple-from, tuple-to, are-set, are-tuple, numbers-within, AreLists, lists-are, left-within}
 
 pub rises-numbers : (first count : ℕ) → Rises (numbers_from first count)

@@ -10,7 +10,7 @@ use Rattle.std.proofs.lemmas.Bool.Decides.{nat_tests}
 use Rattle.std.proofs.lemmas.Fmt.{decimal_digit, decimal_step}
 use Rattle.dutch_order.specs.Prelude.{number_after, is_numeral, number_of}
 use Rattle.dutch_order.specs.Cursors.{numbers_of, ◌>>=◌}
-use Rattle.dutch_order.specs.declared.numbers.TheConstants.{LIMIT}
+use Rattle.dutch_sequence.specs.declared.numbers.TheConstants.{LIMIT}
 
 -- the numbers that a cursor may have
 pub record IsNumber (n : ℕ) : Type 0 where

@@ -7,7 +7,7 @@ use Rattle.dutch_order.specs.Prelude.{IsIn, Frame, Arrangement, IsBracket, resid
 use Rattle.dutch_order.specs.declared.bracket.Shape.{Shape}
 use Rattle.dutch_order.specs.declared.cursor.CursorFault.{CursorFault}
 use Rattle.dutch_order.specs.declared.cursor.CursorFault.TheVariants.{Syntax, NotOfBracket}
-use Rattle.dutch_order.proofs.Orders.{all_members}
+use Rattle.dutch_sequence.proofs.Orders.{all_members}
 use Rattle.dutch_order.proofs.Parts.{glue-parts}
 use Rattle.dutch_order.proofs.CursorNumbers.{IsNumber}
 use Rattle.dutch_order.proofs.CursorSets.{numbers-within, lists-are, left-within}

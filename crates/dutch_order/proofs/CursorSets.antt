@@ -3,28 +3,14 @@ use Rattle.std.proofs.Common.{◌≡◌, ℕ, zero, suc, ◌+◌, ◌-◌, ◌<�
 use Rattle.std.specs.Prelude.{Ok, Err, nat_le}
 use Rattle.std.specs.Option.{is_some, IfSome}
 use Rattle.std.specs.List.{AllByRecursion}
-use Rattle.std.proofs.lemmas.Bool.{ltb-true, lt-ltb, le-leb, eq-eqb, eqb-true, ne_eqb, or_cases, or_left, or_right, and_parts, and_from, not-true, not_from_false, false_from_ne_true, true≢false}
+use Rattle.std.proofs.lemmas.Bool.{ltb-true, lt-ltb, le-leb, eq-eqb, eqb-true, ne_eqb, and_parts, and_from, not-true, not_from_false, false_from_ne_true, true≢false}
 use Rattle.dutch_order.specs.Prelude.{subsets, tuples, is_member, without, numbers_from, IsIn, Frame, Arrangement, residents_of, left_of, remainder_pairs, ascends_above, are_different, are_of, is_set_of, is_tuple_of, is_of, of_bracket, moved_down_of, is_short}
 use Rattle.dutch_order.specs.declared.bracket.Shape.{Shape}
 use Rattle.dutch_order.specs.declared.cursor.CursorFault.TheVariants.{NotOfBracket}
-use Rattle.dutch_order.proofs.HalfWalks.{Climbs}
-use Rattle.dutch_order.proofs.StageSets.{Climbs-length}
-use Rattle.dutch_order.proofs.Orders.{Rises, all_members, member_has, IsIn-append, IsIn-front, IsIn-back, IsIn-map, map-IsIn, IsIn-flat_map, flat_map-IsIn, IsIn-filter, filter-IsIn}
-use Rattle.dutch_order.specs.declared.numbers.TheConstants.{LIMIT}
-
--- membership, as a test and as a fact
-pub member-in : (x : ℕ) (xs : List ℕ) → is_member x xs ≡ true → IsIn x xs
-member-in x [] h = absurd (true≢false (sym h))
-member-in x (y ∷ ys) h =
-    elim (or_cases (eqb y x) (is_member x ys) h) [
-      | inl here ↦ inl (sym (eqb-true y x here))
-      | inr later ↦ inr (member-in x ys later)
-    ]
-
-pub in-member : (x : ℕ) (xs : List ℕ) → IsIn x xs → is_member x xs ≡ true
-in-member x [] m = absurd m
-in-member x (y ∷ ys) (inl same) = or_left (eqb y x) (is_member x ys) (eq-eqb y x (sym same))
-in-member x (y ∷ ys) (inr m) = or_right (eqb y x) (is_member x ys) (in-member x ys m)
+use Rattle.dutch_sequence.proofs.HalfWalks.{Climbs}
+use Rattle.dutch_sequence.proofs.StageSets.{Climbs-length}
+use Rattle.dutch_sequence.proofs.Orders.{Rises, in-member, member-in, all_members, member_has, IsIn-append, IsIn-front, IsIn-back, IsIn-map, map-IsIn, IsIn-flat_map, flat_map-IsIn, IsIn-filter, filter-IsIn}
+use Rattle.dutch_sequence.specs.declared.numbers.TheConstants.{LIMIT}
 
 -- all are of a pool
 abbrev pub Within : List ℕ → List ℕ → Type 0

@@ -4,7 +4,7 @@ use Rattle.std.specs.List.{AllByRecursion}
 use Rattle.std.proofs.lemmas.Bool.{cases_order, cases_lt}
 use Rattle.dutch_order.specs.declared.bracket.Shape.{Shape}
 use Rattle.dutch_order.specs.Prelude.{IsIn, Frame, Arrangement, arrangements, players_of, paired, down, pairs_by_number, players_in, NoneTwice, FirstsAscend, IsMovedDown, IsResident, IsInForm, IsInsertion, TakesPair}
-use Rattle.dutch_order.proofs.Orders.{IsIn-front, IsIn-back}
+use Rattle.dutch_sequence.proofs.Orders.{IsIn-front, IsIn-back}
 use Rattle.dutch_order.proofs.CursorSets.{AreLists, numbers-within}
 use Rattle.dutch_order.proofs.NoneTwice.{in-left, players-append}
 use Rattle.dutch_order.proofs.FormArrangements.{lists-in, pairs-paired, arrangement-form}

@@ -4,10 +4,10 @@ use Rattle.std.specs.List.{filter, flat_map}
 use Rattle.std.proofs.lemmas.Bool.{cases_Bool}
 use Rattle.dutch_order.specs.declared.bracket.Shape.{Shape}
 use Rattle.dutch_order.specs.Prelude.{subsets, tuples, all_meet, numbers_from, IsIn, sorted, lower_first, exchanges, exchange_cmp, limbo_exchanges, limbo_cmp, Frame, Arrangement, residents_of, moved_down_scores, left_of, remainder_pairs, with_s2r, with_s1r, with_s2, arrangements, is_legal, candidates, joined, arranged, in_s1r, in_s2, in_s1, in_bracket, pairs_meet, may_leave}
-use Rattle.dutch_order.proofs.Lists.{filter-flat_map, flat_map-filter, flat_map-same, filter-same, filter-filter}
-use Rattle.dutch_order.proofs.Sets.{sorted-in}
-use Rattle.dutch_order.proofs.Counts.{subsets-length}
-use Rattle.dutch_order.proofs.Members.{filter-map}
+use Rattle.dutch_sequence.proofs.Lists.{filter-flat_map, flat_map-filter, flat_map-same, filter-same, filter-filter}
+use Rattle.dutch_sequence.proofs.Sets.{sorted-in}
+use Rattle.dutch_sequence.proofs.Counts.{subsets-length}
+use Rattle.dutch_sequence.proofs.Members.{filter-map}
 
 pub joined-map : {A B : Type 0} (f : A → List B) (xs : List A) → joined (map f xs) ≡ flat_map f xs
 joined-map f [] = refl

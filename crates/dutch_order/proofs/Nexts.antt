@@ -1,8 +1,8 @@
 -- What follows of the answer of a call for the next one.
 use Rattle.std.proofs.Common.{◌≡◌, sym, subst}
 use Rattle.dutch_order.specs.Prelude.{MatchStep}
-use Rattle.dutch_order.specs.declared.steps.Step.{Step}
-use Rattle.dutch_order.specs.declared.steps.Step.TheVariants.{Found, End, Undecided}
+use Rattle.dutch_sequence.specs.declared.steps.Step.{Step}
+use Rattle.dutch_sequence.specs.declared.steps.Step.TheVariants.{Found, End, Undecided}
 
 -- what follows of each answer follows of the answer
 pub step-each : {T : Type 0} (F F' : T → Type 0) (N N' S S' : Type 0) → ((x : T) → F x → F' x) → (N → N') → (S → S') → (step : Step T) → MatchStep step F N S → MatchStep step F' N' S'

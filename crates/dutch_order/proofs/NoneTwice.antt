@@ -3,8 +3,7 @@ use Rattle.std.proofs.Common.{◌≡◌, ℕ, suc, ◌<◌, true, not, List, [],
 use Rattle.std.specs.List.{AllByRecursion}
 use Rattle.std.proofs.lemmas.Bool.{and_parts, and_from, not-true, not_from_false, false_from_ne_true, true≢false}
 use Rattle.dutch_order.specs.Prelude.{is_member, IsIn, left_of, are_different, by_place, players_in, NoneTwice, FirstsAscend}
-use Rattle.dutch_order.proofs.Orders.{Rises, all_members, member_has, IsIn-append, IsIn-front, IsIn-back, IsIn-map, IsIn-filter, filter-IsIn}
-use Rattle.dutch_order.proofs.CursorSets.{member-in, in-member}
+use Rattle.dutch_sequence.proofs.Orders.{Rises, all_members, member_has, IsIn-append, IsIn-front, IsIn-back, IsIn-map, IsIn-filter, filter-IsIn, member-in, in-member}
 
 -- ---- lists without a number twice
 

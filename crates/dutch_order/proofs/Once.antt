@@ -7,14 +7,14 @@ use Rattle.dutch_order.specs.declared.bracket.Shape.{Shape}
 use Rattle.dutch_order.specs.Prelude.{subsets, tuples, is_same, numbers_from, is_member, put, sorted, IsIn, HasEachOnce, lower_first, all_tuples, exchanges, exchange_cmp, limbo_exchanges, limbo_cmp, Frame, Arrangement, residents_of, moved_down_scores, left_of, remainder_pairs, with_s2r, with_s1r, with_s2, arrangements, is_same_arrangement, behind, rest, is_legal, candidates, arranged}
 use Rattle.std.specs.declared.cmp.Ordering.{Ordering}
 use Rattle.std.specs.Ordering.{is_lt}
-use Rattle.dutch_order.proofs.FromOn.{is_same-true}
-use Rattle.dutch_order.proofs.Sets.{put-in, sorted-in}
-use Rattle.dutch_order.proofs.Orders.{Rises, Rises-filter, IsIn-append, IsIn-map, IsIn-flat_map, member_has, is_before-irreflexive, IsIn-filter}
+use Rattle.dutch_sequence.proofs.FromOn.{is_same-true}
+use Rattle.dutch_sequence.proofs.Sets.{put-in, sorted-in}
+use Rattle.dutch_sequence.proofs.Orders.{Rises, Rises-filter, IsIn-append, IsIn-map, IsIn-flat_map, member_has, is_before-irreflexive, IsIn-filter}
 use Rattle.dutch_order.proofs.CursorSets.{subset-to}
 use Rattle.dutch_order.proofs.CursorArrangements.{rises-numbers, pool-rises}
-use Rattle.dutch_order.proofs.TupleSearch.{tuples-ascend}
+use Rattle.dutch_sequence.proofs.TupleSearch.{tuples-ascend}
 use Rattle.dutch_order.proofs.Behind.{chosen-s1, chosen-s2, chosen-s1r}
-use Rattle.dutch_order.proofs.ByKeys.{is_before, Ascends}
+use Rattle.dutch_sequence.proofs.ByKeys.{is_before, Ascends}
 
 pub suffix-once : {X : Type 0} (xs ys : List X) → HasEachOnce (xs ++ ys) → HasEachOnce ys
 suffix-once [] ys once = once

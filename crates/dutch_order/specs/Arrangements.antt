@@ -1,11 +1,11 @@
 -- The arrangements of a bracket (C.04.3 A.3, B.2 to B.7): who is paired with whom, in article D's order.
 use Rattle.std.specs.Prelude.{ℕ, ◌+◌, ◌-◌, ◌*◌, ◌<◌, ◌≤◌, Bool, true, false, not, ◌&&◌, ◌||◌, if◌then◌else◌, List, [], ◌∷◌, ◌++◌, map, filter, flat_map, length, take, slice_index}
-use Rattle.dutch_order.specs.Choices.{is_member, all_meet, is_same, numbers_from}
-use Rattle.dutch_order.specs.Transposition.{all_tuples}
-use Rattle.dutch_order.specs.Exchange.{exchanges}
-use Rattle.dutch_order.specs.Limbo.{limbo_exchanges, IsNonAscending}
+use Rattle.dutch_sequence.specs.Choices.{all_meet, is_same, left_of, numbers_from}
+use Rattle.dutch_sequence.specs.Transposition.{all_tuples}
+use Rattle.dutch_sequence.specs.Exchange.{exchanges}
+use Rattle.dutch_sequence.specs.Limbo.{limbo_exchanges, IsNonAscending}
 use Rattle.dutch_order.specs.declared.bracket.Shape.{Shape}
-use Rattle.dutch_order.specs.declared.numbers.TheConstants.{LIMIT}
+use Rattle.dutch_sequence.specs.declared.numbers.TheConstants.{LIMIT}
 
 -- a bracket: the scores of its players by rank, those moved down first; how many were moved down; and whether at most one player may be
 -- left over in it, as in the last one and in a collapsed one [A.3]
@@ -33,10 +33,6 @@ residents_of frame = numbers_from (frame.mdps + 1) (length frame.scores - frame.
 -- the scores of the moved-down players
 abbrev pub moved_down_scores : Frame → List ℕ
 moved_down_scores frame = take frame.mdps frame.scores
-
--- a list without the members of another
-abbrev pub left_of : List ℕ → List ℕ → List ℕ
-left_of numbers taken = filter (λ x. not (is_member x taken)) numbers
 
 -- how many pairs of a shape are of two residents [with Fits]
 abbrev pub remainder_pairs : Shape → ℕ

@@ -2,7 +2,7 @@
 -- of its promise may pass by.
 use Rattle.std.specs.Prelude.{ℕ, ◌<◌, ◌&&◌, Bool, nat_le, List, length, Option, IfSome}
 use Rattle.dutch_order.specs.Arrangements.{Arrangement}
-use Rattle.dutch_order.specs.declared.numbers.TheConstants.{LIMIT}
+use Rattle.dutch_sequence.specs.declared.numbers.TheConstants.{LIMIT}
 
 -- if there is a list, it has more than LIMIT numbers
 abbrev pub IsLong : Option (List ℕ) → Type 0

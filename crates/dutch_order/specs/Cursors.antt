@@ -4,12 +4,12 @@ use Rattle.std.specs.List.{list_all, flat_map}
 use Rattle.std.specs.Char.{is_ascii_digit}
 use Rattle.std.specs.Str.{byte, bytes_eq}
 use Rattle.std.specs.Fmt.{decimal}
-use Rattle.dutch_order.specs.Choices.{is_member, numbers_from}
-use Rattle.dutch_order.specs.Arrangements.{Frame, Arrangement, residents_of, left_of, remainder_pairs}
+use Rattle.dutch_sequence.specs.Choices.{is_member, numbers_from, left_of}
+use Rattle.dutch_order.specs.Arrangements.{Frame, Arrangement, residents_of, remainder_pairs}
 use Rattle.dutch_order.specs.declared.bracket.Shape.{Shape}
 use Rattle.dutch_order.specs.declared.cursor.CursorFault.{CursorFault}
 use Rattle.dutch_order.specs.declared.cursor.CursorFault.TheVariants.{Syntax, NotOfBracket}
-use Rattle.dutch_order.specs.declared.numbers.TheConstants.{LIMIT}
+use Rattle.dutch_sequence.specs.declared.numbers.TheConstants.{LIMIT}
 
 -- a list: its numbers with commas between them, or 0 alone if it has none [with cursor_text]
 abbrev pub list_text : List ℕ → List ℕ

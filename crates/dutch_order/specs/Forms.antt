@@ -2,7 +2,7 @@
 use Rattle.std.specs.Prelude.{◌≡◌, ℕ, ◌+◌, ◌<◌, ◌≤◌, ◌⊎◌, List, [], ◌∷◌, ◌++◌, length}
 use Rattle.std.specs.List.{AllByRecursion}
 use Rattle.dutch_order.specs.Arrangements.{Frame, Arrangement, arrangements}
-use Rattle.dutch_order.specs.Keys.{IsIn}
+use Rattle.dutch_sequence.specs.Keys.{IsIn}
 use Rattle.dutch_order.specs.declared.bracket.Shape.{Shape}
 
 -- two lists of numbers, place by place, as pairs

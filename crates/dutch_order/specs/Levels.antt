@@ -1,22 +1,17 @@
 -- What the levels of a listing have still to give: a model that carries the listing, and which a reader of its promise may pass by.
-use Rattle.std.specs.Prelude.{ℕ, Bool, true, false, not, ◌&&◌, ◌||◌, List, [], ◌∷◌, ◌++◌, map, filter, length, if◌then◌else◌, Option, Some, None}
-use Rattle.dutch_order.specs.Choices.{all_meet, is_same, from_on, subsets, tuples}
-use Rattle.dutch_order.specs.Keys.{IsIn}
-use Rattle.dutch_order.specs.Arrangements.{Frame, Arrangement, left_of, residents_of, moved_down_scores, remainder_pairs, down, leaves_one}
-use Rattle.dutch_order.specs.Transposition.{all_tuples}
-use Rattle.dutch_order.specs.Exchange.{exchanges}
-use Rattle.dutch_order.specs.Limbo.{limbo_exchanges}
+use Rattle.std.specs.Prelude.{ℕ, Bool, true, false, not, ◌&&◌, ◌||◌, List, [], ◌∷◌, map, filter, length, if◌then◌else◌, Option, Some, None}
+use Rattle.dutch_sequence.specs.Choices.{all_meet, is_same, from_on, subsets, tuples, joined, left_of}
+use Rattle.dutch_sequence.specs.Keys.{IsIn}
+use Rattle.dutch_order.specs.Arrangements.{Frame, Arrangement, residents_of, moved_down_scores, remainder_pairs, down, leaves_one}
+use Rattle.dutch_sequence.specs.Transposition.{all_tuples}
+use Rattle.dutch_sequence.specs.Exchange.{exchanges}
+use Rattle.dutch_sequence.specs.Limbo.{limbo_exchanges}
 use Rattle.dutch_order.specs.declared.bracket.Shape.{Shape}
 
 -- what is left in a block, if a level stands in it
 abbrev pub within : {X : Type 0} → Bool → List X → List X
 within true coming = coming
 within false coming = []
-
--- blocks, one after another
-abbrev pub joined : {X : Type 0} → List (List X) → List X
-joined [] = []
-joined (block ∷ blocks) = block ++ joined blocks
 
 -- four lists
 abbrev pub arranged : List ℕ → List ℕ → List ℕ → List ℕ → Arrangement

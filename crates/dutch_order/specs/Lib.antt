@@ -1,19 +1,4 @@
 -- What the contracts of dutch_order name: choices and their order, brackets, arrangements and candidates, cursors, and searches.
-pub mod Choices
-pub mod Keys
-pub mod Trials
-pub mod Steps
-pub mod Descents
-pub mod Hints
-pub mod Transposition
-pub mod Halves
-pub mod Limbo
-pub mod Exchange
-pub mod Exchanged
-pub mod Stages
-pub mod Sides
-pub mod TranspositionSearch
-pub mod LimboSearch
 pub mod Arrangements
 pub mod Candidates
 pub mod Levels

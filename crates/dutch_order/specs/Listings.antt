@@ -1,13 +1,13 @@
 -- What a listing of candidates has still to give.
 use Rattle.std.specs.Prelude.{◌≡◌, ℕ, ◌-◌, ◌*◌, Bool, true, false, ◌&&◌, nat_lt, List, [], ◌∷◌, length, Option, Some, None}
 use Rattle.std.specs.List.{AllByRecursion}
-use Rattle.dutch_order.specs.Keys.{IsIn}
+use Rattle.dutch_sequence.specs.Keys.{IsIn}
 use Rattle.dutch_order.specs.declared.bracket.Shape.{Shape}
 use Rattle.dutch_order.specs.Arrangements.{Frame, Arrangement, candidates, down, rest}
 use Rattle.dutch_order.specs.Candidates.{Candidate}
-use Rattle.dutch_order.specs.Steps.{MatchStep, Passes}
-use Rattle.dutch_order.specs.declared.steps.Budget.{Budget}
-use Rattle.dutch_order.specs.declared.steps.Step.{Step}
+use Rattle.dutch_sequence.specs.Steps.{MatchStep, Passes}
+use Rattle.dutch_sequence.specs.declared.steps.Budget.{Budget}
+use Rattle.dutch_sequence.specs.declared.steps.Step.{Step}
 
 -- the bracket, the shape and the rule whose candidates are listed; those still to come; the arrangement behind which they stand, if
 -- there is one (the candidate handed out last, or before that, the one from which the listing began); and whether the end was told

@@ -1,18 +1,14 @@
 -- Beginnings of arrangements: what is fixed while a bracket's arrangements are gone through (C.04.3 B.6, B.7).
-use Rattle.std.specs.Prelude.{◌≡◌, ℕ, List, ◌++◌}
+use Rattle.std.specs.Prelude.{◌≡◌}
 use Rattle.dutch_order.specs.declared.prefix.Filling.{Filling}
 use Rattle.dutch_order.specs.declared.prefix.Filling.TheVariants.{S1, S2, S2r}
 use Rattle.dutch_order.specs.Arrangements.{Arrangement}
+use Rattle.dutch_sequence.specs.Choices.{GoesOn}
 
 -- the lists that are fixed so far, and which of them is being filled [B.6, B.7]
 pub record Beginning : Type 0 where
   pub filling : Filling
   pub lists : Arrangement
-
--- a list begins with another
-pub record GoesOn (front list : List ℕ) : Type 0 where
-  pub rest : List ℕ
-  pub is : list ≡ front ++ rest
 
 -- an arrangement begins with these lists: before S1 is chosen every one does; while S2 is filled S1 is its own and its S2 goes on;
 -- while S2R is filled S1, S2 and S1R are its own and its S2R goes on

@@ -3,8 +3,9 @@ ghost use Rattle.std.specs.Prelude.{◌≡◌, ◌∷◌, [], Some, None, cond, 
 ghost use Rattle.dutch_order.specs.Listings.{listed};
 
 use crate::cursor::Cursor;
-use crate::numbers::{Numbers, refill};
 use arrayvec::ArrayVec;
+use dutch_sequence::Numbers;
+use dutch_sequence::numbers::refill;
 use std::marker::Model;
 
 /// An arrangement, legal or not (C.04.3 B.2). Players are named by their numbers in the bracket.

@@ -3,13 +3,13 @@
 // makes a list.
 ghost use Rattle.std.specs.Prelude.{◌≡◌, ℕ, Bool, true};
 ghost use Rattle.dutch_order.specs.Arrangements.{Arrangement, Frame, candidates};
-ghost use Rattle.dutch_order.specs.Exchanged.{IsExchange};
-ghost use Rattle.dutch_order.specs.Keys.{IsIn};
+ghost use Rattle.dutch_sequence.specs.Exchanged.{IsExchange};
+ghost use Rattle.dutch_sequence.specs.Keys.{IsIn};
 ghost use Rattle.dutch_order.specs.Prefixes.{Begins};
 ghost use Rattle.dutch_order.specs.declared.bracket.Shape.{Shape};
 
-use crate::exchanged::Exchange;
 use crate::prefix::Prefix;
+use dutch_sequence::Exchange;
 
 /// Tells by how candidates of a bracket and a shape begin that they are without interest. It answers for all
 /// beginnings.

@@ -3,10 +3,11 @@ ghost use Rattle.std.specs.Prelude.{◌≡◌, ◌≤◌, length};
 ghost use Rattle.std.specs.List.Sorted.{IsStrictlyIncreasing};
 ghost use Rattle.dutch_order.specs.Arrangements.{Fits, IsBracket, players_of, residents_of};
 ghost use Rattle.dutch_order.specs.Cursors.{moved_down_of};
-ghost use Rattle.dutch_order.specs.declared.numbers.TheConstants.{LIMIT};
+ghost use Rattle.dutch_sequence.specs.declared.numbers.TheConstants.{LIMIT};
 
-use crate::numbers::{Numbers, numbered_from, put_numbered};
 use arrayvec::ArrayVec;
+use dutch_sequence::numbers::put_numbered;
+use dutch_sequence::{Numbers, numbered_from};
 use std::marker::Model;
 
 /// How many pairs an arrangement makes, and how many moved-down players are in them (C.04.3 C.5, B.1).

@@ -3,8 +3,9 @@ ghost use Rattle.std.specs.Prelude.{◌≡◌};
 
 use crate::arrangement::Arrangement;
 use crate::cursor::Cursor;
-use crate::numbers::{Numbers, fill};
 use arrayvec::ArrayVec;
+use dutch_sequence::Numbers;
+use dutch_sequence::numbers::fill;
 use std::marker::Model;
 
 /// A legal arrangement of a bracket (C.04.3 B.2, B.3), and those whom it leaves over. Players are named by their

@@ -11,13 +11,13 @@
 ghost use Rattle.std.specs.Prelude.{◌≡◌, ◌++◌, ◌∷◌, [], Some, None, filter, length, not, ◌||◌, ◌&&◌, ◌-◌, ◌*◌, nat_lt};
 ghost use Rattle.std.specs.Prelude.{option_copied, true, false};
 ghost use Rattle.dutch_order.specs.Arrangements.{Fits, arrangements, candidates, down, leaves_one, rest};
-ghost use Rattle.dutch_order.specs.Choices.{is_member};
-ghost use Rattle.dutch_order.specs.Keys.{IsIn};
+ghost use Rattle.dutch_sequence.specs.Choices.{is_member};
+ghost use Rattle.dutch_sequence.specs.Keys.{IsIn};
 ghost use Rattle.dutch_order.specs.Levels.{Of, in_bracket, may_leave};
 ghost use Rattle.dutch_order.specs.Listings.{AreCandidates, candidates_from, leaves_too_many, listed};
 ghost use Rattle.dutch_order.specs.Listings.{EndsAtOnce, TellsEnd, Gives, Ends, Stops, GivesPast, EndsPast, StopsPast};
-ghost use Rattle.dutch_order.specs.Steps.{MatchDrawn, MatchStep, Passes, Spends};
-ghost use Rattle.dutch_order.specs.declared.steps.Step.TheVariants.{Found, End, Undecided};
+ghost use Rattle.dutch_sequence.specs.Steps.{MatchDrawn, MatchStep, Passes, Spends};
+ghost use Rattle.dutch_sequence.specs.declared.steps.Step.TheVariants.{Found, End, Undecided};
 
 use crate::arrangement::{Arrangement, Held};
 use crate::bound::Bound;
@@ -27,10 +27,8 @@ use crate::choices::{Levels, no_levels};
 use crate::cursor::Cursor;
 use crate::cuts::{Cuts, NoCuts, Within};
 use crate::levels::Arranges;
-use crate::numbers::Numbers;
 use crate::prefix::Prefix;
-use crate::rules::Rule;
-use crate::steps::{Budget, Drawn, Step, Stopped};
+use dutch_sequence::{Budget, Drawn, Numbers, Rule, Step, Stopped};
 use std::marker::Model;
 
 /// Whether a player is in one of the four lists.

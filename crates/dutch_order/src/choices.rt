@@ -7,24 +7,23 @@
 ghost use Rattle.std.specs.Prelude.{◌≡◌, ◌+◌, ◌≤◌, ℕ, List, None, [], ◌∷◌, length, option_copied, true};
 ghost use Rattle.std.specs.List.{AllByRecursion};
 ghost use Rattle.std.specs.List.Sorted.{IsStrictlyIncreasing};
-ghost use Rattle.dutch_order.specs.Arrangements.{Arrangement, arrangements, left_of};
-ghost use Rattle.dutch_order.specs.Keys.{IsIn};
-ghost use Rattle.dutch_order.specs.Levels.{HasS1r, HasS2, HasS2r, Of, if_own, in_bracket, in_s1, in_s1r, in_s2, joined};
+ghost use Rattle.dutch_order.specs.Arrangements.{Arrangement, arrangements};
+ghost use Rattle.dutch_sequence.specs.Choices.{left_of, joined};
+ghost use Rattle.dutch_sequence.specs.Keys.{IsIn};
+ghost use Rattle.dutch_order.specs.Levels.{HasS1r, HasS2, HasS2r, Of, if_own, in_bracket, in_s1, in_s1r, in_s2};
 ghost use Rattle.dutch_order.specs.Levels.{without_own};
-ghost use Rattle.dutch_order.specs.Steps.{MatchDrawn, Passes, Spends};
+ghost use Rattle.dutch_sequence.specs.Steps.{MatchDrawn, Passes, Spends};
 
 use crate::arrangement::Arrangement;
 use crate::bracket::FittingShape;
 use crate::cursor::Cursor;
-use crate::cuts::{Cuts, CutsTuples, OfS1r, OfS2, OfS2r, Unless};
-use crate::exchange::Exchanges;
-use crate::generator::Generator;
+use crate::cuts::{Cuts, OfS1r, OfS2, OfS2r, Unless};
 use crate::levels::{Arranges, Blocks, Level};
-use crate::limbo::LimboExchanges;
-use crate::numbers::{Numbers, is_same, put_left_of, refill};
-use crate::rules::Rule;
-use crate::steps::{Budget, Drawn};
-use crate::transposition::{Meeting, Transpositions};
+use dutch_sequence::numbers::{is_same, put_left_of, refill};
+use dutch_sequence::{
+    Budget, CutsTuples, Drawn, Exchanges, Generator, LimboExchanges, Meeting, Numbers, Rule, Sides,
+    Transpositions,
+};
 use std::marker::Model;
 
 /// Arrangements with the same S1, S2 and S1R: one for each S2R, by article D.1.
@@ -53,6 +52,7 @@ struct InS1r<'s> {
     s2: &'s Numbers,
     remainder: &'s Numbers,
     s1r: &'s Numbers,
+    ghost ascends: { IsStrictlyIncreasing remainder.now.items },
 }
 
 impl<'a, R: Rule> Model for ByS2r<'a, R> {
@@ -86,7 +86,6 @@ impl<'a, R: Rule> ByS2r<'a, R> {
     /// Begins anew.
     #[tactic(auto, unfolding(crate::specs::Levels::in_s1r))]
     fn start(&mut self, from: &InS1r<'_>, own: Option<&'a Cursor>, rule: &'a R)
-        requires ascends { IsStrictlyIncreasing from.now.remainder.now.items }
         requires same { Of (λ cursor. cursor.s1r ≡ from.now.s1r.now.items) (option_copied own) }
         requires given { Of (HasS2r from.now.remainder.now.items) (option_copied own) }
         ensures { self.new ≡ in_s1r (R.meets rule.now) from.now.s1.now.items from.now.s2.now.items
@@ -183,6 +182,8 @@ struct InS2<'s> {
     s1: &'s Numbers,
     residents: &'s Numbers,
     s2: &'s Numbers,
+    ghost ascends: { IsStrictlyIncreasing residents.now.items },
+    ghost enough: { k ≤ length (left_of residents.now.items s2.now.items) },
 }
 
 impl<'a, R: Rule> Model for ByS1r<'a, R> {
@@ -219,8 +220,6 @@ impl<'a, R: Rule> ByS1r<'a, R> {
     /// Begins anew.
     #[tactic(auto, unfolding(crate::specs::Levels::in_s2))]
     fn start(&mut self, from: &InS2<'_>, own: Option<&'a Cursor>, rule: &'a R)
-        requires ascends { IsStrictlyIncreasing from.now.residents.now.items }
-        requires enough { from.now.k ≤ length (left_of from.now.residents.now.items from.now.s2.now.items) }
         requires given { Of (HasS1r from.now.k (left_of from.now.residents.now.items from.now.s2.now.items))
             (option_copied own) }
         ensures { joined self.new ≡ in_s2 (R.meets rule.now) from.now.k from.now.s1.now.items
@@ -231,11 +230,13 @@ impl<'a, R: Rule> ByS1r<'a, R> {
         put_left_of(from.residents, from.s2, &mut self.remainder);
         self.rule = rule;
         self.resume = own;
+        let sides = Sides {
+            pool: &self.remainder,
+            k: from.k,
+        };
         match own {
-            Some(cursor) => self
-                .sets
-                .start_from(&self.remainder, from.k, &cursor.lists.s1r),
-            None => self.sets.start(&self.remainder, from.k),
+            Some(cursor) => self.sets.start_from(&sides, &cursor.lists.s1r),
+            None => self.sets.start(&sides),
         }
     }
 }
@@ -312,13 +313,16 @@ struct InS1<'s> {
     k: usize,
     residents: &'s Numbers,
     s1: &'s Numbers,
+    ghost ascends: { IsStrictlyIncreasing residents.now.items },
+    ghost enough: { length s1.now.items + k ≤ length residents.now.items },
 }
 
 impl<'a, R: Rule> Model for ByS2<'a, R> {
     ghost use Rattle.std.specs.Prelude.{◌≤◌, List, length, option_copied};
     ghost use Rattle.std.specs.List.{AllByRecursion};
     ghost use Rattle.std.specs.List.Sorted.{IsStrictlyIncreasing};
-    ghost use Rattle.dutch_order.specs.Arrangements.{Arrangement, left_of};
+    ghost use Rattle.dutch_order.specs.Arrangements.{Arrangement};
+    ghost use Rattle.dutch_sequence.specs.Choices.{left_of};
     ghost use Rattle.dutch_order.specs.Levels.{HasS1r, Of, s2_blocks};
 
     ghost Value = { List (List Arrangement) };
@@ -351,8 +355,6 @@ impl<'a, R: Rule> ByS2<'a, R> {
     /// Begins anew.
     #[tactic(auto, unfolding(crate::specs::Levels::in_s1))]
     fn start(&mut self, from: &InS1<'_>, own: Option<&'a Cursor>, rule: &'a R)
-        requires ascends { IsStrictlyIncreasing from.now.residents.now.items }
-        requires enough { length from.now.s1.now.items + from.now.k ≤ length from.now.residents.now.items }
         requires same { Of (λ cursor. cursor.s1 ≡ from.now.s1.now.items) (option_copied own) }
         requires given { Of (HasS2 from.now.k from.now.residents.now.items) (option_copied own) }
         ensures { joined self.new ≡ in_s1 (R.meets rule.now) from.now.k from.now.residents.now.items

@@ -4,7 +4,7 @@ ghost use Rattle.std.specs.Prelude.{◌≡◌, ℕ, ◌++◌, ◌+◌, ◌*◌, 
 ghost use Rattle.std.specs.Prelude.{is_some, length, true, false, Some, None, MatchOption, IfSome, ◌&&◌};
 ghost use Rattle.std.specs.Char.{is_ascii_digit};
 ghost use Rattle.std.specs.List.{list_all, flat_map};
-ghost use Rattle.dutch_order.specs.Arrangements.{left_of};
+ghost use Rattle.dutch_sequence.specs.Choices.{left_of};
 ghost use Rattle.dutch_order.specs.Cursors.{list_text, cursor_text, parts, is_numeral, number_after, number_of};
 ghost use Rattle.dutch_order.specs.Cursors.{numbers_of, list_of, arrangement_of, parsed, has_syntax, ascends_above};
 ghost use Rattle.dutch_order.specs.Cursors.{are_different, are_of, is_set_of, is_tuple_of, is_among, cursor_of};
@@ -13,8 +13,9 @@ ghost use Rattle.arrayvec.specs.ArrayString.{array_string_len};
 
 use crate::arrangement::Arrangement;
 use crate::bracket::{Bracket, Shape};
-use crate::numbers::{LIMIT, Numbers, left_of};
 use arrayvec::ArrayString;
+use dutch_sequence::numbers::left_of;
+use dutch_sequence::{LIMIT, Numbers};
 use itoa::Buffer;
 use std::marker::Model;
 use thiserror::Error;

@@ -3,15 +3,15 @@
 // question, so no level and no search has to hand it down.
 ghost use Rattle.std.specs.Prelude.{◌≡◌, ℕ, List, false, true};
 ghost use Rattle.dutch_order.specs.Arrangements.{Arrangement, candidates};
-ghost use Rattle.dutch_order.specs.Exchanged.{IsExchange};
-ghost use Rattle.dutch_order.specs.Keys.{IsIn};
+ghost use Rattle.dutch_sequence.specs.Exchanged.{IsExchange};
+ghost use Rattle.dutch_sequence.specs.Keys.{IsIn};
 ghost use Rattle.dutch_order.specs.Levels.{arranged};
-ghost use Rattle.dutch_order.specs.Prefixes.{Begins, GoesOn};
+ghost use Rattle.dutch_order.specs.Prefixes.{Begins};
+ghost use Rattle.dutch_sequence.specs.Choices.{GoesOn};
 
 use crate::bound::Bound;
-use crate::exchanged::Exchange;
-use crate::numbers::Numbers;
 use crate::prefix::{Filling, Prefix};
+use dutch_sequence::{CutsExchanges, CutsTuples, Exchange, Numbers};
 use std::cell::RefCell;
 
 /// Tells of a beginning of arrangements whether all arrangements that begin so are idle.
@@ -27,26 +27,6 @@ pub trait Cuts {
     fn cuts_exchange(&self, prefix: &Prefix<'_>, exchange: &Exchange<'_>) -> bool
         ensures { result ≡ true → (a : Arrangement) → Begins prefix.now a → IsExchange exchange.now a.s1r
             → Idle self.now a };
-}
-
-/// Tells of an exchange whether all sets that are such are idle.
-pub trait CutsExchanges {
-    /// A set is idle.
-    ghost Idle: { Self → List ℕ → Type 0 };
-
-    /// Whether all sets that are such an exchange are known to be idle.
-    fn cuts(&self, exchange: &Exchange<'_>) -> bool
-        ensures { result ≡ true → (set : List ℕ) → IsExchange exchange.now set → Idle self.now set };
-}
-
-/// Tells of a beginning of tuples whether all tuples that begin so are idle.
-pub trait CutsTuples {
-    /// A tuple is idle.
-    ghost Idle: { Self → List ℕ → Type 0 };
-
-    /// Whether all tuples that begin so are known to be idle.
-    fn cuts(&self, beginning: &[u16]) -> bool
-        ensures { result ≡ true → (tuple : List ℕ) → GoesOn beginning.now tuple → Idle self.now tuple };
 }
 
 /// Tells of nothing: no arrangement is idle.

@@ -1,7 +1,7 @@
 // Laws of pairs in form: which pairs are those of an arrangement (C.04.3 B.2, B.3), and when there is one with a pair
 // more. Further laws, for readers, stand in `pairing_laws`.
 ghost use Rattle.std.specs.Prelude.{◌≤◌, ◌<◌, ℕ, List, length};
-ghost use Rattle.dutch_order.specs.Keys.{IsIn};
+ghost use Rattle.dutch_sequence.specs.Keys.{IsIn};
 ghost use Rattle.dutch_order.specs.Arrangements.{Frame, Arrangement, arrangements, down};
 ghost use Rattle.dutch_order.specs.declared.bracket.Shape.{Shape};
 ghost use Rattle.dutch_order.specs.Forms.{HasArrangement, IsInForm, TakesPair, pairs_by_number};

@@ -7,12 +7,13 @@
 ghost use Rattle.std.specs.Prelude.{◌≡◌, ℕ, List, [], ◌∷◌};
 ghost use Rattle.std.specs.List.{AllByRecursion};
 ghost use Rattle.dutch_order.specs.Arrangements.{Arrangement};
-ghost use Rattle.dutch_order.specs.Levels.{joined, within};
-ghost use Rattle.dutch_order.specs.Steps.{MatchDrawn, Passes, Spends};
+ghost use Rattle.dutch_order.specs.Levels.{within};
+ghost use Rattle.dutch_sequence.specs.Choices.{joined};
+ghost use Rattle.dutch_sequence.specs.Steps.{MatchDrawn, Passes, Spends};
 
 use crate::arrangement::Arrangement;
 use crate::cuts::Cuts;
-use crate::steps::{Budget, Drawn};
+use dutch_sequence::{Budget, Drawn};
 use std::marker::Model;
 
 /// What hands out arrangements, one by one.
@@ -81,7 +82,8 @@ pub struct Level<B: Blocks> {
 impl<B: Blocks> Model for Level<B> {
     ghost use Rattle.std.specs.Prelude.{List, ◌++◌};
     ghost use Rattle.dutch_order.specs.Arrangements.{Arrangement};
-    ghost use Rattle.dutch_order.specs.Levels.{within, joined};
+    ghost use Rattle.dutch_order.specs.Levels.{within};
+    ghost use Rattle.dutch_sequence.specs.Choices.{joined};
 
     ghost Value = { List Arrangement };
 

@@ -24,21 +24,9 @@ mod candidates;
 mod choices;
 mod cursor;
 mod cuts;
-mod exchange;
-mod exchanged;
-mod generator;
-mod halves;
 pub mod laws;
 mod levels;
-mod limbo;
-mod numbers;
 mod prefix;
-mod rules;
-mod search;
-mod stage;
-mod steps;
-mod sums;
-mod transposition;
 
 pub use bound::Bound;
 pub use bracket::{Bracket, Shape};
@@ -46,12 +34,8 @@ pub use candidate::Candidate;
 pub use candidates::Candidates;
 pub use cursor::{Cursor, CursorFault, CursorText, TEXT_LIMIT};
 pub use cuts::Within;
-pub use exchange::Exchanges;
-pub use exchanged::Exchange;
-pub use generator::Generator;
-pub use limbo::LimboExchanges;
-pub use numbers::{LIMIT, Numbers, numbered_from};
+pub use dutch_sequence::{
+    Budget, Exchange, Exchanges, Generator, LIMIT, LimboExchanges, Numbers, Rule, Step, Stopped,
+    Transpositions, numbered_from,
+};
 pub use prefix::{Filling, Prefix};
-pub use rules::Rule;
-pub use steps::{Budget, Step, Stopped};
-pub use transposition::Transpositions;

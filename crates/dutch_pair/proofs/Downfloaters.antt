@@ -5,7 +5,7 @@ use Rattle.std.proofs.lemmas.Bool.{cases_lt, cases_order, eq-eqb, ne_eqb, and_pa
 use Rattle.dutch_order.specs.Prelude.{Arrangement, Frame, arrangements, down, is_legal, paired, players_of, is_member, NoneTwice, IsIn}
 use Rattle.dutch_order.proofs.CursorSets.{numbers-within}
 use Rattle.dutch_order.proofs.NoneTwice.{in-left, rises-twice}
-use Rattle.dutch_order.proofs.Orders.{IsIn-map, Rises-filter, IsIn-filter, filter-IsIn}
+use Rattle.dutch_sequence.proofs.Orders.{IsIn-map, Rises-filter, IsIn-filter, filter-IsIn}
 use Rattle.dutch_player.specs.Prelude.{Facts, may_meet}
 use Rattle.dutch_bracket.specs.declared.reached.BracketKind.{BracketKind}
 use Rattle.dutch_bracket.specs.Prelude.{Reached, ends_round, frame_of, is_number, numbers_meet, number_may_be_left, Choice, bracket, candidates_of, choice, completable, downfloaters, eligible, is_penultimate, seat_of, is_seat, seats_meet, has_member, seats_meet_sym}

@@ -5,7 +5,7 @@ use Rattle.std.proofs.lemmas.Bool.Decides.{nat_tests}
 use Rattle.std.proofs.lemmas.List.{append_cancel_left, take-append-drop}
 use Rattle.std.proofs.lemmas.Bool.{eqb-true, cond_both}
 use Rattle.dutch_order.specs.Prelude.{numbers_from}
-use Rattle.dutch_order.proofs.Members.{length-numbers}
+use Rattle.dutch_sequence.proofs.Members.{length-numbers}
 use Rattle.dutch_player.specs.Prelude.{Facts}
 use Rattle.dutch_bracket.specs.declared.reached.BracketKind.{BracketKind}
 use Rattle.dutch_bracket.specs.declared.reached.BracketKind.TheVariants.{Ordinary, Last}
@@ -14,7 +14,7 @@ use Rattle.dutch_pair.specs.Prelude.{AreRanked, AreAbove, Goes, everybody, ordin
 use Rattle.dutch_bracket.proofs.GroupLemmas.{first_group_is, first_group_taken, concat_scoregroups}
 use Rattle.dutch_pair.proofs.WalkLemmas.{Descends, is_above, ranked_seats, ranked_front, ranked_back}
 use Rattle.dutch_bracket.proofs.ArrangementParts.{numbers_above}
-use Rattle.dutch_order.specs.declared.numbers.TheConstants.{LIMIT}
+use Rattle.dutch_sequence.specs.declared.numbers.TheConstants.{LIMIT}
 
 ne_of : (a b : ℕ) → (a == b) ≡ false → a ≤ b → a < b
 ne_of a b h le = grind (arith, nat_tests)

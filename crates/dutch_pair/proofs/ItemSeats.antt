@@ -8,8 +8,8 @@ use Rattle.trf16.specs.declared.cell.Colour.{Colour}
 use Rattle.trf16.specs.declared.cell.Colour.TheVariants.{White, Black}
 use Rattle.dutch_order.specs.Prelude.{Arrangement, Frame, is_member, numbers_from, Candidate}
 use Rattle.dutch_order.specs.declared.bracket.Shape.{Shape}
-use Rattle.dutch_order.specs.declared.numbers.TheConstants.{LIMIT}
-use Rattle.dutch_order.proofs.Members.{climbs-filter, filter-length, length-numbers}
+use Rattle.dutch_sequence.specs.declared.numbers.TheConstants.{LIMIT}
+use Rattle.dutch_sequence.proofs.Members.{climbs-filter, filter-length, length-numbers}
 use Rattle.dutch_player.specs.declared.float.Float.{Float}
 use Rattle.dutch_player.specs.Prelude.{SeatFacts, Facts, seat_at, colours}
 use Rattle.dutch_bracket.specs.declared.item.Item.{Item}

@@ -12,8 +12,8 @@ use Rattle.dutch_pair.specs.Prelude.{AreAbove, Goes, everybody, is_below, lower_
 use Rattle.dutch_pair.proofs.GroupWalk.{everybody_goes, rest_inside}
 use Rattle.dutch_pair.proofs.WalkLemmas.{Descends, above_back}
 use Rattle.dutch_order.proofs.TooManyLeft.{filter-none-in}
-use Rattle.dutch_order.proofs.FromOn.{filter-each}
-use Rattle.dutch_order.proofs.Orders.{IsIn-front, IsIn-back, IsIn-append, member_has}
+use Rattle.dutch_sequence.proofs.FromOn.{filter-each}
+use Rattle.dutch_sequence.proofs.Orders.{IsIn-front, IsIn-back, IsIn-append, member_has}
 
 module _ (facts : Facts) where
   -- ---- one seat more

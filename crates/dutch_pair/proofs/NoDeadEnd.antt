@@ -10,9 +10,9 @@ use Rattle.dutch_order.specs.declared.bracket.Shape.{Shape}
 use Rattle.dutch_order.specs.Prelude.{Arrangement, Fits, Frame, arrangements, down, is_legal, numbers_from, NoneTwice, IsIn}
 use Rattle.dutch_order.proofs.CursorSets.{AreLists}
 use Rattle.dutch_order.proofs.FormArrangements.{in-lists}
-use Rattle.dutch_order.proofs.Lists.{filter-all, map-numbers_from}
+use Rattle.dutch_sequence.proofs.Lists.{filter-all, map-numbers_from}
 use Rattle.dutch_order.proofs.NoneTwice.{rises-twice, twice-apart, twice-back, twice-front, twice-join}
-use Rattle.dutch_order.proofs.Orders.{IsIn-append, IsIn-back, IsIn-front, IsIn-map, map-IsIn, IsIn-filter, filter-IsIn, member_has}
+use Rattle.dutch_sequence.proofs.Orders.{IsIn-append, IsIn-back, IsIn-front, IsIn-map, map-IsIn, IsIn-filter, filter-IsIn, member_has}
 use Rattle.dutch_player.specs.Prelude.{Facts}
 use Rattle.dutch_bracket.specs.Prelude.{HasCandidate, Reached, ends_round, frame_of, numbers_meet, number_may_be_left, Choice, bracket, candidates_of, choice, completable, downfloaters, eligible, is_penultimate, scoregroups, seats_meet_sym, seat_of, all_pairs, seats_meet, seats_may_be_left, has_member}
 use Rattle.dutch_bracket.specs.Completion.{Completable}

@@ -7,7 +7,7 @@ use Rattle.dutch_order.specs.Prelude.{all_meet, HasArrangement, HasOneMore, Take
 use Rattle.dutch_order.proofs.FormArrangements.{form-arrangement, lists-in, paired-pairs, pairs-paired}
 use Rattle.dutch_order.proofs.FormInsertions.{all-inserted, inserted-players, players-inserted, takes-pair}
 use Rattle.dutch_order.proofs.NoneTwice.{in-left, left-in}
-use Rattle.dutch_order.proofs.Skipping.{all-behind}
+use Rattle.dutch_sequence.proofs.Skipping.{all-behind}
 use Rattle.dutch_bracket.proofs.AllLemmas.{all_join}
 use Rattle.dutch_bracket.proofs.MateLists.{fits_arrangement}
 use Rattle.dutch_pair.proofs.WalkLemmas.{all_front}

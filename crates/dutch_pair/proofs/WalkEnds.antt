@@ -15,7 +15,7 @@ use Rattle.dutch_bracket.proofs.AllLemmas.{all_join}
 use Rattle.dutch_bracket.proofs.CandidateSeats.{all_within}
 use Rattle.dutch_bracket.proofs.DownLemmas.{down_numbers, down_few}
 use Rattle.dutch_pair.proofs.WalkLemmas.{Descends, is_above}
-use Rattle.dutch_order.specs.declared.numbers.TheConstants.{LIMIT}
+use Rattle.dutch_sequence.specs.declared.numbers.TheConstants.{LIMIT}
 
 -- ---- what is chosen is an arrangement
 

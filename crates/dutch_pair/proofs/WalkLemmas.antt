@@ -4,16 +4,16 @@ use Rattle.std.proofs.lemmas.Bool.{cond_both}
 use Rattle.std.specs.List.{AllByRecursion}
 use Rattle.std.proofs.lemmas.List.{length-map, get_or-map, get_or_append_left, get_or-append_right}
 use Rattle.dutch_order.specs.Prelude.{Arrangement, paired, numbers_from, is_member, IsNonAscending}
-use Rattle.dutch_order.proofs.Turns.{at_index}
-use Rattle.dutch_order.proofs.Skipping.{all-behind}
+use Rattle.dutch_sequence.proofs.Turns.{at_index}
+use Rattle.dutch_sequence.proofs.Skipping.{all-behind}
 use Rattle.dutch_player.specs.Prelude.{Facts}
 use Rattle.dutch_bracket.specs.declared.reached.BracketKind.{BracketKind}
 use Rattle.dutch_bracket.specs.declared.reached.BracketKind.TheVariants.{Ordinary}
 use Rattle.dutch_bracket.specs.Prelude.{score_at, seat_of, AreSeats, Reached, IsAbove, bracket, downfloaters}
 use Rattle.dutch_pair.specs.Prelude.{AreRanked, AreAbove, Goes}
 use Rattle.dutch_bracket.proofs.AllLemmas.{all_join}
-use Rattle.dutch_order.specs.declared.numbers.TheConstants.{LIMIT}
-use Rattle.dutch_order.proofs.LeftOut.{all-each}
+use Rattle.dutch_sequence.specs.declared.numbers.TheConstants.{LIMIT}
+use Rattle.dutch_sequence.proofs.LeftOut.{all-each}
 
 -- scores do not ascend along the seats of a field, of which there are at most LIMIT
 pub record Descends (facts : Facts) : Type 0 where

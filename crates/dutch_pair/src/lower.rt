@@ -1,6 +1,6 @@
 // The players below a bracket that a round reaches (C.04.3 A.3).
 ghost use Rattle.std.specs.Prelude.{◌≡◌, ◌<◌, ◌≤◌, filter, length};
-ghost use Rattle.dutch_order.specs.declared.numbers.TheConstants.{LIMIT};
+ghost use Rattle.dutch_sequence.specs.declared.numbers.TheConstants.{LIMIT};
 ghost use Rattle.dutch_bracket.specs.Prelude.{AreSeats, IsOf};
 ghost use Rattle.dutch_pair.specs.Lower.{is_below, lower_of};
 

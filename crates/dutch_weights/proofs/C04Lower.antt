@@ -13,8 +13,8 @@ use Rattle.dual.proofs.Sums.{sum_none}
 use Rattle.dual.proofs.WeakDuality.{counted}
 use Rattle.dutch_order.specs.declared.bracket.Shape.{Shape}
 use Rattle.dutch_order.specs.Prelude.{Arrangement, Fits, down, numbers_from, IsIn, Begins, Beginning}
-use Rattle.dutch_order.proofs.Lists.{map-numbers_from}
-use Rattle.dutch_order.proofs.Members.{length-numbers, numbers-append}
+use Rattle.dutch_sequence.proofs.Lists.{map-numbers_from}
+use Rattle.dutch_sequence.proofs.Members.{length-numbers, numbers-append}
 use Rattle.dutch_player.specs.Prelude.{Facts}
 use Rattle.dutch_weights.specs.declared.scoped.Reach.TheVariants.{Lower}
 use Rattle.dutch_bracket.specs.Completion.{Completable, Covers as Covering, MayBeLeftOut}

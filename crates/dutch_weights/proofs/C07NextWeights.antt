@@ -12,8 +12,8 @@ use Rattle.dual.specs.Prelude.{FloorTable, IsFloor, extra_in, IsMatching, IsPart
 use Rattle.dual.proofs.Sums.{sum_none, sum_of_ones, sum_of_twos}
 use Rattle.dutch_order.specs.declared.bracket.Shape.{Shape}
 use Rattle.dutch_order.specs.Prelude.{Arrangement, Fits, down, numbers_from, IsIn, Begins, Beginning}
-use Rattle.dutch_order.proofs.Members.{length-numbers, numbers-append}
-use Rattle.dutch_order.proofs.Orders.{member_has}
+use Rattle.dutch_sequence.proofs.Members.{length-numbers, numbers-append}
+use Rattle.dutch_sequence.proofs.Orders.{member_has}
 use Rattle.dutch_player.specs.Prelude.{Facts}
 use Rattle.dutch_bracket.specs.declared.reached.BracketKind.TheVariants.{Ordinary}
 use Rattle.dutch_weights.specs.declared.scoped.Reach.TheVariants.{Next}

@@ -9,10 +9,9 @@ use Rattle.dutch_order.specs.declared.bracket.Shape.{Shape}
 use Rattle.dutch_order.specs.declared.prefix.Filling.{Filling}
 use Rattle.dutch_order.specs.declared.prefix.Filling.TheVariants.{S1, S2, S2r}
 use Rattle.dutch_order.specs.Prelude.{Arrangement, Fits, Frame, arrangements, down, left_of, paired, players_of, remainder_pairs, residents_of, all_meet, is_member, IsIn, Begins, BeginsAt, Beginning}
-use Rattle.dutch_order.proofs.Counts.{member-four}
-use Rattle.dutch_order.proofs.CursorSets.{in-member, member-in}
-use Rattle.dutch_order.proofs.HalfWalks.{Climbs}
-use Rattle.dutch_order.proofs.Orders.{IsIn-filter, all_members, member_has}
+use Rattle.dutch_sequence.proofs.Counts.{member-four}
+use Rattle.dutch_sequence.proofs.Orders.{in-member, member-in, IsIn-filter, all_members, member_has}
+use Rattle.dutch_sequence.proofs.HalfWalks.{Climbs}
 use Rattle.dutch_player.specs.Prelude.{Facts}
 use Rattle.dutch_weights.specs.declared.scoped.Reach.TheVariants.{Bracket}
 use Rattle.dutch_bracket.specs.declared.scope.Standing.{Standing}

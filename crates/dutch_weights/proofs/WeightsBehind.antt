@@ -10,8 +10,8 @@ use Rattle.dutch_order.specs.declared.bracket.Shape.{Shape}
 use Rattle.dutch_order.specs.declared.prefix.Filling.{Filling}
 use Rattle.dutch_order.specs.declared.prefix.Filling.TheVariants.{S1, S2, S2r}
 use Rattle.dutch_order.specs.Prelude.{Arrangement, Fits, Frame, arrangements, down, left_of, remainder_pairs, residents_of, numbers_from, subsets, IsIn, Begins, BeginsAt, Beginning}
-use Rattle.dutch_order.proofs.Members.{length-numbers}
-use Rattle.dutch_order.proofs.Orders.{IsIn-append, IsIn-map}
+use Rattle.dutch_sequence.proofs.Members.{length-numbers}
+use Rattle.dutch_sequence.proofs.Orders.{IsIn-append, IsIn-map}
 use Rattle.dutch_player.specs.Prelude.{Facts}
 use Rattle.dutch_bracket.specs.Prelude.{fixed_lists, Quality, is_better, next_in, IsOf, Reached, frame_of, candidates_of, completable, downfloaters, is_penultimate, quality_of, Covers, Scope, HasDigits, IsOn, IsScale, IsScaleFor, Scale, number_pairs, numbers, weighing, weight_above, weight_of}
 use Rattle.dutch_weights.specs.Prelude.{Order, IsFloorBy, MeasuresNext, Scoped, all_numbers, costs_in, kept_by, without_left, AreFloors, HasNoBetterOn, IsChoosable, IsScaled, IsWeightFloor, ScopedFloor, Weighed, added_in, bound_behind, is_first, left_known, passed_over, weighing_of, weight_in}

@@ -1,7 +1,7 @@
 -- The players of a bracket, and all lower ones or those of the next lower scoregroup too, who are in none of some pairs, as a graph (C.04.3 C.1
 -- to C.4, C.7). Only private functions' clauses cite these.
 use Rattle.std.specs.Prelude.{ℕ, ◌≤◌, Bool, List, All, length, slice_index}
-use Rattle.dutch_order.specs.declared.numbers.TheConstants.{LIMIT}
+use Rattle.dutch_sequence.specs.declared.numbers.TheConstants.{LIMIT}
 use Rattle.dutch_weights.specs.ScopedCosts.{IsReached, Scoped, costs_in}
 
 -- a bracket whose pairs are weighed in a scope, and numbers of some of its players, who are the vertices in this order

@@ -5,7 +5,7 @@
 // costs so much more that as many pairs are made as can be, or no more where the weights tell of the next bracket
 // (C.7); and far more whoever is in a pair in all arrangements that are looked at.
 ghost use Rattle.std.specs.Prelude.{◌≡◌, ◌≤◌, All, IfOk, length};
-ghost use Rattle.dutch_order.specs.declared.numbers.TheConstants.{LIMIT};
+ghost use Rattle.dutch_sequence.specs.declared.numbers.TheConstants.{LIMIT};
 ghost use Rattle.dutch_weights.specs.ScopedCosts.{IsReached};
 
 use crate::scoped::Scoped;

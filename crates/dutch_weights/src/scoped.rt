@@ -8,7 +8,7 @@
 // and what is in no pair, and the differences, weigh by the digits of C.7.
 ghost use Rattle.std.specs.Prelude.{◌≡◌, ◌+◌, ◌<◌, ◌≤◌, ◌^◌, true, All, IfOk, IfSome, length, min, slice_index};
 ghost use Rattle.std.specs.Prelude.{if◌then◌else◌, nat_lt};
-ghost use Rattle.dutch_order.specs.declared.numbers.TheConstants.{LIMIT};
+ghost use Rattle.dutch_sequence.specs.declared.numbers.TheConstants.{LIMIT};
 ghost use Rattle.dutch_weights.specs.declared.scoped.Reach.TheVariants.{Next};
 ghost use Rattle.dutch_weights.specs.ScopedCosts.{IsReached, MeasuresNext, TellsSides, any_seat, are_inside, both_go};
 ghost use Rattle.dutch_weights.specs.ScopedCosts.{IsFloorBy, all_numbers, bracket_costs, kept_by};

@@ -10,7 +10,7 @@ ghost use Rattle.dutch_weights.specs.WeightTables.{HasAll, HasBelow, HasPairs, I
 ghost use Rattle.dutch_weights.specs.WeightTables.{TellsBelow, TellsDown, TellsEachBelow, TellsPairs, TellsPairsUpto};
 ghost use Rattle.dutch_weights.specs.WeightTables.{alone_weight, next_weight_of, down_weight, met_weight, own_weight};
 ghost use Rattle.dutch_weights.specs.WeightTables.{pair_of, pair_weight, place_in, place_of, weighed_on};
-ghost use Rattle.dutch_order.specs.declared.numbers.TheConstants.{LIMIT};
+ghost use Rattle.dutch_sequence.specs.declared.numbers.TheConstants.{LIMIT};
 
 use crate::scale::Scale;
 use dual::Wide;

@@ -5,7 +5,7 @@ ghost use Rattle.std.specs.Prelude.{◌≡◌, ◌+◌, ◌-◌, ◌*◌, ◌<�
 ghost use Rattle.std.specs.Prelude.{drop, length, sum_by, if◌then◌else◌};
 ghost use Rattle.std.specs.List.{zip};
 ghost use Rattle.dual.specs.Prelude.{extra_in, extra_left_in};
-ghost use Rattle.dutch_order.specs.declared.numbers.TheConstants.{LIMIT};
+ghost use Rattle.dutch_sequence.specs.declared.numbers.TheConstants.{LIMIT};
 ghost use Rattle.dutch_weights.specs.declared.scoped.Reach.TheVariants.{Lower};
 ghost use Rattle.dutch_weights.specs.ScopedCosts.{MeasuresNext};
 ghost use Rattle.dutch_bracket.specs.Prelude.{one_if, quality_in, is_penultimate, IsScaleFor};

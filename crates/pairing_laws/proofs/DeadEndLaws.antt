@@ -1,7 +1,7 @@
 -- Whoever pairs out those whom the penultimate bracket leaves over with all lower players pairs no two of them (C.04.3 A.9).
 use Rattle.std.proofs.Common.{◌≡◌, ℕ, List, ◌++◌, Some, sym, ap, ◌∙◌, subst}
 use Rattle.dutch_order.specs.Prelude.{IsIn}
-use Rattle.dutch_order.proofs.Orders.{member_has}
+use Rattle.dutch_sequence.proofs.Orders.{member_has}
 use Rattle.dutch_player.specs.Prelude.{Facts}
 use Rattle.dutch_bracket.specs.declared.reached.BracketKind.TheVariants.{Penultimate}
 use Rattle.dutch_pair.specs.Prelude.{HasNoPairOf, PairOut, lower_of, Visit, round, GoesOut, HasWayOut}

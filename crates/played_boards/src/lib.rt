@@ -12,7 +12,6 @@
 #![tactic(auto)]
 
 mod board;
-pub mod laws;
 mod ranking;
 
 pub use board::{Board, boards_of};

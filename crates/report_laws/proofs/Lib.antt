@@ -11,3 +11,16 @@ pub mod PairedBoards
 pub mod NumberedLine
 pub mod NumberedPlayers
 pub mod NumberedReport
+pub mod OrderLemmas
+pub mod NewStarts
+pub mod RenumberedLine
+pub mod UnderMap
+pub mod NewMap
+pub mod Twice
+pub mod BoardCounts
+pub mod HostLemmas
+pub mod BoardOrders
+pub mod PutBoards
+pub mod StandingRows
+pub mod StandingLevels
+pub mod StandingKeys

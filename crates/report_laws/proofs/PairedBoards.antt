@@ -42,9 +42,9 @@ use Rattle.dutch_pair.proofs.WholeRounds.{one_bye}
 use Rattle.played_boards.specs.declared.board.RankedBoard.{RankedBoard}
 use Rattle.played_boards.specs.Prelude.{boards_of, goes_before, ranks_above, score_before}
 use Rattle.played_boards.specs.Boards.{board_of_bye, board_of_two}
-use Rattle.played_boards.proofs.HostLemmas.{above_other}
-use Rattle.played_boards.proofs.Orders.{Ahead, IsStrict}
-use Rattle.played_boards.proofs.PutBoards.{apart_from, both_apart, one_before, rank, rest_distinct, round_boards}
+use Rattle.report_laws.proofs.HostLemmas.{above_other}
+use Rattle.report_laws.proofs.BoardOrders.{Ahead, IsStrict}
+use Rattle.report_laws.proofs.PutBoards.{apart_from, both_apart, one_before, rank, rest_distinct, round_boards}
 
 -- ---- scores before the round
 

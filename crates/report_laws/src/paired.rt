@@ -1,11 +1,19 @@
-// A law of the boards of a round that is paired.
-ghost use Rattle.std.specs.Prelude.{◌≡◌, ◌+◌, ◌≤◌, ℕ, IfSome, Ok, Option, Some};
-ghost use Rattle.trf16.specs.Prelude.{HasOwnStarts, Sheet, rounds_played, with_round};
+// Laws of the boards of a round: as they stand in an accepted report, and as it is paired.
+ghost use Rattle.std.specs.Prelude.{◌≡◌, ◌+◌, ◌<◌, ◌≤◌, ℕ, IfSome, List, Ok, Option, Some};
+ghost use Rattle.trf16.specs.Prelude.{HasOwnStarts, Sheet, rounds_played, verdict, with_round};
 ghost use Rattle.trf16.specs.declared.cell.Colour.{Colour};
 ghost use Rattle.trf16.specs.declared.limits.TheConstants.{MOST_ROUNDS};
 ghost use Rattle.dutch_player.specs.Prelude.{Facts, facts_of};
 ghost use Rattle.dutch_pair.specs.Prelude.{Pairing, boards, round};
-ghost use Rattle.played_boards.specs.Prelude.{boards_of};
+ghost use Rattle.played_boards.specs.Prelude.{EachOnOne, boards_of};
+
+/// In an accepted report each two players who name each other in a round stand on exactly one board of it, whoever has
+/// the pairing-allocated bye stands on exactly one, and nobody else stands on any.
+#[tactic(auto, using(crate::proofs::HostLemmas::each_on_one))]
+pub fn all_who_play_stand_on_one_board()
+    ensures { (bytes : List ℕ) (bye : ℕ) (sheet : Sheet) (round : ℕ) → verdict bytes bye ≡ Ok sheet → 0 < round
+        → EachOnOne sheet round (boards_of sheet round) }
+{}
 
 /// The boards by which the next round of a report is paired, once they are put into the report, are the boards of that
 /// round as they stand in it, in the same order, if its start ranks are each a player's own, as those of every accepted

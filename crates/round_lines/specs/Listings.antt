@@ -2,7 +2,7 @@
 use Rattle.std.specs.Prelude.{◌≡◌, ℕ, ◌<◌, ◌≤◌, List, length, take, codes}
 use Rattle.std.specs.List.{flat_map}
 use Rattle.dutch_order.specs.Prelude.{Arrangement}
-use Rattle.dutch_order.specs.declared.steps.Budget.{Budget}
+use Rattle.dutch_sequence.specs.declared.steps.Budget.{Budget}
 use Rattle.replies.specs.Prelude.{undecided_text}
 use Rattle.round_lines.specs.declared.listing.Ending.{Ending}
 use Rattle.round_lines.specs.declared.listing.Ending.TheVariants.{AtEnd, AtCount, Stopped}

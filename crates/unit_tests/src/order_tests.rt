@@ -1,7 +1,7 @@
 // The steps of the generators of exchanges, whose number no clause tells.
 ghost use Rattle.std.specs.Prelude.{◌≤◌, length};
 ghost use Rattle.std.specs.List.Sorted.{IsStrictlyIncreasing};
-ghost use Rattle.dutch_order.specs.declared.numbers.TheConstants.{LIMIT};
+ghost use Rattle.dutch_sequence.specs.declared.numbers.TheConstants.{LIMIT};
 
 use crate::free::{AMPLE, raised};
 use dutch_order::{

@@ -1,7 +1,7 @@
 use Rattle.std.proofs.Common.{arith, ◌≡◌, ◌+◌, ◌-◌, ◌<◌, ◌≤◌, inl, inr, true, false, nat_le, length, slice_index, refl, sym, ◌∙◌, subst}
 use Rattle.std.proofs.lemmas.Bool.{and_from, cases_lt, le-leb}
 use Rattle.dutch_bracket.specs.Prelude.{is_number}
-use Rattle.dutch_order.proofs.Turns.{at_index}
+use Rattle.dutch_sequence.proofs.Turns.{at_index}
 use Rattle.dutch_bracket.proofs.AllLemmas.{all_at}
 use Rattle.dutch_bracket.proofs.conditions.are_left.Goals.{then-number-last-via-then-number-last, then-number-last-via-else-number-last+then-not-has}
 use Rattle.dutch_bracket.proofs.conditions.are_left.Goals as goal

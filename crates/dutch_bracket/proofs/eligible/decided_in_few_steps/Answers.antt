@@ -1,6 +1,6 @@
 -- The answer of a search that ended is what the test of the seats tells.
 use Rattle.std.proofs.Common.{length, Bool, true, Result, subst}
-use Rattle.dutch_order.specs.declared.steps.Stopped.{Stopped}
+use Rattle.dutch_sequence.specs.declared.steps.Stopped.{Stopped}
 use Rattle.dutch_bracket.specs.Prelude.{MatchAnswer, IsStopped, most, can_complete, seats_meet, seats_may_be_left, completable, Decides}
 use Rattle.dutch_bracket.specs.Completion.{Completable}
 use Rattle.dutch_bracket.proofs.TellLemmas.{told}

@@ -5,7 +5,7 @@ use Rattle.dutch_bracket.specs.Prelude.{candidates_of}
 use Rattle.dutch_bracket.specs.Eligible.{can_be_chosen}
 use Rattle.dutch_bracket.proofs.FlatBrackets.{listed_as}
 use Rattle.dutch_bracket.proofs.EligibleLemmas.{eligible_is}
-use Rattle.dutch_order.proofs.Spending.{spends-none}
+use Rattle.dutch_sequence.proofs.Spending.{spends-none}
 use Rattle.dutch_bracket.proofs.eligible.first_eligible.Goals as goal
 
 pub loop-left-init : goal.loop-left-init

@@ -3,7 +3,7 @@ use Rattle.std.proofs.Common.{◌∙◌, arith}
 use Rattle.std.proofs.lemmas.Option.{MatchOption-at_some, MatchOption-at_none}
 use Rattle.dutch_bracket.specs.Prelude.{fits}
 use Rattle.dutch_bracket.proofs.ShapeSearch.{pairs_taken, pairs_passed}
-use Rattle.dutch_order.proofs.Spending.{spends-more}
+use Rattle.dutch_sequence.proofs.Spending.{spends-more}
 use Rattle.dutch_bracket.proofs.greatest.greatest_shape.Goals as goal
 
 pub returns-in-Some-clause-answer : goal.returns-in-Some-clause-answer

@@ -2,7 +2,7 @@
 use Rattle.std.proofs.Common.{◌≡◌, Bool, true, false, Ok, IfSome, Option, Some, subst}
 use Rattle.dutch_order.specs.Prelude.{MatchDrawn}
 use Rattle.dutch_order.specs.declared.bracket.Shape.{Shape}
-use Rattle.dutch_order.specs.declared.steps.Stopped.{Stopped}
+use Rattle.dutch_sequence.specs.declared.steps.Stopped.{Stopped}
 use Rattle.dutch_player.specs.Prelude.{Facts}
 use Rattle.dutch_bracket.specs.Prelude.{IsAlwaysShape, Reached}
 use Rattle.dutch_bracket.proofs.AlwaysShapes.{always_fits, always_greatest}

@@ -1,7 +1,7 @@
 -- The search is among the lower players, by the field's rule, with the bracket's seats as takers.
 use Rattle.std.proofs.Common.{◌≡◌, ℕ, ◌+◌, ◌%◌, ◌==◌, ◌∙◌, ◌++◌, Bool, List, length, ap, subst}
 use Rattle.std.specs.Prelude.{if◌then◌else◌}
-use Rattle.dutch_order.specs.declared.steps.Budget.{Budget}
+use Rattle.dutch_sequence.specs.declared.steps.Budget.{Budget}
 use Rattle.dutch_player.specs.Prelude.{Facts}
 use Rattle.dutch_bracket.specs.declared.completion.Answer.{Answer}
 use Rattle.dutch_bracket.specs.Prelude.{IsStopped, most_taking, Searched, can_go, Reached, seats_meet, seats_may_be_left, can_go_out}

@@ -1,7 +1,7 @@
 -- One candidate more, or the end of all candidates, tells what a pass chooses of the shape.
 use Rattle.std.proofs.Common.{◌≡◌, None, [], inl, inr, refl, sym, ap, ◌∙◌, subst}
 use Rattle.dutch_order.specs.Prelude.{Frame, down, IsIn, Listing}
-use Rattle.dutch_order.proofs.Spending.{spends-none, spends-more}
+use Rattle.dutch_sequence.proofs.Spending.{spends-none, spends-more}
 use Rattle.dutch_bracket.specs.declared.reached.ByNumber.{ByNumber}
 use Rattle.dutch_bracket.specs.Prelude.{candidates_of, candidates_here}
 use Rattle.dutch_bracket.proofs.FlatBrackets.{listed_as}

@@ -2,7 +2,7 @@
 use Rattle.std.proofs.Common.{◌≡◌, ℕ, ◌+◌, ◌-◌, ◌≤◌, List, [], ◌++◌, length, map, sym, ap, ◌∙◌, subst, arith}
 use Rattle.std.proofs.lemmas.List.{length-map}
 use Rattle.dutch_order.specs.Prelude.{left_of, numbers_from}
-use Rattle.dutch_order.proofs.Members.{length-numbers}
+use Rattle.dutch_sequence.proofs.Members.{length-numbers}
 use Rattle.dutch_player.specs.Prelude.{Facts}
 use Rattle.dutch_bracket.specs.Prelude.{Reached, IsOf, frame_of, seat_of, score_at, AllNumbers}
 use Rattle.dutch_bracket.proofs.ArrangementParts.{left_none, numbers_within}

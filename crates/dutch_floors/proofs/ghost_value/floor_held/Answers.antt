@@ -4,7 +4,7 @@ use Rattle.std.proofs.lemmas.Bool.Decides.{nat_tests}
 use Rattle.dutch_bracket.specs.Prelude.{repeated, placed_all, ghost_floor}
 use Rattle.dutch_floors.specs.GhostValues.{floor_length, floor_held}
 use Rattle.dutch_bracket.proofs.Places.{placed_all_append}
-use Rattle.dutch_order.specs.declared.numbers.TheConstants.{LIMIT}
+use Rattle.dutch_sequence.specs.declared.numbers.TheConstants.{LIMIT}
 use Rattle.dutch_floors.proofs.ghost_value.floor_held.Goals as goal
 
 held_is : (ghosts : List ℕ) (least residents pairs evens twos : ℕ) (all none first second : List ℕ) → evens ≡ pairs - length ghosts → twos ≡ (length ghosts + residents) - 2 * pairs

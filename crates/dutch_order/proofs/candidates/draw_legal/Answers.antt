@@ -1,7 +1,7 @@
 use Rattle.std.proofs.Common.{◌∙◌, ap, sym, arith, refl, filter, not, ◌||◌, ◌++◌, ◌∷◌, length}
 use Rattle.dutch_order.specs.Prelude.{leaves_one, may_leave, listed}
-use Rattle.dutch_order.proofs.Skipping.{passes-none, passes-more, passes-filter, passes-fewer, filter-keeps, filter-drops, drawn, drawn-stopped}
-use Rattle.dutch_order.proofs.Spending.{spends-none, spends-more}
+use Rattle.dutch_sequence.proofs.Skipping.{passes-none, passes-more, passes-filter, passes-fewer, filter-keeps, filter-drops, drawn, drawn-stopped}
+use Rattle.dutch_sequence.proofs.Spending.{spends-none, spends-more}
 use Rattle.dutch_order.proofs.candidates.draw_legal.Goals as goal
 
 pub loop-candidate-init : goal.loop-candidate-init

@@ -4,8 +4,8 @@ use Rattle.std.proofs.lemmas.Bool.{not_from_true, not_from_false}
 use Rattle.std.proofs.lemmas.List.{append-nil}
 use Rattle.std.proofs.lemmas.List.Elements.{filter-append}
 use Rattle.dutch_order.specs.Prelude.{is_member, numbers_from, Arrangement, left_of, paired}
-use Rattle.dutch_order.proofs.Counts.{member-four}
-use Rattle.dutch_order.proofs.Members.{numbers-append}
+use Rattle.dutch_sequence.proofs.Counts.{member-four}
+use Rattle.dutch_sequence.proofs.Members.{numbers-append}
 use Rattle.dutch_order.proofs.candidates.put_left_over.Goals as goal
 use Rattle.dutch_order.proofs.candidates.put_left_over.Goals.{then-not-is_paired, else-not-is_paired}
 

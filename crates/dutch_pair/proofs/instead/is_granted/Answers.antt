@@ -1,7 +1,7 @@
 -- One candidate more, or the end of all candidates, tells whether one grants the wish.
 use Rattle.std.proofs.Common.{◌||◌, [], ◌∷◌, sym, ap, ◌∙◌}
 use Rattle.std.specs.List.{list_any}
-use Rattle.dutch_order.proofs.Spending.{spends-more}
+use Rattle.dutch_sequence.proofs.Spending.{spends-more}
 use Rattle.dutch_bracket.specs.declared.reached.ByNumber.{ByNumber}
 use Rattle.dutch_choice.specs.Prelude.{grants}
 use Rattle.dutch_pair.proofs.InsteadLemmas.{skipped_same}

@@ -4,7 +4,7 @@ use Rattle.dutch_bracket.specs.declared.reached.BracketKind.TheVariants.{Collaps
 use Rattle.dutch_bracket.specs.Prelude.{Reached, bracket}
 use Rattle.dutch_pair.specs.Prelude.{choice_of, Goes, GoesOut, StandsBefore}
 use Rattle.dutch_pair.proofs.NoDeadEnd.{ordinary_out}
-use Rattle.dutch_order.specs.declared.numbers.TheConstants.{LIMIT}
+use Rattle.dutch_sequence.specs.declared.numbers.TheConstants.{LIMIT}
 use Rattle.dutch_pair.proofs.WalkEnds.{down_seats, few_left, left_few, left_is, numbers_left}
 use Rattle.dutch_pair.proofs.WalkSteps.{is_kept, stands_above, stands_collapsed, stands_left}
 use Rattle.dutch_pair.proofs.walk.behind.Goals as goal

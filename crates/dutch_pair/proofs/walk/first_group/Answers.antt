@@ -2,7 +2,7 @@
 use Rattle.std.proofs.Common.{◌≡◌, ◌+◌, ◌≤◌, List, ℕ, length, ap, sym, ◌∙◌, subst}
 use Rattle.dutch_bracket.specs.Prelude.{Reached, bracket}
 use Rattle.dutch_pair.specs.Prelude.{group_kind, round_by, StandsBefore}
-use Rattle.dutch_order.specs.declared.numbers.TheConstants.{LIMIT}
+use Rattle.dutch_sequence.specs.declared.numbers.TheConstants.{LIMIT}
 use Rattle.dutch_pair.proofs.GroupWalk.{IsParted, group_round, moved_inside, parted_by, parted_few, rest_inside, some_by_test}
 use Rattle.dutch_pair.proofs.WalkSteps.{stands_group}
 use Rattle.dutch_pair.proofs.walk.first_group.Goals as goal

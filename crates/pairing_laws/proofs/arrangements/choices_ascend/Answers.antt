@@ -1,12 +1,12 @@
 use Rattle.std.proofs.Common.{ℕ, List, sym, ◌∙◌, length, subst, ◌≡◌}
 use Rattle.dutch_order.specs.Prelude.{tuples, subsets, all_meet, numbers_from, exchange_cmp, exchanges, sum_of, IsIn, lower_first, limbo_cmp, limbo_exchanges, all_tuples, transpositions}
-use Rattle.dutch_order.proofs.ByKeys.{Ascends, exchange_key, limbo_key_in}
-use Rattle.dutch_order.proofs.Comparing.{ascends-in, exchange_cmp-is, limbo_cmp-is, lower_first-is, under_sum}
-use Rattle.dutch_order.proofs.LimboSets.{limbo_key-apart}
-use Rattle.dutch_order.proofs.Orders.{Ascends-filter, Rises-from, sorted-ascending}
-use Rattle.dutch_order.proofs.Sets.{subsets-climb, subsets-ascend, sorted-ascends, sorted-in}
-use Rattle.dutch_order.proofs.StageSets.{exchange_key-apart, pool-ascend}
-use Rattle.dutch_order.proofs.TupleSearch.{tuples-ascend}
+use Rattle.dutch_sequence.proofs.ByKeys.{Ascends, exchange_key, limbo_key_in}
+use Rattle.dutch_sequence.proofs.Comparing.{ascends-in, exchange_cmp-is, limbo_cmp-is, lower_first-is, under_sum}
+use Rattle.dutch_sequence.proofs.LimboSets.{limbo_key-apart}
+use Rattle.dutch_sequence.proofs.Orders.{Ascends-filter, Rises-from, sorted-ascending}
+use Rattle.dutch_sequence.proofs.Sets.{subsets-climb, subsets-ascend, sorted-ascends, sorted-in}
+use Rattle.dutch_sequence.proofs.StageSets.{exchange_key-apart, pool-ascend}
+use Rattle.dutch_sequence.proofs.TupleSearch.{tuples-ascend}
 use Rattle.pairing_laws.proofs.arrangements.choices_ascend.Goals as goal
 
 pub returns-clause-tuples : goal.returns-clause-tuples

@@ -1,5 +1,5 @@
-use Rattle.dutch_order.proofs.Comparing.{keys_tied, limbo_tied, lists_tied}
-use Rattle.dutch_order.proofs.StageSets.{exchange_key-apart}
+use Rattle.dutch_sequence.proofs.Comparing.{keys_tied, limbo_tied, lists_tied}
+use Rattle.dutch_sequence.proofs.StageSets.{exchange_key-apart}
 use Rattle.pairing_laws.proofs.arrangements.different_choices_are_not_level.Goals as goal
 
 pub returns-clause-tuples : goal.returns-clause-tuples

@@ -1,5 +1,5 @@
 use Rattle.std.proofs.lemmas.Cmp.{nat_list_cmp_total}
-use Rattle.dutch_order.proofs.Comparing.{exchange_cmp_total, limbo_cmp_total}
+use Rattle.dutch_sequence.proofs.Comparing.{exchange_cmp_total, limbo_cmp_total}
 use Rattle.pairing_laws.proofs.arrangements.orders_are_total.Goals as goal
 
 pub returns-clause-tuples : goal.returns-clause-tuples

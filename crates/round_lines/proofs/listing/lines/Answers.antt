@@ -1,5 +1,5 @@
 use Rattle.std.proofs.Common.{◌∙◌, arith}
-use Rattle.dutch_order.proofs.Spending.{spends-more}
+use Rattle.dutch_sequence.proofs.Spending.{spends-more}
 use Rattle.round_lines.specs.CandidateTexts.{line_text}
 use Rattle.round_lines.proofs.ListingLemmas.{underway_end, underway_line}
 use Rattle.round_lines.proofs.listing.lines.Goals as goal

@@ -1,7 +1,7 @@
 -- The moved-down players are numbers of the bracket.
 use Rattle.std.proofs.Common.{◌≡◌, ◌∙◌, ◌≤◌, length, ap, sym, subst, arith}
 use Rattle.std.proofs.lemmas.List.{length-map}
-use Rattle.dutch_order.proofs.Members.{length-numbers}
+use Rattle.dutch_sequence.proofs.Members.{length-numbers}
 use Rattle.dutch_bracket.specs.Prelude.{Reached, score_at, AllNumbers}
 use Rattle.dutch_bracket.proofs.ArrangementParts.{numbers_within}
 use Rattle.dutch_bracket.proofs.context.Context.moved_down.Goals as goal

@@ -1,5 +1,5 @@
 use Rattle.std.proofs.Common.{sym}
-use Rattle.dutch_order.proofs.Skipping.{none-passed}
+use Rattle.dutch_sequence.proofs.Skipping.{none-passed}
 use Rattle.dutch_order.proofs.Nexts.{step-each}
 use Rattle.dutch_order.proofs.candidates.Candidates.put_next.Goals as goal
 

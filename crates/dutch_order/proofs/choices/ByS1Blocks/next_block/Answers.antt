@@ -1,7 +1,7 @@
 use Rattle.std.proofs.Common.{◌≡◌, ◌∷◌, None, sym, ◌∙◌, ap, option_copied}
 use Rattle.std.specs.List.{AllByRecursion}
 use Rattle.dutch_order.specs.Prelude.{HasS2, if_own, in_s1, joined, s1_blocks}
-use Rattle.dutch_order.proofs.Skipping.{passes-none, drawn, drawn-stopped}
+use Rattle.dutch_sequence.proofs.Skipping.{passes-none, drawn, drawn-stopped}
 use Rattle.dutch_order.proofs.Blocks.{block-comes, no-blocks, taken}
 use Rattle.dutch_order.proofs.choices.ByS1Blocks.next_block.Goals as goal
 

@@ -17,9 +17,9 @@ returns-in-Some g c =
     let residents = c.args.from.now.residents.now.items in
     let left = c.put_left_of.ensures.items ∙ ap (λ numbers. left_of numbers c.deref-2.result.now) c.deref.ensures.0 ∙ ap (left_of residents) c.deref-2.ensures.0 in
     filled _ _ _ _ _ _ _ _ _ _ c.refill.ensures c.refill-2.ensures left
-    (c.start_from.ensures.coming
-    ∙ ap (λ set. from_on set (exchanges c.deref-in-Some.result.now k)) (c.deref-in-Some-2.ensures.0 ∙ at_s1r)
-    ∙ ap (λ pool. from_on own.s1r (exchanges pool k)) (c.deref-in-Some.ensures.0 ∙ left)
+    (c.start_from.ensures
+    ∙ ap (λ set. from_on set (exchanges c.deref-3.result.now k)) (c.deref-in-Some.ensures.0 ∙ at_s1r)
+    ∙ ap (λ pool. from_on own.s1r (exchanges pool k)) (c.deref-3.ensures.0 ∙ left)
     ∙ ap (λ other. choices_from (λ a. a.s1r) other (exchanges (left_of residents c.args.from.now.s2.now.items) k)) (sym (ap (λ lent. option_copied lent) c.in-Some.is)))
 
 pub returns-in-None : goal.returns-in-None
@@ -30,5 +30,5 @@ returns-in-None g c =
     let left = c.put_left_of.ensures.items ∙ ap (λ numbers. left_of numbers c.deref-2.result.now) c.deref.ensures.0 ∙ ap (left_of residents) c.deref-2.ensures.0 in
     filled _ _ _ _ _ _ _ _ _ _ c.refill.ensures c.refill-2.ensures left
     (c.start.ensures.coming
-    ∙ ap (λ pool. exchanges pool k) (c.deref-in-None.ensures.0 ∙ left)
+    ∙ ap (λ pool. exchanges pool k) (c.deref-3.ensures.0 ∙ left)
     ∙ ap (λ other. choices_from (λ a. a.s1r) other (exchanges (left_of residents c.args.from.now.s2.now.items) k)) (sym (ap (λ lent. option_copied lent) c.in-None.is)))

@@ -2,8 +2,8 @@ use Rattle.std.proofs.Common.{◌≡◌, ◌∷◌, None, sym, ap, subst, refl, 
 use Rattle.std.specs.List.{AllByRecursion}
 use Rattle.dutch_order.specs.Prelude.{HasS2r, if_own, in_s1r, s1r_blocks}
 use Rattle.dutch_order.proofs.Blocks.{IdleS1r, comes, ends, goes-whole, idle-in-s1r, idle-s1r-blocks, some-lent, stops, taken}
-use Rattle.dutch_order.proofs.LeftOut.{passes-same}
-use Rattle.dutch_order.proofs.Skipping.{passes-all, drawn, drawn-stopped}
+use Rattle.dutch_sequence.proofs.LeftOut.{passes-same}
+use Rattle.dutch_sequence.proofs.Skipping.{passes-all, drawn, drawn-stopped}
 use Rattle.dutch_order.proofs.choices.ByS1rBlocks.next_block.Goals as goal
 
 pub returns-then-cuts-clause-answer : goal.returns-then-cuts-clause-answer

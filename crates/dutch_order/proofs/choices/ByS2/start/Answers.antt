@@ -4,7 +4,7 @@ use Rattle.std.specs.List.Sorted.{IsStrictlyIncreasing}
 use Rattle.dutch_order.specs.Prelude.{Arrangement, left_of, HasS1r, HasS2, Of, choices_from, in_s1, joined, s2_blocks, all_meet, from_on, all_tuples}
 use Rattle.dutch_order.specs.contracts.cursor.Cursor.{the_view}
 use Rattle.dutch_order.proofs.Blocks.{of-both}
-use Rattle.dutch_order.proofs.Counts.{opponents-leave, opponents-leave-from}
+use Rattle.dutch_sequence.proofs.Counts.{opponents-leave, opponents-leave-from}
 use Rattle.dutch_order.proofs.choices.ByS2.start.Goals as goal
 
 -- the same lists have the same blocks
@@ -25,10 +25,10 @@ pub invariant_of-self : goal.invariant_of-self
 invariant_of-self g c =
     let meets = g.R.Rule.meets c.args.rule.now in
     let residents = c.args.from.now.residents.now.items in (
-      subst IsStrictlyIncreasing (sym c.refill-2.ensures) c.requires.ascends,
+      subst IsStrictlyIncreasing (sym c.refill-2.ensures) c.args.from.now.ascends,
       subst (λ numbers. AllByRecursion (λ s2. c.args.from.now.k ≤ length (left_of numbers s2)) c.start_from.new.self.coming) (sym c.refill-2.ensures)
           (subst (AllByRecursion (λ s2. c.args.from.now.k ≤ length (left_of residents s2))) (sym (c.start_from.ensures.coming ∙ same_lists meets _ _ _ _ c.deref-in-Some.result.now c.deref.ensures.0 c.deref-2.ensures.0))
-          (opponents-leave-from meets c.args.from.now.s1.now.items residents c.deref-in-Some.result.now c.args.from.now.k c.requires.ascends c.requires.enough)),
+          (opponents-leave-from meets c.args.from.now.s1.now.items residents c.deref-in-Some.result.now c.args.from.now.k c.args.from.now.ascends c.args.from.now.enough)),
       subst (λ numbers. Of (λ own. HasS1r c.args.from.now.k (left_of numbers own.s2) own) (option_copied c.args.own)) (sym c.refill-2.ensures)
           (of-both (HasS2 c.args.from.now.k residents) (λ own. HasS1r c.args.from.now.k (left_of residents own.s2) own) (option_copied c.args.own) (λ own has. has.1) c.requires.given),
     )
@@ -37,10 +37,10 @@ pub invariant_of-self-in-None : goal.invariant_of-self-in-None
 invariant_of-self-in-None g c =
     let meets = g.R.Rule.meets c.args.rule.now in
     let residents = c.args.from.now.residents.now.items in (
-      subst IsStrictlyIncreasing (sym c.refill-2.ensures) c.requires.ascends,
+      subst IsStrictlyIncreasing (sym c.refill-2.ensures) c.args.from.now.ascends,
       subst (λ numbers. AllByRecursion (λ s2. c.args.from.now.k ≤ length (left_of numbers s2)) c.start.new.self.coming) (sym c.refill-2.ensures)
           (subst (AllByRecursion (λ s2. c.args.from.now.k ≤ length (left_of residents s2))) (sym (c.start.ensures.coming ∙ all_lists meets _ _ _ _ c.deref.ensures.0 c.deref-2.ensures.0))
-          (opponents-leave meets c.args.from.now.s1.now.items residents c.args.from.now.k c.requires.ascends c.requires.enough)),
+          (opponents-leave meets c.args.from.now.s1.now.items residents c.args.from.now.k c.args.from.now.ascends c.args.from.now.enough)),
       subst (λ numbers. Of (λ own. HasS1r c.args.from.now.k (left_of numbers own.s2) own) (option_copied c.args.own)) (sym c.refill-2.ensures)
           (of-both (HasS2 c.args.from.now.k residents) (λ own. HasS1r c.args.from.now.k (left_of residents own.s2) own) (option_copied c.args.own) (λ own has. has.1) c.requires.given),
     )

@@ -2,7 +2,7 @@ use Rattle.std.proofs.Common.{◌≡◌, ◌≤◌, sym, subst, ap, ◌∙◌, �
 use Rattle.std.specs.List.{AllByRecursion}
 use Rattle.dutch_order.specs.Prelude.{left_of, HasS1r, Of, if_own, in_s2, joined, s2_blocks}
 use Rattle.dutch_order.proofs.Blocks.{IdleS2, comes, ends, idle-in-s2, some-lent, stops, taken}
-use Rattle.dutch_order.proofs.Skipping.{passes-none, passes-more, passes-keeps, drawn, drawn-stopped}
+use Rattle.dutch_sequence.proofs.Skipping.{passes-none, passes-more, passes-keeps, drawn, drawn-stopped}
 use Rattle.dutch_order.proofs.choices.ByS2Blocks.next_block.Goals as goal
 
 pub invariant_of-self : goal.invariant_of-self
@@ -30,17 +30,19 @@ returns-then-not-branch-clause-answer g c =
     let meets = g.R.Rule.meets own.rule.now in
     rw (← c.self.view_is) (ends Idle (λ a. a.s2) (in_s2 meets own.k own.s1.items own.residents.items) (IdleS2 Idle own.s1.items) (λ s2 idle. idle-in-s2 Idle own.s1.items s2 idle meets own.k own.residents.items) c.is_some.result (option_copied own.resume) (c.is_some.ensures ∙ sym (some-lent own.resume)) _ (drawn _ _ _ c.if-not-branch.true c.in_ok-put_next_past.ensures.answer).0)
 
-pub start-requires-clause-enough : goal.start-requires-clause-enough
-start-requires-clause-enough g c =
+pub invariant_of-from-clause-enough : goal.invariant_of-from-clause-enough
+invariant_of-from-clause-enough g c =
     let own = c.self.inside in
     (passes-keeps _ (λ s2. own.k ≤ length (left_of own.residents.items s2)) _ _ (drawn _ _ _ c.if-not-branch.false c.in_ok-put_next_past.ensures.answer) c.self.invariant.1).0
 
-pub start-requires-clause-given : goal.start-requires-clause-given
-start-requires-clause-given g c =
+pub start-requires : goal.start-requires
+start-requires g c =
     let own = c.self.inside in
-    taken (λ a. a.s2) (λ a. HasS1r own.k (left_of own.residents.items a.s2) a) (HasS1r own.k (left_of own.residents.items c.put_next_past.new.numbers.items))
-    (option_copied own.resume) _ c.put_next_past.new.numbers.items c.take_by_s2-own.ensures.own c.self.invariant.2
-    (λ a has same. subst (λ s2. HasS1r own.k (left_of own.residents.items s2) a) same has)
+    record {
+      given = taken (λ a. a.s2) (λ a. HasS1r own.k (left_of own.residents.items a.s2) a) (HasS1r own.k (left_of own.residents.items c.put_next_past.new.numbers.items))
+          (option_copied own.resume) _ c.put_next_past.new.numbers.items c.take_by_s2-own.ensures.own c.self.invariant.2
+          (λ a has same. subst (λ s2. HasS1r own.k (left_of own.residents.items s2) a) same has);
+    }
 
 pub returns-clause-answer : goal.returns-clause-answer
 returns-clause-answer g c =

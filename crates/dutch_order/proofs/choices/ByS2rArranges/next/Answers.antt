@@ -1,7 +1,7 @@
 use Rattle.std.proofs.Common.{sym, ap, refl, [], ◌∷◌, map, option_copied}
 use Rattle.dutch_order.specs.Prelude.{arranged, without_own}
 use Rattle.dutch_order.proofs.Blocks.{passes-arranged, same-lists}
-use Rattle.dutch_order.proofs.Skipping.{passes-none, passes-more, drawn, drawn-stopped}
+use Rattle.dutch_sequence.proofs.Skipping.{passes-none, passes-more, drawn, drawn-stopped}
 use Rattle.dutch_order.proofs.choices.ByS2rArranges.next.Goals as goal
 
 pub returns-then-not-branch-clause-answer : goal.returns-then-not-branch-clause-answer

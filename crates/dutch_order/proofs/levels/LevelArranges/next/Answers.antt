@@ -1,8 +1,8 @@
 use Rattle.std.proofs.Common.{refl, arith}
 use Rattle.std.specs.List.{AllByRecursion}
 use Rattle.dutch_order.specs.Prelude.{joined}
-use Rattle.dutch_order.proofs.Skipping.{passes-none, passes-more, passes-before, passes-between, passes-fewer, drawn, drawn-stopped}
-use Rattle.dutch_order.proofs.Spending.{spends-none, spends-more}
+use Rattle.dutch_sequence.proofs.Skipping.{passes-none, passes-more, passes-before, passes-between, passes-fewer, drawn, drawn-stopped}
+use Rattle.dutch_sequence.proofs.Spending.{spends-none, spends-more}
 use Rattle.dutch_order.proofs.levels.LevelArranges.next.Goals as goal
 
 pub loop-self-init : goal.loop-self-init

@@ -1,7 +1,7 @@
 -- Where the matchings go over the bracket alone, they leave over no more than it has; the floor for any number is that of the next bracket.
 use Rattle.std.proofs.Common.{◌≡◌, ℕ, ◌∙◌, List, length, IfOk, IfSome, sym, ap, subst, arith}
 use Rattle.dual.specs.Prelude.{IsFloor}
-use Rattle.dutch_order.proofs.Members.{length-numbers}
+use Rattle.dutch_sequence.proofs.Members.{length-numbers}
 use Rattle.dutch_weights.specs.Prelude.{IsFloorBy, Scoped, all_numbers, costs_in, size_by}
 use Rattle.dutch_weights.specs.declared.scoped.Reach.{Reach}
 use Rattle.dutch_weights.specs.declared.scoped.Reach.TheVariants.{Bracket, Next}

@@ -1,8 +1,0 @@
-use Rattle.std.proofs.Common.{◌∙◌, [], refl}
-use Rattle.dutch_order.specs.Prelude.{ahead, below, after}
-use Rattle.dutch_order.proofs.LimboSets.{limbo-at}
-use Rattle.dutch_order.proofs.limbo.LimboExchanges.ended.Goals as goal
-
-pub returns : goal.returns
-unfolding ahead below after
-returns c = limbo-at _ [] 0 _ [] _ _ 1 c.new.ensures c.new-2.ensures c.new-3.ensures.path c.new-3.ensures.number ∙ refl

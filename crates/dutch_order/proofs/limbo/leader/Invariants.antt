@@ -1,6 +1,0 @@
-use Rattle.std.proofs.Common.{◌≡◌, ◌-◌}
-use Rattle.dutch_order.specs.Prelude.{leader}
-use Rattle.dutch_order.proofs.limbo.leader.Given as goal
-
-abbrev pub invariant-loop-other : goal.invariant-loop-other
-invariant-loop-other l = leader l.scores l.place l.first (l.place - l.first) ≡ leader l.scores l.place l.other (l.place - l.other)

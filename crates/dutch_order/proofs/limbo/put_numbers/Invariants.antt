@@ -1,6 +1,0 @@
-use Rattle.std.proofs.Common.{◌≡◌, take}
-use Rattle.dutch_order.specs.Prelude.{numbers_of}
-use Rattle.dutch_order.proofs.limbo.put_numbers.Given as goal
-
-abbrev pub invariant-loop-place : goal.invariant-loop-place
-invariant-loop-place l = l.numbers.items ≡ numbers_of (take l.place-index l.places)

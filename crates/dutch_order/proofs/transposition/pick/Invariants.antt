@@ -1,6 +1,0 @@
-use Rattle.std.proofs.Common.{◌≡◌, take}
-use Rattle.dutch_order.specs.Prelude.{numbers_at}
-use Rattle.dutch_order.proofs.transposition.pick.Given as goal
-
-abbrev pub invariant-loop-place : goal.invariant-loop-place
-invariant-loop-place l = l.numbers.items ≡ numbers_at l.pool (take l.place-index l.path)

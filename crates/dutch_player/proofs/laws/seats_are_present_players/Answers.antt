@@ -1,5 +1,0 @@
-use Rattle.dutch_player.proofs.PresentLemmas.{field_of}
-use Rattle.dutch_player.proofs.laws.seats_are_present_players.Goals as goal
-
-pub returns : goal.returns
-returns c = field_of

@@ -1,5 +1,0 @@
-use Rattle.dutch_player.proofs.PresentLemmas.{seats_apart}
-use Rattle.dutch_player.proofs.laws.the_report_tells_who_is_kept_apart.Goals as goal
-
-pub returns : goal.returns
-returns c = seats_apart

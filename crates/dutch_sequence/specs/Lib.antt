@@ -1,0 +1,16 @@
+pub mod Choices
+pub mod Keys
+pub mod Trials
+pub mod Steps
+pub mod Descents
+pub mod Hints
+pub mod Transposition
+pub mod Halves
+pub mod Limbo
+pub mod Exchange
+pub mod Exchanged
+pub mod Stages
+pub mod Sides
+pub mod TranspositionSearch
+pub mod LimboSearch
+pub mod Prelude

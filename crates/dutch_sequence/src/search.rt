@@ -1,0 +1,392 @@
+// The one search of all generators: a path of numbers that is filled place by place, goes back where no number fits,
+// and can be stopped before each trial.
+//
+// A beginning that leads to nothing of interest is left: if the caller knows that every whole path which begins so is
+// idle, all of them are passed over. So only idle paths are ever passed over, and it costs no step. When you change it,
+// keep this: a path is left only by setting its next number past all that its place tries, and if nothing is idle, each
+// trial is still made and counted.
+//
+// It makes no list, since it runs once for each trial: it has room for a beginning that is asked about, writes what it
+// finds into a list that it is handed (`put_next`), and begins anew in place, at the cost of what it held (`start`).
+ghost use Rattle.std.specs.Prelude.{◌≡◌, ◌+◌, ◌-◌, ◌<◌, ◌≤◌, ◌⊎◌, ℕ, List, None, Some, [], ◌∷◌, ◌++◌, length, true};
+ghost use Rattle.std.specs.Prelude.{false};
+ghost use Rattle.dutch_sequence.specs.declared.search.TheConstants.{PLACES};
+ghost use Rattle.dutch_sequence.specs.Trials.{Plan, Tried, entry, below, ahead, hits, trials, lower, lowest};
+ghost use Rattle.dutch_sequence.specs.Hints.{hint_after, first_hint};
+ghost use Rattle.dutch_sequence.specs.Choices.{GoesOn};
+ghost use Rattle.dutch_sequence.specs.Steps.{MatchDrawn, Passes, Spends};
+ghost use Rattle.dutch_sequence.specs.Descents.{Stands, IsOpen, IsSpent, KeepsBeyond, NoneIdle};
+
+use crate::numbers::{LIMIT, Numbers};
+use crate::steps::{Budget, Drawn, Stopped};
+use arrayvec::ArrayVec;
+
+/// The most places of a search: an exchange or a set of moved-down players fills two for each number.
+pub const PLACES: usize = 2 * LIMIT;
+
+/// The numbers at the places of a search that are filled, one after another.
+pub type Path = ArrayVec<u16, PLACES>;
+
+/// What a search fills, and which numbers it tries where.
+pub trait Tree {
+    ghost plan: { Self → Plan };
+
+    /// How many places there are.
+    fn places(&self) -> usize
+        ensures { result ≡ (plan self.now).places };
+
+    /// The first number to try after a beginning.
+    fn start(&self, path: &[u16]) -> usize
+        requires { IsOpen (plan self.now) path.now }
+        ensures { result ≡ (plan self.now).start path.now };
+
+    /// The end of the numbers to try after a beginning.
+    fn stop(&self, path: &[u16]) -> usize
+        requires { IsOpen (plan self.now) path.now }
+        ensures { result ≡ (plan self.now).stop path.now };
+
+    /// Whether a number fits after a beginning.
+    fn admits(&self, path: &[u16], number: u16) -> bool
+        requires opened { IsOpen (plan self.now) path.now }
+        requires tried { number < (plan self.now).stop path.now }
+        ensures { result ≡ (plan self.now).fits path.now number };
+
+    /// What a number that does not fit would have given at least, if that is known.
+    fn beyond(&self, path: &[u16], number: u16) -> Option<usize>
+        requires opened { IsOpen (plan self.now) path.now }
+        requires tried { number < (plan self.now).stop path.now }
+        ensures { result ≡ (plan self.now).beyond path.now number };
+
+    /// Every number tried is below the width.
+    ghost within: { (tree : Self) (path : _) → (plan tree).stop path ≤ (plan tree).width };
+
+    /// A path has room for all places.
+    ghost few: { (tree : Self) → (plan tree).places ≤ PLACES };
+
+    /// And for each number that is tried.
+    ghost narrow: { (tree : Self) → (plan tree).width ≤ PLACES };
+}
+
+/// Tells of a beginning of paths whether all whole paths that begin so are idle.
+pub trait CutsPaths {
+    /// A whole path is idle.
+    ghost Idle: { Self → List ℕ → Type 0 };
+
+    /// A beginning can be asked about.
+    ghost MayAsk: { Self → List ℕ → Type 0 };
+
+    /// Whether all paths that begin so are known to be idle. There is a list for the numbers that a path stands for.
+    fn cuts(&self, beginning: &[u16], numbers: &mut Numbers) -> bool
+        requires { MayAsk self.now beginning.now }
+        ensures { result ≡ true → (path : List ℕ) → GoesOn beginning.now path → Idle self.now path };
+}
+
+/// Leaves nothing out.
+#[derive(Drop)]
+struct CutsNothing;
+
+impl CutsPaths for CutsNothing {
+    ghost Idle = { λ _ _. ⊥ };
+
+    ghost MayAsk = { λ _ _. Unit {0} };
+
+    fn cuts(&self, _beginning: &[u16], _numbers: &mut Numbers) -> bool {
+        false
+    }
+}
+
+/// Puts places behind a path.
+pub fn put_behind(path: &mut Path, places: &[u16])
+    requires room { length path.old.items + length places.now ≤ PLACES }
+    ensures { path.new.items ≡ path.old.items ++ places.now }
+{
+    for place in places {
+        path.push(*place);
+    }
+}
+
+/// The number that follows a path in a longer one that begins with it.
+fn hint_after(hint: &[u16], path: &[u16]) -> Option<usize>
+    ensures { result ≡ hint_after hint.now path.now }
+{
+    if hint.len() <= path.len() {
+        return None;
+    }
+    for place in 0..path.len() {
+        if hint[place] != path[place] {
+            return None;
+        }
+    }
+    Some(hint[path.len()] as usize)
+}
+
+/// The first number that a search tries which begins at a path.
+pub fn first_hint(hint: &[u16]) -> usize
+    ensures { result ≡ first_hint hint.now }
+{
+    hint_after(hint, &[]).unwrap_or(0)
+}
+
+/// A search that begins at a path which is known: after a beginning of that path it starts with the path's own next
+/// number.
+#[derive(Drop)]
+pub struct Hinted<'a, T> {
+    pub tree: T,
+    pub hint: &'a Path,
+}
+
+impl<'a, T: Tree> Tree for Hinted<'a, T> {
+    ghost use Rattle.dutch_sequence.specs.Hints.{hinted};
+
+    ghost plan = { λ t. hinted t.hint.now.items (T.plan t.tree) };
+
+    ghost within = { λ t path. T.Tree.within t.tree path };
+
+    ghost few = { λ t. T.Tree.few t.tree };
+
+    ghost narrow = { λ t. T.Tree.narrow t.tree };
+
+    fn places(&self) -> usize {
+        self.tree.places()
+    }
+
+    fn start(&self, path: &[u16]) -> usize {
+        match hint_after(self.hint, path) {
+            Some(number) => number,
+            None => self.tree.start(path),
+        }
+    }
+
+    fn stop(&self, path: &[u16]) -> usize {
+        self.tree.stop(path)
+    }
+
+    fn admits(&self, path: &[u16], number: u16) -> bool {
+        self.tree.admits(path, number)
+    }
+
+    fn beyond(&self, path: &[u16], number: u16) -> Option<usize> {
+        self.tree.beyond(path, number)
+    }
+}
+
+/// Where a search stands: the numbers at the places filled, and the next number to try at the place after them. At a
+/// whole path the next number is 0 until the path has been handed out. And what lies beyond the numbers that were tried
+/// is no less than `beyond`, if anything does; where some were left without a trial, that is 0, so that nothing is
+/// known.
+#[derive(Drop)]
+pub struct Descent {
+    pub path: Path,
+    pub number: usize,
+    pub beyond: Option<usize>,
+    // lives as long as the descent, so that no question makes a list
+    pub room: Numbers,
+}
+
+impl Descent {
+    /// A descent that has filled no place.
+    pub fn new(number: usize) -> Descent
+        ensures path { result.path.items ≡ [] }
+        ensures number { result.number ≡ number }
+        ensures beyond { result.beyond ≡ None }
+    {
+        Descent {
+            path: ArrayVec::new(),
+            number,
+            beyond: None,
+            room: ArrayVec::new(),
+        }
+    }
+
+    /// Begins anew, with no place filled.
+    pub fn restart(&mut self, number: usize)
+        ensures path { self.new.path.items ≡ [] }
+        ensures number { self.new.number ≡ number }
+        ensures beyond { self.new.beyond ≡ None }
+    {
+        self.path.clear();
+        self.number = number;
+        self.beyond = None;
+    }
+}
+
+/// The first number to try after a path; 0 if the path is whole.
+fn first_number<T: Tree>(tree: &T, path: &[u16]) -> usize
+    requires { Stands (T.plan tree.now) path.now }
+    ensures { result ≡ entry (T.plan tree.now) ((T.plan tree.now).places - length path.now) path.now }
+{
+    if path.len() < tree.places() {
+        tree.start(path)
+    } else {
+        0
+    }
+}
+
+/// The lower of two numbers, either of which may be missing.
+fn lower_of(one: Option<usize>, other: Option<usize>) -> Option<usize>
+    ensures { result ≡ lower one other }
+{
+    match (one, other) {
+        (None, _) => other,
+        (Some(_), None) => one,
+        (Some(x), Some(y)) => Some(x.min(y)),
+    }
+}
+
+/// The end of the numbers to try after a path; 1 if the path is whole.
+pub fn end_number<T: Tree>(tree: &T, path: &[u16]) -> usize
+    requires { Stands (T.plan tree.now) path.now }
+    ensures { IsSpent (T.plan tree.now) path.now result }
+{
+    if path.len() < tree.places() {
+        tree.stop(path)
+    } else {
+        1
+    }
+}
+
+/// Leaves out all that is still to come below a path, if all of it is known to be idle. What lies beyond it is not
+/// known then.
+fn leave_idle<T: Tree, C: CutsPaths>(tree: &T, cuts: &C, descent: &mut Descent)
+    requires standing { Stands (T.plan tree.now) descent.old.path.items }
+    requires may_ask { (path : List ℕ) → Stands (T.plan tree.now) path → C.MayAsk cuts.now path }
+    ensures path { descent.new.path.items ≡ descent.old.path.items }
+    ensures passes { Passes (C.Idle cuts.now) (hits (ahead (T.plan tree.now) descent.old.path.items descent.old.number))
+        (hits (ahead (T.plan tree.now) descent.new.path.items descent.new.number)) }
+    ensures same { NoneIdle (C.Idle cuts.now)
+        → (descent.new.number ≡ descent.old.number) × (descent.new.beyond ≡ descent.old.beyond) }
+    ensures known { (descent.new.beyond ≡ Some 0)
+        ⊎ ((descent.new.number ≡ descent.old.number) × (descent.new.beyond ≡ descent.old.beyond)) }
+{
+    let end = end_number(tree, &descent.path);
+    if descent.number < end && cuts.cuts(&descent.path, &mut descent.room) {
+        descent.number = end;
+        descent.beyond = Some(0);
+    }
+}
+
+/// Makes one trial: takes the number if it fits, and otherwise goes on to the next one. The answer is whether it was
+/// taken.
+fn try_number<T: Tree>(tree: &T, descent: &mut Descent) -> bool
+    requires opened { IsOpen (T.plan tree.now) descent.old.path.items }
+    requires tried { descent.old.number < (T.plan tree.now).stop descent.old.path.items }
+    ensures stands { Stands (T.plan tree.now) descent.new.path.items }
+    ensures goes_on { ahead (T.plan tree.now) descent.old.path.items descent.old.number
+        ≡ Tried ((T.plan tree.now).beyond descent.old.path.items descent.old.number)
+        ∷ ahead (T.plan tree.now) descent.new.path.items descent.new.number }
+    ensures beyond { descent.new.beyond
+        ≡ lower descent.old.beyond ((T.plan tree.now).beyond descent.old.path.items descent.old.number) }
+    ensures places { length descent.new.path.items ≤ length descent.old.path.items + 1 }
+{
+    let number = descent.number as u16;
+    descent.beyond = lower_of(descent.beyond, tree.beyond(&descent.path, number));
+    if tree.admits(&descent.path, number) {
+        descent.path.push(number);
+        descent.number = first_number(tree, &descent.path);
+        true
+    } else {
+        descent.number += 1;
+        false
+    }
+}
+
+/// Takes the last number from a path below which nothing is left, and goes on to the next one; false if the path is
+/// empty.
+fn go_back<T: Tree>(tree: &T, descent: &mut Descent) -> bool
+    requires standing { Stands (T.plan tree.now) descent.old.path.items }
+    requires spent { IsSpent (T.plan tree.now) descent.old.path.items descent.old.number }
+    ensures stands { Stands (T.plan tree.now) descent.new.path.items }
+    ensures same { ahead (T.plan tree.now) descent.new.path.items descent.new.number
+        ≡ ahead (T.plan tree.now) descent.old.path.items descent.old.number }
+    ensures beyond { descent.new.beyond ≡ descent.old.beyond }
+    ensures shorter { result ≡ true → length descent.new.path.items < length descent.old.path.items }
+    ensures ended { result ≡ false → ahead (T.plan tree.now) descent.new.path.items descent.new.number ≡ [] }
+{
+    match descent.path.pop() {
+        Some(number) => {
+            descent.number = number as usize + 1;
+            true
+        }
+        None => false,
+    }
+}
+
+/// Goes on to the next whole path, which the descent then has, unless the budget or the search ends before it. It
+/// leaves out beginnings that are known to be idle: it asks at the start, and wherever a number was taken or given
+/// back. No question is a step.
+pub fn climb_past<T: Tree, C: CutsPaths>(
+    tree: &T,
+    cuts: &C,
+    descent: &mut Descent,
+    budget: &mut Budget,
+) -> Drawn
+    requires standing { Stands (T.plan tree.now) descent.old.path.items }
+    requires may_ask { (path : List ℕ) → Stands (T.plan tree.now) path → C.MayAsk cuts.now path }
+    ensures stands { Stands (T.plan tree.now) descent.new.path.items }
+    ensures answer { MatchDrawn result
+        (Passes (C.Idle cuts.now) (hits (ahead (T.plan tree.now) descent.old.path.items descent.old.number))
+        (descent.new.path.items ∷ hits (ahead (T.plan tree.now) descent.new.path.items descent.new.number))
+        × (length descent.new.path.items ≡ (T.plan tree.now).places))
+        (Passes (C.Idle cuts.now) (hits (ahead (T.plan tree.now) descent.old.path.items descent.old.number)) []
+        × (ahead (T.plan tree.now) descent.new.path.items descent.new.number ≡ []))
+        (Passes (C.Idle cuts.now) (hits (ahead (T.plan tree.now) descent.old.path.items descent.old.number))
+        (hits (ahead (T.plan tree.now) descent.new.path.items descent.new.number))
+        × (budget.new.used ≡ budget.new.limit)
+        × (0 < trials (ahead (T.plan tree.now) descent.new.path.items descent.new.number))) }
+    ensures steps { NoneIdle (C.Idle cuts.now)
+        → budget.new.used + trials (ahead (T.plan tree.now) descent.new.path.items descent.new.number)
+        ≡ budget.old.used + trials (ahead (T.plan tree.now) descent.old.path.items descent.old.number) }
+    ensures beyond { NoneIdle (C.Idle cuts.now)
+        → lower descent.new.beyond (lowest (ahead (T.plan tree.now) descent.new.path.items descent.new.number))
+        ≡ lower descent.old.beyond (lowest (ahead (T.plan tree.now) descent.old.path.items descent.old.number)) }
+    ensures known { KeepsBeyond (T.plan tree.now) descent.old descent.new }
+    ensures spends { Spends budget.old budget.new }
+{
+    leave_idle(tree, cuts, descent);
+    loop {
+        if descent.path.len() == tree.places() {
+            if descent.number == 0 {
+                descent.number = 1;
+                return Ok(true);
+            }
+        } else if descent.number < tree.stop(&descent.path) {
+            if budget.used == budget.limit {
+                return Err(Stopped);
+            }
+            budget.used += 1;
+            if try_number(tree, descent) {
+                leave_idle(tree, cuts, descent);
+            }
+            continue;
+        }
+        if !go_back(tree, descent) {
+            return Ok(false);
+        }
+        leave_idle(tree, cuts, descent);
+    }
+}
+
+/// Goes on to the next whole path, which the descent then has, unless the budget or the search ends before it. Nothing
+/// is left out.
+pub fn climb_on<T: Tree>(tree: &T, descent: &mut Descent, budget: &mut Budget) -> Drawn
+    requires standing { Stands (T.plan tree.now) descent.old.path.items }
+    ensures stands { Stands (T.plan tree.now) descent.new.path.items }
+    ensures answer { MatchDrawn result
+        ((hits (ahead (T.plan tree.now) descent.old.path.items descent.old.number)
+        ≡ descent.new.path.items ∷ hits (ahead (T.plan tree.now) descent.new.path.items descent.new.number))
+        × (length descent.new.path.items ≡ (T.plan tree.now).places))
+        ((hits (ahead (T.plan tree.now) descent.old.path.items descent.old.number) ≡ [])
+        × (ahead (T.plan tree.now) descent.new.path.items descent.new.number ≡ []))
+        ((hits (ahead (T.plan tree.now) descent.new.path.items descent.new.number)
+        ≡ hits (ahead (T.plan tree.now) descent.old.path.items descent.old.number))
+        × (budget.new.used ≡ budget.new.limit)
+        × (0 < trials (ahead (T.plan tree.now) descent.new.path.items descent.new.number))) }
+    ensures steps { budget.new.used + trials (ahead (T.plan tree.now) descent.new.path.items descent.new.number)
+        ≡ budget.old.used + trials (ahead (T.plan tree.now) descent.old.path.items descent.old.number) }
+    ensures beyond { lower descent.new.beyond
+        (lowest (ahead (T.plan tree.now) descent.new.path.items descent.new.number))
+        ≡ lower descent.old.beyond (lowest (ahead (T.plan tree.now) descent.old.path.items descent.old.number)) }
+    ensures spends { Spends budget.old budget.new }
+{
+    climb_past(tree, &CutsNothing, descent, budget)
+}

@@ -1,4 +1,0 @@
-pub mod CountLemmas
-pub mod HostLemmas
-pub mod Orders
-pub mod PutBoards

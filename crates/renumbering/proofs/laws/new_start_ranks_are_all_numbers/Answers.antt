@@ -1,6 +1,0 @@
-use Rattle.trf16_writer.proofs.StartRanks.{own_starts}
-use Rattle.renumbering.proofs.NewStarts.{new_onto}
-use Rattle.renumbering.proofs.laws.new_start_ranks_are_all_numbers.Goals as goal
-
-pub returns : goal.returns
-returns c bytes bye sheet n e some within = new_onto sheet n (own_starts bytes bye sheet e).different some within

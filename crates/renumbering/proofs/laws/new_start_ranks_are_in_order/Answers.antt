@@ -1,9 +1,0 @@
-use Rattle.renumbering.proofs.OrderLemmas.{goes_rated}
-use Rattle.renumbering.proofs.NewStarts.{new_lt}
-use Rattle.renumbering.proofs.laws.new_start_ranks_are_in_order.Goals as goal
-
-pub returns : goal.returns
-returns c = record {
-  order = new_lt;
-  rated = λ sheet a b x y is is' lt. new_lt sheet a b x y is is' (goes_rated sheet.utf8 x y lt);
-}

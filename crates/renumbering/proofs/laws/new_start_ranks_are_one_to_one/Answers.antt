@@ -1,5 +1,0 @@
-use Rattle.renumbering.proofs.NewStarts.{new_within, new_once}
-use Rattle.renumbering.proofs.laws.new_start_ranks_are_one_to_one.Goals as goal
-
-pub returns : goal.returns
-returns c = record { within = new_within; once = new_once }

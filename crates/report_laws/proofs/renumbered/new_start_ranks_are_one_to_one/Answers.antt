@@ -1,0 +1,5 @@
+use Rattle.report_laws.proofs.NewStarts.{new_within, new_once}
+use Rattle.report_laws.proofs.renumbered.new_start_ranks_are_one_to_one.Goals as goal
+
+pub returns : goal.returns
+returns c = record { within = new_within; once = new_once }
