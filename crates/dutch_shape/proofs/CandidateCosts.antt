@@ -60,7 +60,7 @@ odd_is true n k e = elim (cases_eq (n % 2) 1) [
       let none : n % 2 ≡ 0 = elim (cases_lt 0 (n % 2)) [ inl some ↦ absurd (even (omega (arith, some))) | inr few ↦ omega (arith, few) ] in
       let all : 16777216 * k ≡ 0 = omega (arith, e, none) in all ∙ sym given)
 ]
-odd_is false n k e = refl
+odd_is false n k e = let none : 0 * k ≡ 0 = omega arith in none
 
 module _ (context : Context) where
   abbrev facts : Facts
@@ -248,7 +248,7 @@ module _ (context : Context) where
       same_size = ap (λ t. cond t (n + length context.lower) n) once
 
       no_bye : (v : ℕ) → (shape_costs context).left_cost v ≡ w v
-      no_bye v = omega (arith, ap (λ t. cond t 16777216 0) once)
+      no_bye v = omega (arith, ap {B = ℕ} (λ t. cond t 16777216 0) once)
 
       alone : Whole
       alone = record {

@@ -7,7 +7,7 @@
 ghost use Rattle.std.specs.Prelude.{◌≡◌, ◌+◌, ◌<◌, ◌≤◌, ◌*◌, Some, IfOk, IfSome, true};
 ghost use Rattle.dutch_order.specs.Prelude.{MatchFound, Spends};
 ghost use Rattle.matching.specs.Matchings.{IsMatching};
-ghost use Rattle.dutch_bracket.specs.Prelude.{shape_here};
+ghost use Rattle.dutch_bracket.specs.Prelude.{Context, shape_here};
 ghost use Rattle.dutch_shape.specs.ShapeCosts.{IsShapeFloor, cost_of, joined, vertices};
 
 use crate::matched::{can_be_chosen, matched_shape};
@@ -22,7 +22,7 @@ use std::alloc::{AllocError, Global};
 const MOST_PLAYERS: usize = 400;
 
 /// What every shape that has a candidate that can be chosen costs at least, beside what is owed.
-#[derive(Clone, Copy)]
+#[derive(Drop)]
 pub(crate) struct ShapeFloor {
     base: Wide,
     debt: Wide,
@@ -36,9 +36,19 @@ pub(crate) struct Told {
 }
 
 impl ShapeFloor {
+    /// The floor that says nothing.
+    pub(crate) fn none() -> ShapeFloor
+        ensures { (context : Context) → IsShapeFloor context result }
+    {
+        ShapeFloor {
+            base: Wide::zero(),
+            debt: Wide::zero(),
+        }
+    }
+
     /// Whether a shape costs less than any that has a candidate that can be chosen.
-    pub(crate) fn is_above(self, players: &Players<'_>, shape: Shape) -> bool
-        ensures { result ≡ true → self.debt + cost_of players.now shape < self.base }
+    pub(crate) fn is_above(&self, players: &Players<'_>, shape: Shape) -> bool
+        ensures { result ≡ true → self.now.debt + cost_of players.now shape < self.now.base }
     {
         match self.debt.plus(players.cost_of(shape)) {
             Some(cost) => cost.is_less(self.base),
@@ -47,8 +57,8 @@ impl ShapeFloor {
     }
 
     /// Whether no shape that has a candidate that can be chosen costs less than this one.
-    fn is_reached(self, players: &Players<'_>, shape: Shape) -> bool
-        ensures { result ≡ true → self.debt + cost_of players.now shape ≤ self.base }
+    fn is_reached(&self, players: &Players<'_>, shape: Shape) -> bool
+        ensures { result ≡ true → self.now.debt + cost_of players.now shape ≤ self.now.base }
     {
         match self.debt.plus(players.cost_of(shape)) {
             Some(cost) => !self.base.is_less(cost),
@@ -58,11 +68,7 @@ impl ShapeFloor {
 }
 
 /// The floor that a certificate is, if it is confirmed.
-#[tactic(auto, using(crate::proofs::CandidateCosts::floor_told))]
-fn confirmed(
-    players: &Players<'_>,
-    certificate: &Table,
-) -> Result<Option<ShapeFloor>, AllocError>
+fn confirmed(players: &Players<'_>, certificate: &Table) -> Result<Option<ShapeFloor>, AllocError>
     ensures { IfOk result (λ found. IfSome found (IsShapeFloor players.now)) }
 {
     let numbers = numbered_from(1, players.count());
@@ -81,15 +87,14 @@ fn confirmed(
 
 /// The shape of a matching, if it is the bracket's: nothing that can be chosen costs less, and its pairs are those of a
 /// candidate that can be chosen.
-#[tactic(auto, using(crate::proofs::MatchedCandidates::told))]
 fn shape_by(
     players: &Players<'_>,
     partners: &[Option<u16>],
-    floor: ShapeFloor,
+    floor: &ShapeFloor,
     budget: &mut Budget,
 ) -> Result<Option<Shape>, Stopped>
     requires matching { IsMatching (vertices players.now) (joined players.now) partners.now }
-    requires floor { IsShapeFloor players.now floor }
+    requires floor { IsShapeFloor players.now floor.now }
     ensures answer { MatchFound result (λ shape. shape_here players.now ≡ Some shape) (Unit {0})
         (budget.new.used ≡ budget.new.limit) }
     ensures spends { Spends budget.old budget.new }
@@ -152,6 +157,6 @@ pub(crate) fn told_by_cost(
     let Ok(Some(floor)) = confirmed(players, &found.certificate) else {
         return Ok(None);
     };
-    let shape = shape_by(players, &found.partners, floor, budget)?;
+    let shape = shape_by(players, &found.partners, &floor, budget)?;
     Ok(Some(Told { floor, shape }))
 }

@@ -1,6 +1,6 @@
 // The shape of a bracket (C.04.3 C.5, B.1): the most pairs that some candidate has, and then the most moved-down
 // players in them.
-ghost use Rattle.std.specs.Prelude.{◌≡◌, ◌*◌, ◌≤◌, Some, None, IfSome, true, filter, length};
+ghost use Rattle.std.specs.Prelude.{◌≡◌, ◌*◌, ◌≤◌, Some, None, true, filter, length};
 ghost use Rattle.std.specs.Result.{MatchResult};
 ghost use Rattle.dutch_order.specs.Prelude.{MatchDrawn, MatchFound, Spends};
 ghost use Rattle.dutch_bracket.specs.Prelude.{FitsHere, ListsHere, eligible_here, first_with, fits, frame_here};
@@ -43,12 +43,12 @@ fn may_go_out(context: &Context<'_>, pairs: usize, budget: &mut Budget) -> Resul
     }
 }
 
-/// A bracket whose shape is looked for, above what a floor allows if there is one.
+/// A bracket whose shape is looked for, and what every shape that counts costs at least.
 #[derive(Drop)]
 struct Asked<'a, 'b> {
     context: &'b Context<'a>,
-    floor: Option<ShapeFloor>,
-    ghost bound: { IfSome floor (IsShapeFloor context.now) },
+    floor: ShapeFloor,
+    ghost bound: { IsShapeFloor context.now floor },
 }
 
 impl<'a, 'b> Asked<'a, 'b> {
@@ -57,10 +57,7 @@ impl<'a, 'b> Asked<'a, 'b> {
     fn is_too_cheap(&self, shape: Shape) -> bool
         ensures { result ≡ true → IsTooCheap self.now.context.now shape }
     {
-        match self.floor {
-            Some(floor) => floor.is_above(&Players::of(self.context), shape),
-            None => false,
-        }
+        self.floor.is_above(&Players::of(self.context), shape)
     }
 }
 
@@ -127,14 +124,15 @@ fn shape_by_matchings(context: &Context<'_>, budget: &mut Budget) -> Result<Opti
     }
 }
 
-/// The shape, by the whole listing above a floor, if there is one.
+/// The shape, by the whole listing above a floor.
+#[tactic(auto, unfolding(dutch_bracket::specs::Brackets::shape_of))]
 fn listed_shape<'b>(
     context: &Context<'_>,
-    floor: Option<ShapeFloor>,
+    floor: ShapeFloor,
     lister: &mut Lister<'_, ByNumber<'b>>,
     budget: &mut Budget,
 ) -> Result<Option<Shape>, Stopped>
-    requires floor { IfSome floor (IsShapeFloor context.now) }
+    requires floor { IsShapeFloor context.now floor }
     requires lists { ListsHere context.now lister.old.listing }
     ensures answer { MatchResult result (λ shape. shape_here context.now ≡ shape)
         (λ _. budget.new.used ≡ budget.new.limit) }
@@ -156,12 +154,12 @@ fn costed_shape<'b>(
     ensures spends { Spends budget.old budget.new }
 {
     let Some(told) = told_by_cost(&Players::of(context), budget)? else {
-        return listed_shape(context, None, lister, budget);
+        return listed_shape(context, ShapeFloor::none(), lister, budget);
     };
     if let Some(shape) = told.shape {
         return Ok(Some(shape));
     }
-    listed_shape(context, Some(told.floor), lister, budget)
+    listed_shape(context, told.floor, lister, budget)
 }
 
 /// The shape: by a listing of few steps, then by matchings if they can be had, and where they do not tell it, by the
@@ -179,7 +177,7 @@ fn found_shape<'b>(
 {
     let asked = Asked {
         context,
-        floor: None,
+        floor: ShapeFloor::none(),
     };
     if let Some(shape) = decided_in_few_steps(&asked, lister, budget)? {
         return Ok(shape);
