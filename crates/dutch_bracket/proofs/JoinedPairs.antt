@@ -25,12 +25,12 @@ use Rattle.dutch_bracket.proofs.Totals.{total, total_append, total_sum}
 
 -- ---- sums
 
-numbers_total : (w : ℕ → ℕ) (first more count : ℕ) → total w (numbers_from first (more + count)) ≡ total w (numbers_from first more) + total w (numbers_from (first + more) count)
+pub numbers_total : (w : ℕ → ℕ) (first more count : ℕ) → total w (numbers_from first (more + count)) ≡ total w (numbers_from first more) + total w (numbers_from (first + more) count)
 numbers_total w first more count =
     ap (total w) (numbers-append first more count) ∙ total_append w (numbers_from first more) (numbers_from (first + more) count)
 
 -- the players of two lists, place by place
-places_total : (w : ℕ → ℕ) (firsts seconds : List ℕ) → length firsts ≡ length seconds → sum_by (in_both w) (by_place firsts seconds) ≡ total w firsts + total w seconds
+pub places_total : (w : ℕ → ℕ) (firsts seconds : List ℕ) → length firsts ≡ length seconds → sum_by (in_both w) (by_place firsts seconds) ≡ total w firsts + total w seconds
 places_total w [] [] e = refl
 places_total w [] (b ∷ seconds) e = absurd (omega (arith, e))
 places_total w (a ∷ firsts) [] e = absurd (omega (arith, e))
@@ -38,7 +38,7 @@ places_total w (a ∷ firsts) (b ∷ seconds) e =
     omega (arith, sum_by-cons (in_both w) (a, b) (by_place firsts seconds), places_total w firsts seconds (omega (arith, e)))
 
 -- pairs of two lists whose players meet, before others
-all_onto : (P : ℕ × ℕ → Type 0) (meets : ℕ → ℕ → Bool) (A B : ℕ → Type 0) → ((x y : ℕ) → A x → B y → meets x y ≡ true → P (x, y))
+pub all_onto : (P : ℕ × ℕ → Type 0) (meets : ℕ → ℕ → Bool) (A B : ℕ → Type 0) → ((x y : ℕ) → A x → B y → meets x y ≡ true → P (x, y))
     → (firsts seconds : List ℕ) → ((z : ℕ) → IsIn z firsts → A z) → ((z : ℕ) → IsIn z seconds → B z) → all_meet meets firsts seconds ≡ true
     → (rest : List (ℕ × ℕ)) → All P rest → All P (by_place firsts seconds ++ rest)
 all_onto P meets A B each [] seconds as' bs meet rest all = all
@@ -48,10 +48,10 @@ all_onto P meets A B each (a ∷ firsts) (b ∷ seconds) as' bs meet rest all =
     All-cons P (a, b) (by_place firsts seconds ++ rest) (each a b (as' a (inl refl)) (bs b (inl refl)) parts.0)
     (all_onto P meets A B each firsts seconds (λ z m. as' z (inr m)) (λ z m. bs z (inr m)) parts.1 rest all)
 
-low : (a q : ℕ) → a ≤ q → nat_le a q ≡ true
+pub low : (a q : ℕ) → a ≤ q → nat_le a q ≡ true
 low a q h = le-leb a q h
 
-high : (a q : ℕ) → q < a → nat_le a q ≡ false
+pub high : (a q : ℕ) → q < a → nat_le a q ≡ false
 high a q h = grind (arith, nat_tests)
 
 -- ---- the pairs of an arrangement
@@ -75,13 +75,13 @@ module _ (facts : Facts) (reached : Reached) (shape : Shape) (a : Arrangement) (
   four : FourLists frame shape a
   four = lists_of frame shape a inside legal.arranged
 
-  lists : AreLists frame shape a
+  pub lists : AreLists frame shape a
   lists = lists-in frame shape a inside legal.arranged
 
-  first_count : length a.s1 ≡ length a.s2
+  pub first_count : length a.s1 ≡ length a.s2
   first_count = lists.s1.count ∙ sym lists.s2.count
 
-  other_count : length a.s1r ≡ length a.s2r
+  pub other_count : length a.s1r ≡ length a.s2r
   other_count = lists.s1r.count ∙ sym lists.s2r.count
 
   abbrev first_pairs : List (ℕ × ℕ)
@@ -111,16 +111,16 @@ module _ (facts : Facts) (reached : Reached) (shape : Shape) (a : Arrangement) (
         total_sum w (numbers_from 1 n),
       )
 
-  s1_low : (z : ℕ) → IsIn z a.s1 → IsMovedDown frame z
+  pub s1_low : (z : ℕ) → IsIn z a.s1 → IsMovedDown frame z
   s1_low z m = in-moved_down frame z (lists.s1.within z m)
 
-  s2_high : (z : ℕ) → IsIn z a.s2 → IsResident frame z
+  pub s2_high : (z : ℕ) → IsIn z a.s2 → IsResident frame z
   s2_high z m = in-residents frame z inside (lists.s2.within z m)
 
-  s1r_high : (z : ℕ) → IsIn z a.s1r → IsResident frame z
+  pub s1r_high : (z : ℕ) → IsIn z a.s1r → IsResident frame z
   s1r_high z m = in-residents frame z inside (in-left z (residents_of frame) a.s2 (lists.s1r.within z m)).0
 
-  s2r_high : (z : ℕ) → IsIn z a.s2r → IsResident frame z
+  pub s2r_high : (z : ℕ) → IsIn z a.s2r → IsResident frame z
   s2r_high z m =
       in-residents frame z inside (in-left z (residents_of frame) a.s2 (in-left z (left_of (residents_of frame) a.s2) a.s1r (lists.s2r.within z m)).0).0
 

@@ -1,8 +1,8 @@
 pub mod AllLemmas
+pub mod PairedOut
 pub mod C04Takers
 pub mod JoinedPairs
 pub mod JoinedMates
-pub mod BoundedShapes
 pub mod AlwaysShapes
 pub mod C07WeakerRules
 pub mod GhostPairs

@@ -1,15 +1,15 @@
 -- Mates among the players of a bracket, of whom no two are moved down, are the pairs of an arrangement; its downfloaters are their
 -- own mates.
-use Rattle.std.proofs.Common.{◌≡◌, ℕ, ◌+◌, ◌-◌, ◌<◌, ◌≤◌, Bool, true, false, not, ◌||◌, ◌==◌, ltb, List, [], ◌∷◌, ◌++◌, map, length, refl, sym, ap, ◌∙◌, arith, subst, inl, inr}
+use Rattle.std.proofs.Common.{◌≡◌, ℕ, ◌+◌, ◌-◌, ◌<◌, ◌≤◌, Bool, true, false, not, cond, ◌||◌, ◌==◌, ltb, List, [], ◌∷◌, ◌++◌, map, length, refl, sym, ap, ◌∙◌, arith, subst, inl, inr}
 use Rattle.std.specs.List.{filter}
 use Rattle.std.proofs.lemmas.List.{length-map}
-use Rattle.std.proofs.lemmas.Bool.{cases_eq, cases_order, cases_lt, eq-eqb, ne_eqb, ltb-true, lt-ltb, not_from_false, not-true, and_from, true≢false, or_right}
+use Rattle.std.proofs.lemmas.Bool.{false_from_ne_true, cases_eq, cases_order, cases_lt, eq-eqb, ne_eqb, ltb-true, lt-ltb, not_from_false, not-true, and_from, true≢false, or_right}
 use Rattle.dutch_order.specs.declared.bracket.Shape.{Shape}
 use Rattle.dutch_order.specs.Prelude.{is_member, all_meet, moved_down_of, NoneTwice, IsMovedDown, IsResident, IsIn, Frame, Arrangement, Fits, arrangements, candidates, down, is_legal, leaves_one, left_of, paired, players_of, residents_of}
 use Rattle.dutch_order.proofs.CursorSets.{AreLists, numbers-within}
+use Rattle.dutch_sequence.proofs.Orders.{in-member, member-in, Rises-filter, IsIn-append, IsIn-front, IsIn-back, IsIn-map, map-IsIn, IsIn-filter, filter-IsIn}
 use Rattle.dutch_order.proofs.FormArrangements.{in-lists, moved_down-in, in-moved_down, resident-in, in-residents}
 use Rattle.dutch_order.proofs.NoneTwice.{in-left, left-in, rises-twice, twice-different}
-use Rattle.dutch_sequence.proofs.Orders.{Rises-filter, IsIn-front, IsIn-back, IsIn-map, map-IsIn, IsIn-filter, filter-IsIn}
 use Rattle.dutch_sequence.proofs.StageSets.{Climbs-length}
 use Rattle.dutch_bracket.specs.Prelude.{has_member}
 use Rattle.dutch_bracket.proofs.ArrangementParts.{numbers_rise, parts_of}
@@ -28,6 +28,13 @@ fits_arrangement frame shape a within fewer m =
 -- what passes a test stands among what passes it
 pub has_kept : (p : Arrangement → Bool) (a : Arrangement) (all : List Arrangement) → IsIn a all → p a ≡ true → has_member (filter p all) ≡ true
 has_kept p a all m e = has_in a (filter p all) (filter-IsIn p a all m e)
+
+-- two tests that say the same of each member keep the same
+filter_as : (p q : ℕ → Bool) (xs : List ℕ) → ((x : ℕ) → IsIn x xs → p x ≡ q x) → filter p xs ≡ filter q xs
+filter_as p q [] same = refl
+filter_as p q (x ∷ xs) same =
+    ap (λ t. cond t (x ∷ filter p xs) (filter p xs)) (same x (inl refl))
+    ∙ ap (λ (ys : List ℕ). cond (q x) (x ∷ ys) ys) (filter_as p q xs (λ y m. same y (inr m)))
 
 pub twice_map : (f : ℕ → ℕ) (xs : List ℕ) → NoneTwice xs → ((x y : ℕ) → IsIn x xs → IsIn y xs → f x ≡ f y → x ≡ y) → NoneTwice (map f xs)
 twice_map f [] twice apart = tt
@@ -203,14 +210,46 @@ module _ (frame : Frame) (mate : ℕ → ℕ) (within : frame.mdps ≤ length fr
       let number : IsNumber frame z = (omega (arith, h.0), omega (arith, h.1)) in
       (number, elim (cases_eq (mate z) z) [ inl same ↦ same | inr ne ↦ absurd (off.1 (paired_mates z number ne)) ])
 
+  -- and nobody else is
+  paired_mate : (z : ℕ) → IsIn z (paired of_mates) → mate z ≡ z → ⊥
+  paired_mate z m own =
+      elim (IsIn-append z s1 (s2 ++ (s1r ++ s2r)) m) [
+        | inl first ↦ (in_s1 z first).1 own
+        | inr rest ↦ elim (IsIn-append z s2 (s1r ++ s2r) rest) [
+          | inl second ↦ (let h = in_s2 z second in omega (arith, h.0.0, h.1.1, own))
+          | inr later ↦ elim (IsIn-append z s1r s2r later) [
+            | inl third ↦ (let less : z < mate z = (in_s1r z third).1 in omega (arith, less, own))
+            | inr fourth ↦ (let less : mate z < z = (in_s2r z fourth).2 in omega (arith, less, own))
+          ]
+        ]
+      ]
+
+  left_alone : (z : ℕ) → IsIn z (players_of frame) → not (is_member z (paired of_mates)) ≡ (mate z == z)
+  left_alone z m =
+      let h = numbers-within 1 (length frame.scores) z m in
+      elim (cases_eq (mate z) z) [
+        | inl own ↦
+            ap not (false_from_ne_true (is_member z (paired of_mates)) (λ there. paired_mate z (member-in z (paired of_mates) there) own))
+            ∙ sym (eq-eqb (mate z) z own)
+        | inr ne ↦
+            ap not (in-member z (paired of_mates) (paired_mates z (omega (arith, h.0), omega (arith, h.1)) ne)) ∙ sym (ne_eqb (mate z) z ne)
+      ]
+
+  -- the downfloaters are those who are their own mates
+  pub down_is : down frame of_mates ≡ filter (λ z. mate z == z) (players_of frame)
+  down_is = filter_as (λ z. not (is_member z (paired of_mates))) (λ z. mate z == z) (players_of frame) left_alone
+
   module _ (meets : ℕ → ℕ → Bool) (may_be_left : ℕ → Bool) (met : (x : ℕ) → IsNumber frame x → (mate x ≡ x → ⊥) → meets x (mate x) ≡ true) where
     -- mates who meet are a candidate, if those whom it leaves over may be
-    legal_if : (not frame.last || leaves_one may_be_left (down frame of_mates)) ≡ true → has_member (candidates meets may_be_left frame mates_shape) ≡ true
-    legal_if left =
-        has_kept (is_legal meets may_be_left frame) of_mates (arrangements frame mates_shape) mates_arranged
+    pub legal_member : (not frame.last || leaves_one may_be_left (down frame of_mates)) ≡ true → IsIn of_mates (candidates meets may_be_left frame mates_shape)
+    legal_member left =
+        filter-IsIn (is_legal meets may_be_left frame) of_mates (arrangements frame mates_shape) mates_arranged
         (and_from (all_meet meets s1 s2) _ (all_meet_mates meets mate s1 (λ x m. let h = in_s1 x m in met x (low_number x h.0) h.1))
         (and_from (all_meet meets s1r s2r) _
         (all_meet_mates meets mate s1r (λ x m. let h = in_s1r x m in met x (high_number x h.0) (λ e. let less : x < mate x = h.1 in omega (arith, e, less)))) left))
+
+    legal_if : (not frame.last || leaves_one may_be_left (down frame of_mates)) ≡ true → has_member (candidates meets may_be_left frame mates_shape) ≡ true
+    legal_if left = has_in of_mates (candidates meets may_be_left frame mates_shape) (legal_member left)
 
     pub mates_candidate : ((x y : ℕ) → IsNumber frame x → IsNumber frame y → mate x ≡ x → mate y ≡ y → x ≡ y) → ((x : ℕ) → IsNumber frame x → mate x ≡ x → may_be_left x ≡ true)
         → has_member (candidates meets may_be_left frame mates_shape) ≡ true

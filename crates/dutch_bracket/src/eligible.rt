@@ -32,7 +32,7 @@ impl BracketKind {
 }
 
 /// Fills a list with the seats of numbers of a bracket, and then lower ones.
-fn fill_with_lower(reached: &Reached, numbers: &[u16], lower: &[u16], seats: &mut Seats)
+pub fn fill_with_lower(reached: &Reached, numbers: &[u16], lower: &[u16], seats: &mut Seats)
     requires numbers { AllNumbers reached.now.seats numbers.now }
     requires few { length numbers.now + length lower.now ≤ LIMIT }
     ensures { seats.new.items ≡ map (seat_of reached.now.seats) numbers.now ++ lower.now }
@@ -149,7 +149,7 @@ pub fn can_be_chosen(
 
 /// Draws the first candidate of a shape that can be chosen. No says that there is none.
 #[tactic(auto, using(crate::proofs::EligibleLemmas::first_fit, crate::proofs::EligibleLemmas::passes_unfit, crate::proofs::EligibleLemmas::has_none))]
-pub(crate) fn first_eligible(
+pub fn first_eligible(
     shaped: &ShapedBracket<'_>,
     lister: &mut Lister<'_, ByNumber<'_>>,
     budget: &mut Budget,

@@ -32,7 +32,7 @@ impl<'a, R: Rule> Lister<'a, R> {
 }
 
 /// A bracket whose greatest shape is looked for.
-pub(crate) trait Shapes<R: Rule> {
+pub trait Shapes<R: Rule> {
     /// The arrangements of a shape that count.
     ghost counting: { Self → Shape → List Arrangement };
 
@@ -181,7 +181,7 @@ fn shape_with<R: Rule, S: Shapes<R>>(
 
 /// The greatest shape of a bracket that has an arrangement that counts, the first of which is drawn; none if no shape
 /// has one.
-pub(crate) fn greatest_shape<R: Rule, S: Shapes<R>>(
+pub fn greatest_shape<R: Rule, S: Shapes<R>>(
     asked: &S,
     lister: &mut Lister<'_, R>,
     budget: &mut Budget,

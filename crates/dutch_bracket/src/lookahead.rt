@@ -20,12 +20,12 @@ ghost use Rattle.dutch_bracket.specs.NextBracket.{value_in, value_of, quality};
 ghost use Rattle.dutch_order.specs.Prelude.{Spends};
 
 use crate::differences::fill_psd;
+use crate::few_steps::decided_in_few_steps;
 use crate::greatest::{Legal, Lister, Shapes, greatest_shape};
 use crate::psd_floor::{FlatShape, is_uniform};
 use crate::quality::{NextValue, Quality, Room, fill_quality};
 use crate::reached::{BracketKind, ByNumber, Reached, push_all};
 use crate::seated::{by_seats, seats_of};
-use crate::shape::decided_in_few_steps;
 use crate::shape_bound::bound_by_matchings;
 use dutch_order::{Budget, Candidate, Numbers, Shape, Stopped, numbered_from};
 use dutch_player::Field;

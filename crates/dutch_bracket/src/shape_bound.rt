@@ -19,7 +19,7 @@ use std::alloc::Global;
 /// The most pairs, and the most moved-down players in pairs, that a candidate of a bracket may have, and the bracket's
 /// shape if it is known.
 #[derive(Drop)]
-pub(crate) struct ShapeBound {
+pub struct ShapeBound {
     pub most: Shape,
     pub shape: Option<Shape>,
 }
@@ -139,7 +139,7 @@ fn matched(alloc: Global, joins: &Joins<'_>, budget: &mut Budget) -> Result<Opti
 
 /// The bound of a bracket's shape by two matchings. They are looked for only if the most steps that they may take are
 /// left. None says that they were not looked for, or that memory was refused.
-pub(crate) fn bound_by_matchings(
+pub fn bound_by_matchings(
     alloc: Global,
     rule: ByNumber<'_>,
     budget: &mut Budget,

@@ -17,7 +17,7 @@ use dutch_order::{Budget, Numbers, Stopped};
 
 /// Whether so many downfloaters of a bracket can be paired out with all lower players (A.9), whoever they are.
 #[tactic(auto, unfolding(crate::specs::Takers::can_go_out))]
-pub(crate) fn can_go_out(
+pub fn can_go_out(
     context: &Context<'_>,
     takers: usize,
     budget: &mut Budget,

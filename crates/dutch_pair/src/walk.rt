@@ -21,10 +21,10 @@ use dutch_bracket::fault::PairFault;
 use dutch_bracket::group::split_first_group;
 use dutch_bracket::reached::{BracketKind, Reached, Seats, bracket, copied};
 use dutch_bracket::seated::seats_of;
-use dutch_bracket::shape::shape_of;
 use dutch_order::{Budget, Shape, Stopped, numbered_from};
 use dutch_player::Field;
 use dutch_player::laws::scores_do_not_ascend;
+use dutch_shape::shape::shape_of;
 use std::alloc::Global;
 use std::marker::Model;
 

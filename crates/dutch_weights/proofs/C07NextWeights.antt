@@ -21,7 +21,7 @@ use Rattle.dutch_bracket.specs.Prelude.{fixed_lists, IsNext, GoesBelow, JoinsBel
 use Rattle.dutch_weights.specs.Prelude.{Order, Scoped, are_inside, both_go, bracket_costs, costs_in, goes_down, is_inside, is_number_below, may_meet_below, next_costs, pair_weight_below, side_in, added_in, alone_weight, met_weight, own_weight}
 use Rattle.dutch_bracket.proofs.AllLemmas.{all_join}
 use Rattle.dutch_bracket.proofs.ArrangementParts.{numbers_above}
-use Rattle.dutch_weights.proofs.C04Lower.{one_by_one, sums_same}
+use Rattle.dutch_bracket.proofs.PairedOut.{one_by_one, sums_same}
 use Rattle.dutch_weights.proofs.C06ToC19Weights.{IsSmallBelow, all_so, below_more, below_none, below_ordered, candidate_weighs}
 use Rattle.dutch_weights.proofs.C07NextMatchings.{joins_below, next_is_small}
 use Rattle.dutch_weights.proofs.CandidateMatchings.{each, left_over, part_of}

@@ -1,7 +1,7 @@
 -- What is found is the shape, and the bracket has room for it.
 use Rattle.std.proofs.Common.{◌∙◌}
 use Rattle.dutch_bracket.proofs.ShapeLaws.{has_room}
-use Rattle.dutch_bracket.proofs.shape.shape_of.Goals as goal
+use Rattle.dutch_shape.proofs.shape.shape_of.Goals as goal
 
 pub returns-in-Ok-Some-clause-answer : goal.returns-in-Ok-Some-clause-answer
 returns-in-Ok-Some-clause-answer c =

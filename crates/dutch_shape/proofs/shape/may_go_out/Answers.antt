@@ -4,13 +4,13 @@ use Rattle.std.proofs.lemmas.List.{length-map}
 use Rattle.dutch_bracket.specs.Prelude.{Reached, frame_of, is_penultimate, score_at, can_go_out}
 use Rattle.dutch_bracket.proofs.C04Takers.{no_shape_with}
 use Rattle.dutch_bracket.proofs.TellLemmas.{no_by_test}
-use Rattle.dutch_bracket.proofs.shape.ContextShapesByNumber.may_have.Goals as goal
+use Rattle.dutch_shape.proofs.shape.may_go_out.Goals as goal
 
 pub returns-in-Ok-clause-answer : goal.returns-in-Ok-clause-answer
 returns-in-Ok-clause-answer c =
-    let facts = c.args.self.now.facts in
-    let reached = c.args.self.now.reached in
-    let lower = c.args.self.now.lower in
+    let facts = c.args.context.now.facts in
+    let reached = c.args.context.now.reached in
+    let lower = c.args.context.now.lower in
     let penultimate = c.kind.ensures ∙ ap (λ (s : Reached). s.kind) c.reached.ensures.value in
     let count : length (frame_of facts reached).scores ≡ length reached.seats = length-map reached.seats (score_at facts) in
     no_by_test (Ok c.in-Ok.found) _ _ _ c.in-Ok.ensures.answer (λ cannot.

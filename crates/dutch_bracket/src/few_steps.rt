@@ -1,0 +1,37 @@
+// The greatest shape of a bracket by a listing of few steps (C.04.3 C.5, B.1), which tells nearly all shapes.
+ghost use Rattle.std.specs.Prelude.{◌≡◌};
+ghost use Rattle.dutch_order.specs.Prelude.{MatchFound, Spends};
+ghost use Rattle.dutch_bracket.specs.Shapes.{IsFound};
+
+use crate::eligible::at_most;
+use crate::greatest::{Lister, Shapes, greatest_shape};
+use dutch_order::{Budget, Rule, Shape, Stopped};
+
+/// The steps of the listing for each player that decide nearly all brackets.
+const FIRST_STEPS: u64 = 64;
+
+/// The greatest shape by a listing of few steps, the first arrangement of which is drawn. None says that they did not
+/// suffice.
+pub fn decided_in_few_steps<R: Rule, S: Shapes<R>>(
+    asked: &S,
+    lister: &mut Lister<'_, R>,
+    budget: &mut Budget,
+) -> Result<Option<Option<Shape>>, Stopped>
+    requires lists { S.lists asked.now lister.old.listing }
+    ensures answer { MatchFound result
+        (λ found. IsFound (S.counting asked.now) (S.frame asked.now) found lister.new.drawn)
+        (Unit {0})
+        (budget.new.used ≡ budget.new.limit) }
+    ensures lists { S.lists asked.now lister.new.listing }
+    ensures spends { Spends budget.old budget.new }
+{
+    let steps = FIRST_STEPS.saturating_mul(asked.bracket().len() as u64);
+    let mut few = at_most(steps, budget);
+    let found = greatest_shape(asked, lister, &mut few);
+    budget.used = few.used;
+    match found {
+        Ok(shape) => Ok(Some(shape)),
+        Err(Stopped) if budget.used == budget.limit => Err(Stopped),
+        Err(Stopped) => Ok(None),
+    }
+}

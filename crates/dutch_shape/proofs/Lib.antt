@@ -1,0 +1,3 @@
+pub mod CheapShapes
+pub mod CandidateCosts
+pub mod MatchedCandidates

@@ -1,0 +1,162 @@
+// What a matching of least cost tells of a bracket's shape (C.04.3 B.1, C.4, C.5): by its certificate, that none that
+// can be chosen has more pairs, or as many and more moved-down players in them; and by its pairs, that one has as many
+// of both.
+//
+// Whoever finds the matching is not trusted: its certificate counts only if `dual` confirms it, and its pairs only if
+// they are those of a candidate that can be chosen.
+ghost use Rattle.std.specs.Prelude.{◌≡◌, ◌+◌, ◌<◌, ◌≤◌, ◌*◌, Some, IfOk, IfSome, true};
+ghost use Rattle.dutch_order.specs.Prelude.{MatchFound, Spends};
+ghost use Rattle.matching.specs.Matchings.{IsMatching};
+ghost use Rattle.dutch_bracket.specs.Prelude.{Context, shape_here};
+ghost use Rattle.dutch_shape.specs.ShapeCosts.{IsShapeFloor, cost_of, joined, vertices};
+
+use crate::matched::{can_be_chosen, matched_shape};
+use crate::players::Players;
+use cheapest::{Fault, Found, cheapest};
+use dual::{Pool, Table, Wide};
+use dutch_bracket::spending::spend;
+use dutch_order::{Budget, Shape, Stopped, numbered_from};
+use std::alloc::{AllocError, Global};
+
+/// Of more players than so many no matching of least cost is looked for: the check takes room with their square.
+const MOST_PLAYERS: usize = 400;
+
+/// What every shape that has a candidate that can be chosen costs at least, beside what is owed.
+#[derive(Drop)]
+pub(crate) struct ShapeFloor {
+    base: Wide,
+    debt: Wide,
+}
+
+/// What a matching of least cost tells of a bracket's shape: a floor, and the shape if the matching has it.
+#[derive(Drop)]
+pub(crate) struct Told {
+    pub floor: ShapeFloor,
+    pub shape: Option<Shape>,
+}
+
+impl ShapeFloor {
+    /// The floor that says nothing.
+    pub(crate) fn none() -> ShapeFloor
+        ensures { (context : Context) → IsShapeFloor context result }
+    {
+        ShapeFloor {
+            base: Wide::zero(),
+            debt: Wide::zero(),
+        }
+    }
+
+    /// Whether a shape costs less than any that has a candidate that can be chosen.
+    pub(crate) fn is_above(&self, players: &Players<'_>, shape: Shape) -> bool
+        ensures { result ≡ true → self.now.debt + cost_of players.now shape < self.now.base }
+    {
+        match self.debt.plus(players.cost_of(shape)) {
+            Some(cost) => cost.is_less(self.base),
+            None => false,
+        }
+    }
+
+    /// Whether no shape that has a candidate that can be chosen costs less than this one.
+    fn is_reached(&self, players: &Players<'_>, shape: Shape) -> bool
+        ensures { result ≡ true → self.now.debt + cost_of players.now shape ≤ self.now.base }
+    {
+        match self.debt.plus(players.cost_of(shape)) {
+            Some(cost) => !self.base.is_less(cost),
+            None => false,
+        }
+    }
+}
+
+/// The floor that a certificate is, if it is confirmed.
+fn confirmed(players: &Players<'_>, certificate: &Table) -> Result<Option<ShapeFloor>, AllocError>
+    ensures { IfOk result (λ found. IfSome found (IsShapeFloor players.now)) }
+{
+    let numbers = numbered_from(1, players.count());
+    let pool = Pool {
+        rule: players,
+        players: &numbers,
+    };
+    match certificate.floor_for_any(players.alloc, &pool)? {
+        Some(floor) => Ok(Some(ShapeFloor {
+            base: floor.base(),
+            debt: floor.debt(),
+        })),
+        None => Ok(None),
+    }
+}
+
+/// The shape of a matching, if it is the bracket's: nothing that can be chosen costs less, and its pairs are those of a
+/// candidate that can be chosen.
+fn shape_by(
+    players: &Players<'_>,
+    partners: &[Option<u16>],
+    floor: &ShapeFloor,
+    budget: &mut Budget,
+) -> Result<Option<Shape>, Stopped>
+    requires matching { IsMatching (vertices players.now) (joined players.now) partners.now }
+    requires floor { IsShapeFloor players.now floor.now }
+    ensures answer { MatchFound result (λ shape. shape_here players.now ≡ Some shape) (Unit {0})
+        (budget.new.used ≡ budget.new.limit) }
+    ensures spends { Spends budget.old budget.new }
+{
+    let shape = matched_shape(players, partners);
+    if !floor.is_reached(players, shape) {
+        return Ok(None);
+    }
+    if !can_be_chosen(players, partners, budget)? {
+        return Ok(None);
+    }
+    Ok(Some(shape))
+}
+
+/// How many steps have to be left for a matching of so many players to be looked for: an eighth of their cube. Some
+/// take more.
+fn steps_for(players: usize) -> u64 {
+    let players = players as u64;
+    players.saturating_mul(players).saturating_mul(players) / 8
+}
+
+/// A matching of least cost. None says that it was not looked for, since too few steps are left or the players are too
+/// many, or that memory was refused.
+fn found(players: &Players<'_>, budget: &mut Budget) -> Result<Option<Found>, Stopped>
+    ensures answer { MatchFound result
+        (λ found. IsMatching (vertices players.now) (joined players.now) found.partners.items) (Unit {0})
+        (budget.new.used ≡ budget.new.limit) }
+    ensures spends { Spends budget.old budget.new }
+{
+    let mut left = budget.limit - budget.used;
+    if MOST_PLAYERS < players.count() || left < steps_for(players.count()) {
+        return Ok(None);
+    }
+    let found = cheapest(players.alloc, players, &mut left);
+    budget.used = budget.limit - left;
+    match found {
+        Ok(found) => Ok(Some(found)),
+        Err(Fault::Stopped) => Err(Stopped),
+        Err(_) => Ok(None),
+    }
+}
+
+/// What a matching of least cost tells of a bracket's shape. None says that it was not looked for, or not confirmed.
+pub(crate) fn told_by_cost(
+    players: &Players<'_>,
+    budget: &mut Budget,
+) -> Result<Option<Told>, Stopped>
+    ensures answer { MatchFound result
+        (λ told. IsShapeFloor players.now told.floor
+        × IfSome told.shape (λ shape. shape_here players.now ≡ Some shape))
+        (Unit {0})
+        (budget.new.used ≡ budget.new.limit) }
+    ensures spends { Spends budget.old budget.new }
+{
+    let Some(found) = found(players, budget)? else {
+        return Ok(None);
+    };
+    let count = players.count() as u64;
+    spend(count * count, budget)?;
+    let Ok(Some(floor)) = confirmed(players, &found.certificate) else {
+        return Ok(None);
+    };
+    let shape = shape_by(players, &found.partners, &floor, budget)?;
+    Ok(Some(Told { floor, shape }))
+}

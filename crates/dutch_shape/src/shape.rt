@@ -1,0 +1,210 @@
+// The shape of a bracket (C.04.3 C.5, B.1): the most pairs that some candidate has, and then the most moved-down
+// players in them.
+ghost use Rattle.std.specs.Prelude.{◌≡◌, ◌*◌, ◌≤◌, Some, None, true, filter, length};
+ghost use Rattle.std.specs.Result.{MatchResult};
+ghost use Rattle.dutch_order.specs.Prelude.{MatchDrawn, MatchFound, Spends};
+ghost use Rattle.dutch_bracket.specs.Prelude.{FitsHere, ListsHere, eligible_here, first_with, fits, frame_here};
+ghost use Rattle.dutch_bracket.specs.Prelude.{shape_here, shapes_with};
+ghost use Rattle.dutch_shape.specs.ShapeCosts.{IsTooCheap, IsShapeFloor};
+
+use crate::certified::{ShapeFloor, told_by_cost};
+use crate::players::Players;
+use dutch_bracket::ByNumber;
+use dutch_bracket::context::Context;
+use dutch_bracket::eligible::{at_most, first_eligible};
+use dutch_bracket::few_steps::decided_in_few_steps;
+use dutch_bracket::greatest::{Lister, Shapes, greatest_shape};
+use dutch_bracket::shape_bound::bound_by_matchings;
+use dutch_bracket::shaped::ShapedBracket;
+use dutch_bracket::takers::can_go_out;
+use dutch_order::{Bracket, Budget, Shape, Stopped};
+
+/// Whether a shape with so many pairs may have a candidate that can be chosen: so many pairs leave so many
+/// downfloaters. If that many cannot be paired out with the lower players, whoever they are, no candidate of a
+/// penultimate bracket can be chosen (C.4). To rule this out may take very many steps, so only a part of those that are
+/// left goes into it.
+fn may_go_out(context: &Context<'_>, pairs: usize, budget: &mut Budget) -> Result<bool, Stopped>
+    requires small { 2 * pairs ≤ length (frame_here context.now).scores }
+    ensures answer { MatchDrawn result (Unit {0})
+        (first_with (eligible_here context.now) (filter (fits (frame_here context.now)) (shapes_with pairs)) ≡ None)
+        (budget.new.used ≡ budget.new.limit) }
+    ensures spends { Spends budget.old budget.new }
+{
+    if !context.reached().kind().is_penultimate() {
+        return Ok(true);
+    }
+    let mut some = at_most((budget.limit - budget.used) / 4, budget);
+    let found = can_go_out(context, context.len() - 2 * pairs, &mut some);
+    budget.used = some.used;
+    match found {
+        Ok(found) => Ok(found),
+        Err(Stopped) if budget.used == budget.limit => Err(Stopped),
+        Err(Stopped) => Ok(true),
+    }
+}
+
+/// A bracket whose shape is looked for, and what every shape that counts costs at least.
+#[derive(Drop)]
+struct Asked<'a, 'b> {
+    context: &'b Context<'a>,
+    floor: ShapeFloor,
+    ghost bound: { IsShapeFloor context.now floor },
+}
+
+impl<'a, 'b> Asked<'a, 'b> {
+    /// Whether the floor says that no candidate that can be chosen has a shape, or one that costs less.
+    #[tactic(auto, using(crate::proofs::CheapShapes::too_cheap_by))]
+    fn is_too_cheap(&self, shape: Shape) -> bool
+        ensures { result ≡ true → IsTooCheap self.now.context.now shape }
+    {
+        self.floor.is_above(&Players::of(self.context), shape)
+    }
+}
+
+impl<'a, 'b, 'c> Shapes<ByNumber<'c>> for Asked<'a, 'b> {
+    ghost use Rattle.dutch_bracket.specs.Prelude.{ListsHere, eligible_here, frame_here};
+
+    ghost counting = { λ b. eligible_here b.context.now };
+
+    ghost frame = { λ b. frame_here b.context.now };
+
+    ghost lists = { λ b. ListsHere b.context.now };
+
+    fn bracket(&self) -> &Bracket
+        ensures { result.now ≡ frame_here self.now.context.now }
+    {
+        self.context.frame()
+    }
+
+    fn may_have(&self, pairs: usize, budget: &mut Budget) -> Result<bool, Stopped>
+        requires small { 2 * pairs ≤ length (frame_here self.now.context.now).scores }
+        ensures answer { MatchDrawn result (Unit {0})
+            (first_with (eligible_here self.now.context.now)
+            (filter (fits (frame_here self.now.context.now)) (shapes_with pairs)) ≡ None)
+            (budget.new.used ≡ budget.new.limit) }
+        ensures spends { Spends budget.old budget.new }
+    {
+        // of the shapes with so many pairs the one that costs most
+        if self.is_too_cheap(Shape { pairs, mdps: 0 }) {
+            return Ok(false);
+        }
+        may_go_out(self.context, pairs, budget)
+    }
+
+    fn first(
+        &self,
+        lister: &mut Lister<'_, ByNumber<'c>>,
+        shape: Shape,
+        budget: &mut Budget,
+    ) -> Result<bool, Stopped> {
+        if self.is_too_cheap(shape) {
+            return Ok(false);
+        }
+        let shaped = ShapedBracket {
+            context: self.context,
+            shape,
+        };
+        first_eligible(&shaped, lister, budget)
+    }
+}
+
+/// The shape of a bracket that is not the penultimate one, by unweighted matchings. None says that they do not tell it,
+/// or were not looked for.
+fn shape_by_matchings(context: &Context<'_>, budget: &mut Budget) -> Result<Option<Shape>, Stopped>
+    ensures answer { MatchFound result (λ shape. shape_here context.now ≡ Some shape) (Unit {0})
+        (budget.new.used ≡ budget.new.limit) }
+    ensures spends { Spends budget.old budget.new }
+{
+    if context.reached().kind().is_penultimate() {
+        return Ok(None);
+    }
+    match bound_by_matchings(context.alloc(), context.rule(), budget)? {
+        Some(bound) => Ok(bound.shape),
+        None => Ok(None),
+    }
+}
+
+/// The shape, by the whole listing above a floor.
+#[tactic(auto, unfolding(dutch_bracket::specs::Brackets::shape_of))]
+fn listed_shape<'b>(
+    context: &Context<'_>,
+    floor: ShapeFloor,
+    lister: &mut Lister<'_, ByNumber<'b>>,
+    budget: &mut Budget,
+) -> Result<Option<Shape>, Stopped>
+    requires floor { IsShapeFloor context.now floor }
+    requires lists { ListsHere context.now lister.old.listing }
+    ensures answer { MatchResult result (λ shape. shape_here context.now ≡ shape)
+        (λ _. budget.new.used ≡ budget.new.limit) }
+    ensures spends { Spends budget.old budget.new }
+{
+    let asked = Asked { context, floor };
+    greatest_shape(&asked, lister, budget)
+}
+
+/// The shape, by a matching of least cost, and where that does not tell it, by the whole listing above its floor.
+fn costed_shape<'b>(
+    context: &Context<'_>,
+    lister: &mut Lister<'_, ByNumber<'b>>,
+    budget: &mut Budget,
+) -> Result<Option<Shape>, Stopped>
+    requires lists { ListsHere context.now lister.old.listing }
+    ensures answer { MatchResult result (λ shape. shape_here context.now ≡ shape)
+        (λ _. budget.new.used ≡ budget.new.limit) }
+    ensures spends { Spends budget.old budget.new }
+{
+    let Some(told) = told_by_cost(&Players::of(context), budget)? else {
+        return listed_shape(context, ShapeFloor::none(), lister, budget);
+    };
+    if let Some(shape) = told.shape {
+        return Ok(Some(shape));
+    }
+    listed_shape(context, told.floor, lister, budget)
+}
+
+/// The shape: by a listing of few steps, then by matchings if they can be had, and where they do not tell it, by the
+/// whole listing within what they allow.
+#[tactic(auto, unfolding(dutch_bracket::specs::Brackets::shape_of))]
+fn found_shape<'b>(
+    context: &Context<'_>,
+    lister: &mut Lister<'_, ByNumber<'b>>,
+    budget: &mut Budget,
+) -> Result<Option<Shape>, Stopped>
+    requires lists { ListsHere context.now lister.old.listing }
+    ensures answer { MatchResult result (λ shape. shape_here context.now ≡ shape)
+        (λ _. budget.new.used ≡ budget.new.limit) }
+    ensures spends { Spends budget.old budget.new }
+{
+    let asked = Asked {
+        context,
+        floor: ShapeFloor::none(),
+    };
+    if let Some(shape) = decided_in_few_steps(&asked, lister, budget)? {
+        return Ok(shape);
+    }
+    if let Some(shape) = shape_by_matchings(context, budget)? {
+        return Ok(Some(shape));
+    }
+    costed_shape(context, lister, budget)
+}
+
+/// The shape of a bracket of a field above all lower seats by rank: of the shapes that have a candidate, the one with
+/// the most pairs, and for them with the most moved-down players. The answer is none if no shape has one.
+#[inline(never)]
+#[tactic(auto, unfolding(dutch_bracket::specs::Brackets::shape_of))]
+pub fn shape_of(context: &Context<'_>, budget: &mut Budget) -> Result<Option<Shape>, Stopped>
+    ensures answer { MatchFound result
+        (λ shape. (shape_here context.now ≡ Some shape) × FitsHere context.now shape)
+        (shape_here context.now ≡ None)
+        (budget.new.used ≡ budget.new.limit) }
+    ensures spends { Spends budget.old budget.new }
+{
+    let rule = context.rule();
+    let mut lister = Lister::new(context.frame(), &rule);
+    // One way out, as each one more clears the place of a lister more.
+    match found_shape(context, &mut lister, budget) {
+        Ok(Some(shape)) => Ok(Some(shape)),
+        Ok(None) => Ok(None),
+        Err(Stopped) => Err(Stopped),
+    }
+}
