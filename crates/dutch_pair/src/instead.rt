@@ -17,11 +17,11 @@ use dutch_bracket::fault::PairFault;
 use dutch_bracket::greatest::has_room;
 use dutch_bracket::quality::Quality;
 use dutch_bracket::shaped::ShapedBracket;
-use dutch_choice::choice::best_of;
-use dutch_choice::skipper::rules_out;
+use dutch_choice::barred::rules_out;
 use dutch_choice::wish::Wish;
 use dutch_order::{Bound, Budget, Candidate, Candidates, Exchange, Prefix, Shape, Step, Stopped};
 use dutch_player::Field;
+use dutch_search::choice::best_of;
 use std::alloc::Global;
 
 /// What is told of a wish in a bracket.

@@ -13,9 +13,9 @@ use dutch_bracket::fault::PairFault;
 use dutch_bracket::quality::Quality;
 use dutch_bracket::reached::{BracketKind, Reached, Seats};
 use dutch_bracket::seated::{Pair, by_seats};
-use dutch_choice::choice::{Choice, choose_in};
 use dutch_order::{Budget, Candidate, Shape, Stopped};
 use dutch_player::Field;
+use dutch_search::choice::{Choice, choose_in};
 
 /// A bracket that a round reaches, and what is chosen in it.
 #[derive(Drop)]

@@ -22,7 +22,7 @@ lists_stay pass old new frame rule lists = record {
 
 pub loop-kept-init : goal.loop-kept-init
 unfolding candidates_of best_near best_yet
-loop-kept-init c =
+loop-kept-init g c =
     let pass = c.args.pass.now in
     let before = c.args.lister.now.listing in
     let listed : candidates_here pass.shaped.context.now pass.shaped.shape ≡ c.restart.new.self.coming =
@@ -36,11 +36,11 @@ loop-kept-init c =
       shape = c.restart.ensures.shape;
       spends = spends-none _;
       look = c.requires.look;
-      weights = refl;
+      guide = c.requires.guide;
     }
 
 pub consider-requires-clause-candidate : goal.consider-requires-clause-candidate
-consider-requires-clause-candidate c =
+consider-requires-clause-candidate g c =
     let pass = c.args.pass.now in
     let found = rw c.if-branch.true at c.in_ok-draw.ensures.answer in
     let lists = c.draw.new.lister.drawn.lists in
@@ -51,7 +51,7 @@ consider-requires-clause-candidate c =
     }
 
 pub loop-kept-preserved : goal.loop-kept-preserved
-loop-kept-preserved c =
+loop-kept-preserved g c =
     let pass = c.args.pass.now in
     let found = rw c.if-branch.true at c.in_ok-draw.ensures.answer in
     let before = c.loop-kept.lister.listing.coming in
@@ -64,11 +64,11 @@ loop-kept-preserved c =
       shape = c.in_ok-draw.ensures.shape ∙ c.loop-kept.invariant.shape;
       spends = spends-more c.loop-kept.invariant.spends (spends-more c.in_ok-draw.ensures.spends c.consider.ensures.spends);
       look = c.consider.ensures.look;
-      weights = c.consider.ensures.weights ∙ c.in_ok-draw.ensures.weights ∙ c.loop-kept.invariant.weights;
+      guide = subst (λ guide. g.G.Guide.knows guide pass.shaped.context.now pass.shaped.shape) (sym c.consider.ensures.guide) c.in_ok-draw.ensures.known;
     }
 
 pub returns-clause-answer : goal.returns-clause-answer
-returns-clause-answer c =
+returns-clause-answer g c =
     let pass = c.args.pass.now in
     let ended = rw c.if-branch.false at c.in_ok-draw.ensures.answer in
     handed pass.shaped.context.now c.loop-kept.kept (near_of pass) c.loop-kept.invariant.kept

@@ -8,7 +8,7 @@ use Rattle.dutch_choice.proofs.AimLemmas.{winner_kept}
 use Rattle.dutch_choice.proofs.choice.consider.Goals as goal
 
 pub returns-then-branch-clause-answer : goal.returns-then-branch-clause-answer
-returns-then-branch-clause-answer c = λ coming.
+returns-then-branch-clause-answer g c = λ coming.
     let pass = c.args.pass.now in
     let kept = c.args.kept.now in
     let taken = c.take-quality.ensures.value in

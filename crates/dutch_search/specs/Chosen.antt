@@ -1,0 +1,14 @@
+-- What a choice in a bracket answers (C.04.3 B.8).
+use Rattle.std.specs.Prelude.{◌≡◌, Some}
+use Rattle.dutch_order.specs.Prelude.{down}
+use Rattle.dutch_search.specs.declared.choice.Choice.{Choice}
+use Rattle.dutch_search.specs.declared.choice.Choice.TheVariants.{Chosen as IsChosen, Undecided as ChoiceUndecided}
+use Rattle.dutch_bracket.specs.Prelude.{Context, FitsHere, frame_here, quality_here, quality_in, choice}
+
+-- the choice in a bracket above lower seats, with its quality; what a call that was stopped owes is given with it
+abbrev pub IsChoice : Context → Type 0 → Choice → Type 0
+IsChoice context stopped (IsChosen shape candidate quality) =
+    (choice context.facts context.reached context.lower ≡ Some (record { shape = shape; lists = candidate.lists }))
+    × (candidate.down ≡ down (frame_here context) candidate.lists) × FitsHere context shape
+    × (quality_in quality ≡ quality_here context candidate.lists)
+IsChoice context stopped ChoiceUndecided = stopped
