@@ -5,4 +5,5 @@ pub mod Remembered
 pub mod Wishes
 pub mod RuledOut
 pub mod Passes
+pub mod Chosen
 pub mod Prelude

@@ -7,3 +7,4 @@ pub use Rattle.dutch_choice.specs.Wishes.{ComesBefore, IsAsGoodBefore, IsBarred,
 unfoldable pub use Rattle.dutch_choice.specs.Wishes.{best_granting}
 pub use Rattle.dutch_choice.specs.RuledOut.{halves_bar, has_one_of, has_player, parts, rules_out, s1_bars, s1r_bars}
 pub use Rattle.dutch_choice.specs.Passes.{Draws, IsChosenNext, IsEnd, IsHere, IsIdle, IsIdleIfFit, ListsFor, LooksFor, PassesUnwanted, SeeksTheSame, best_of_pass, is_unwanted_to, near_of, wished_of}
+pub use Rattle.dutch_choice.specs.Chosen.{IsChoice}

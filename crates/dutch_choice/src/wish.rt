@@ -13,7 +13,7 @@ use dutch_bracket::fixed_lists::{FixedLists, fixed_lists};
 use dutch_order::{Candidate, Filling, Prefix};
 
 /// What is wished of a candidate. Players are named by their numbers in the bracket.
-#[derive(Clone, Copy)]
+#[derive(Debug, Clone, Copy, PartialEq, Eq)]
 pub enum Wish {
     /// These two meet, in whatever order they are named.
     Pair(u16, u16),

@@ -6,11 +6,11 @@ use Rattle.dutch_order.specs.Prelude.{down}
 use Rattle.dutch_player.specs.Prelude.{Facts}
 use Rattle.dutch_bracket.specs.declared.reached.BracketKind.{BracketKind}
 use Rattle.dutch_bracket.specs.declared.reached.BracketKind.TheVariants.{Ordinary, Last, Penultimate, Collapsed}
-use Rattle.dutch_search.specs.declared.choice.Choice.{Choice as Made}
+use Rattle.dutch_choice.specs.declared.choice.Choice.{Choice as Made}
 use Rattle.dutch_pair.specs.declared.stage.Stage.{Stage}
 use Rattle.dutch_bracket.specs.Prelude.{Context, frame_here, quality_here, quality_in, Reached, IsAbove, frame_of, Choice, bracket, choice, completable, downfloaters, quality_of, scoregroups, shape_of, seat_of}
 use Rattle.dutch_pair.specs.Prelude.{lower_of, IsStage, shown, visit_at, Round, brackets, passing, pairing_in, penultimate_bracket, paired_again, IsSettled, choice_of, group_kind, is_again, round_by, Goes, GoesOut, HasWayOut, StandsBefore}
-use Rattle.dutch_search.specs.Prelude.{IsChoice}
+use Rattle.dutch_choice.specs.Prelude.{IsChoice}
 use Rattle.dutch_pair.proofs.RoundBy.{final_by, ordinary_by, penultimate_by}
 use Rattle.dutch_choice.proofs.BestLemmas.{choice_of_shape}
 use Rattle.dutch_pair.proofs.GroupWalk.{IsParted}

@@ -1,6 +1,5 @@
--- What the contracts of dutch_search name: the choice in a bracket.
+-- What the contracts of dutch_search name: floors of both kinds for a pass, and what weights cost.
 pub mod Searching
 pub mod Skips
-pub mod Chosen
 pub mod Costs
 pub mod Prelude

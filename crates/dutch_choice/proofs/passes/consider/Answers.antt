@@ -5,7 +5,7 @@ use Rattle.dutch_choice.specs.Prelude.{aim_in, is_idle}
 use Rattle.dutch_order.specs.Prelude.{Candidate}
 use Rattle.dutch_bracket.specs.Prelude.{quality_in}
 use Rattle.dutch_choice.proofs.AimLemmas.{winner_kept}
-use Rattle.dutch_choice.proofs.choice.consider.Goals as goal
+use Rattle.dutch_choice.proofs.passes.consider.Goals as goal
 
 pub returns-then-branch-clause-answer : goal.returns-then-branch-clause-answer
 returns-then-branch-clause-answer g c = λ coming.

@@ -1,7 +1,7 @@
 -- Where a pass with an aim ends with a candidate, it is the best of all.
 use Rattle.dutch_choice.specs.Prelude.{aim_in}
 use Rattle.dutch_choice.proofs.AimLemmas.{pass_ends}
-use Rattle.dutch_choice.proofs.choice.best_by_aim.Goals as goal
+use Rattle.dutch_choice.proofs.passes.best_by_aim.Goals as goal
 
 pub returns-clause-answer : goal.returns-clause-answer
 returns-clause-answer g c =

@@ -3,7 +3,7 @@ use Rattle.std.proofs.Common.{◌≡◌, length}
 use Rattle.dutch_order.specs.Prelude.{Arrangement, IsIn, Spends}
 use Rattle.dutch_bracket.specs.Prelude.{candidates_here}
 use Rattle.dutch_choice.specs.Prelude.{IsKept, ListsFor, LooksFor, best_of_pass, near_of}
-use Rattle.dutch_choice.proofs.choice.best_near.Given as goal
+use Rattle.dutch_choice.proofs.passes.best_near.Given as goal
 
 abbrev pub decreases-loop-kept : goal.decreases-loop-kept
 decreases-loop-kept g l = length l.lister.listing.coming

@@ -1,7 +1,7 @@
 -- A bracket with a candidate has a shape.
 use Rattle.std.proofs.lemmas.Option.{MatchOption-at_none}
 use Rattle.dutch_bracket.proofs.ShapeLaws.{shape_there}
-use Rattle.dutch_search.proofs.choice.choose_in.Goals as goal
+use Rattle.dutch_choice.proofs.choice.choose_in.Goals as goal
 
 pub unreachable-requires : goal.unreachable-requires
 unreachable-requires c = shape_there c.args.context.now.facts c.args.context.now.reached c.args.context.now.lower c.requires.candidate

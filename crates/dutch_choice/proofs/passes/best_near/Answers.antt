@@ -10,7 +10,7 @@ use Rattle.dutch_choice.specs.Prelude.{aim_in, best_near, best_yet, ListsFor, be
 use Rattle.dutch_choice.specs.declared.pass.Pass.{Pass}
 use Rattle.dutch_choice.proofs.AimLemmas.{best_last, handed, skipped_same}
 use Rattle.dutch_choice.proofs.SkippedLemmas.{left_was_there}
-use Rattle.dutch_choice.proofs.choice.best_near.Goals as goal
+use Rattle.dutch_choice.proofs.passes.best_near.Goals as goal
 
 -- a listing of the bracket that goes on is one of it
 lists_stay : (pass : Pass) (old new : Listing ByNumber) → new.frame ≡ old.frame → new.rule ≡ old.rule → ListsFor pass old → ListsFor pass new
