@@ -11,6 +11,7 @@ ghost use Rattle.replies.specs.Prelude.{answer_of, not_of_bracket, not_reached, 
 use dutch_order::{Budget, Candidates, Cursor, Rule, Shape};
 use dutch_pair::{BracketAt, Reached, bracket_at};
 use dutch_player::{Field, FieldFault};
+use dutch_search::WithFloors;
 use replies::refusal::{cannot_be_paired, no_pairing, undecided};
 use replies::views::{not_seen, read_before};
 use replies::{Reply, Status, texts};
@@ -61,7 +62,7 @@ fn of_field(
 ) -> Result<Reply, AllocError>
     ensures { IfOk result (λ reply. InField options.now (Ok field.now) (answer_of reply)) }
 {
-    let found = bracket_at(alloc, field, options.steps, options.bracket)?;
+    let found = bracket_at::<WithFloors>(alloc, field, options.steps, options.bracket)?;
     tell(alloc, options, field, &found)
 }
 

@@ -14,6 +14,7 @@ use crate::instead::{Paired, Question, instead};
 use crate::not_paired::{no_pairing_because, undecided};
 use dutch_pair::{AllStages, stages};
 use dutch_player::{Field, FieldFault};
+use dutch_search::WithFloors;
 use replies::refusal::{cannot_be_asked, cannot_be_paired};
 use replies::views::{not_seen, read_before};
 use replies::{Reply, Status, question_fault};
@@ -86,7 +87,7 @@ fn of_round(
 ) -> Result<Reply, AllocError>
     ensures { IfOk result (λ reply. IsExplained options telling.now (answer_of reply)) }
 {
-    match stages(alloc, telling.field, options.steps)? {
+    match stages::<WithFloors>(alloc, telling.field, options.steps)? {
         AllStages::Paired { stages, bye } => {
             let round = Paired {
                 telling,

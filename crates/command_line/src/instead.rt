@@ -16,6 +16,7 @@ use crate::instead_lines::{put_found, put_front, put_granted};
 use crate::not_paired::undecided;
 use dutch_pair::{Instead, Stage, Wish, best_instead};
 use dutch_player::Field;
+use dutch_search::WithFloors;
 use replies::{Reply, Status};
 use round_lines::page::Page;
 use round_lines::telling::Telling;
@@ -274,7 +275,7 @@ fn by_search(
         decided.entry.0.now decided.entry.1 (answer_of reply)) }
 {
     let (stage, wish) = decided;
-    let found = best_instead(alloc, telling.field, stage, wish, question.steps)?;
+    let found = best_instead::<WithFloors>(alloc, telling.field, stage, wish, question.steps)?;
     tell(alloc, telling, question.asked, (stage, &found))
 }
 

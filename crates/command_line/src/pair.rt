@@ -11,6 +11,7 @@ use dutch_pair::boards::Board;
 use dutch_pair::laws::boards_can_be_the_next_round;
 use dutch_pair::{Outcome, pair_round};
 use dutch_player::{Field, FieldFault};
+use dutch_search::WithFloors;
 use replies::format::rewritten;
 use replies::refusal::{cannot_be_paired, no_pairing, undecided};
 use replies::views::{not_seen, read_before};
@@ -66,7 +67,7 @@ fn of_field(
 {
     // So `tell` may put them into the report.
     boards_can_be_the_next_round();
-    let outcome = pair_round(alloc, field, options.steps)?;
+    let outcome = pair_round::<WithFloors>(alloc, field, options.steps)?;
     tell(alloc, options, report, &outcome)
 }
 

@@ -1,18 +1,24 @@
 -- If a shape pairs all moved-down players, or all residents, none of them is left over (C.04.3 B.1, B.3).
 use Rattle.std.proofs.Common.{◌≡◌, ℕ, ◌+◌, ◌-◌, ◌*◌, ◌<◌, ◌≤◌, true, false, List, [], ◌∷◌, ◌++◌, length, sym, ◌∙◌, arith}
-use Rattle.std.specs.Prelude.{nat_eq}
+use Rattle.std.specs.Prelude.{nat_eq, nat_le}
 use Rattle.std.proofs.lemmas.Bool.Decides.{nat_tests}
-use Rattle.std.proofs.lemmas.Bool.{false_from_ne_true, not-true, true≢false}
+use Rattle.std.proofs.lemmas.Bool.{and_parts, false_from_ne_true, leb-true, not-true, true≢false}
 use Rattle.dutch_order.specs.declared.bracket.Shape.{Shape}
 use Rattle.dutch_order.specs.Prelude.{Arrangement, Frame, arrangements, left_of, paired, remainder_pairs, residents_of, is_member, numbers_from, IsIn}
 use Rattle.dutch_sequence.proofs.Orders.{in-member, IsIn-back, IsIn-front}
 use Rattle.dutch_sequence.proofs.Members.{length-numbers}
 use Rattle.dutch_order.proofs.NoneTwice.{left-in}
+use Rattle.dutch_bracket.specs.Prelude.{Reached, is_number}
 use Rattle.dutch_choice.specs.declared.wish.Wish.TheVariants.{LeftOver}
 use Rattle.dutch_choice.specs.Prelude.{grants}
 use Rattle.dutch_bracket.proofs.ArrangementParts.{lists_of, numbers_rise, parts_of, subset_whole}
 use Rattle.dutch_sequence.proofs.FoundPaths.{in-numbers}
 use Rattle.dutch_bracket.proofs.Totals.{total_length}
+
+-- a number of a bracket is one of its places, from 1 on
+pub bounds : (reached : Reached) (z : ℕ) → is_number reached z ≡ true → (1 ≤ z) × (z ≤ length reached.seats)
+bounds reached z h =
+    let both = and_parts (nat_le 1 z) (nat_le z (length reached.seats)) h in (leb-true 1 z both.0, leb-true z (length reached.seats) both.1)
 
 pub equal : (a b : ℕ) → nat_eq a b ≡ true → a ≡ b
 equal a b h = grind (arith, nat_tests)

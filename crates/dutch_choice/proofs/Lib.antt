@@ -1,13 +1,9 @@
-pub mod PassesTwice
 pub mod AimLemmas
 pub mod WishLemmas
 pub mod BestGranting
-pub mod PremiseOfWish
 pub mod AllPaired
 pub mod RuledOutLemmas
 pub mod BestLemmas
 pub mod ChoiceLemmas
 pub mod KeptValues
 pub mod SkippedLemmas
-pub mod FloorsOfPass
-pub mod BarsBehind

@@ -5,7 +5,5 @@ pub mod Remembered
 pub mod Wishes
 pub mod RuledOut
 pub mod Passes
-pub mod Skips
 pub mod Chosen
-pub mod Costs
 pub mod Prelude

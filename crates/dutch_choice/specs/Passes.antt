@@ -1,33 +1,16 @@
--- What a pass draws, what is of no interest to it, and what it ends with (C.04.3 B.8). Only private functions' clauses cite these.
-use Rattle.std.specs.Prelude.{◌≡◌, ℕ, ◌+◌, ◌/◌, if◌then◌else◌, List, ◌∷◌, Option, None, Bool, true}
-use Rattle.std.specs.Option.{ForSome, MatchOption}
+-- What a pass draws, what is of no interest to it, and what it ends with (C.04.3 B.8).
+use Rattle.std.specs.Prelude.{◌≡◌, List, ◌∷◌, Option, None, Bool, true}
+use Rattle.std.specs.Option.{MatchOption}
 use Rattle.dutch_order.specs.Prelude.{Arrangement, down, Candidate, Listing, Passes}
 use Rattle.dutch_bracket.specs.declared.greatest.Lister.{Lister}
 use Rattle.dutch_bracket.specs.declared.reached.ByNumber.{ByNumber}
 use Rattle.dutch_bracket.specs.Prelude.{Context, Lists, can_be_chosen_here, quality_here, IsOfBracket}
 use Rattle.dutch_choice.specs.declared.pass.Best.{Best}
-use Rattle.dutch_choice.specs.declared.choice.TheConstants.{PAIRS_FOR_A_STEP}
 use Rattle.dutch_choice.specs.declared.pass.Pass.{Pass}
 use Rattle.dutch_choice.specs.declared.pass.Search.{Search}
 use Rattle.dutch_choice.specs.Aims.{aim_in, best_near, best_wished, best_yet, is_unwanted, is_idle}
 use Rattle.dutch_choice.specs.Kept.{IsBest}
 use Rattle.dutch_choice.specs.Remembered.{LooksBelow, Remembered}
-use Rattle.dutch_floors.specs.declared.premise.Premise.{Premise}
-use Rattle.dutch_floors.specs.Premises.{Holds}
-use Rattle.dutch_weights.specs.Prelude.{AreOf, Weighed}
-
--- for how many steps each one of a pass counts: for one alone in the few steps that come first, and behind them once more for each so many
--- pairs of the shape
-abbrev pub price : Pass → ℕ
-price pass = if pass.is_long then 1 + pass.shaped.shape.pairs / PAIRS_FOR_A_STEP else 1
-
--- floors by weight are those of the bracket and the shape of a pass
-abbrev pub AreFor : Pass → Weighed → Type 0
-AreFor pass = AreOf pass.shaped.context.now pass.shaped.shape
-
--- so are those that there are
-abbrev pub HasWeights : Pass → Option Weighed → Type 0
-HasWeights pass weights = ForSome weights (AreFor pass)
 
 -- a listing is of the bracket of a pass
 abbrev pub ListsFor : Pass → Listing ByNumber → Type 0
@@ -40,10 +23,6 @@ LooksFor pass look = LooksBelow pass.shaped.context.now look
 -- a candidate is one of a bracket
 abbrev pub IsHere : Context → Candidate → Type 0
 IsHere context candidate = IsOfBracket context.facts context.reached candidate
-
--- it is so in a candidate of a bracket
-abbrev pub HoldsHere : Context → Premise → Arrangement → Type 0
-HoldsHere context premise a = Holds context.facts context.reached premise a
 
 -- a search, beside what it keeps, finds no interest in a candidate's quality
 abbrev pub IsIdle : Search → Arrangement → Type 0

@@ -6,7 +6,5 @@ pub use Rattle.dutch_choice.specs.Remembered.{AreValues, IsKeptAfter, IsLook, Is
 pub use Rattle.dutch_choice.specs.Wishes.{ComesBefore, IsAsGoodBefore, IsBarred, NoneGrants, SomeGrants, are_these, granting, grants, is_better_here, is_wished, some_grants, with_mdps}
 unfoldable pub use Rattle.dutch_choice.specs.Wishes.{best_granting}
 pub use Rattle.dutch_choice.specs.RuledOut.{halves_bar, has_one_of, has_player, parts, rules_out, s1_bars, s1r_bars}
-pub use Rattle.dutch_choice.specs.Passes.{AreFor, Draws, HasWeights, HoldsHere, IsChosenNext, IsEnd, IsHere, IsIdle, IsIdleIfFit, ListsFor, LooksFor, PassesUnwanted, SeeksTheSame, best_of_pass, is_unwanted_to, near_of, price, wished_of}
-pub use Rattle.dutch_choice.specs.Skips.{HasNoBetterNext, IsBehindAim, IsBehindKept, OfEach, OfEachWith, Weighs, context_of, pass_of}
+pub use Rattle.dutch_choice.specs.Passes.{Draws, IsChosenNext, IsEnd, IsHere, IsIdle, IsIdleIfFit, ListsFor, LooksFor, PassesUnwanted, SeeksTheSame, best_of_pass, is_unwanted_to, near_of, wished_of}
 pub use Rattle.dutch_choice.specs.Chosen.{IsChoice}
-pub use Rattle.dutch_choice.specs.Costs.{costs_here}

@@ -1,13 +1,11 @@
 // One pass over the candidates of a shape (C.04.3 B.8): what it seeks, and the best candidate that it has found so far.
 ghost use Rattle.std.specs.Prelude.{◌≡◌};
 ghost use Rattle.dutch_bracket.specs.Prelude.{quality_in};
-ghost use Rattle.dutch_floors.specs.Behind.{IsBasisFor};
 ghost use Rattle.dutch_choice.specs.Aims.{aim_in, is_idle};
 
 use crate::wish::Wish;
 use dutch_bracket::quality::Quality;
 use dutch_bracket::shaped::ShapedBracket;
-use dutch_floors::floor::Floors;
 use dutch_order::Candidate;
 
 /// The best candidate so far, with its quality.
@@ -20,25 +18,21 @@ pub struct Best {
 /// One pass over the candidates of a shape, in a bracket above all lower seats by rank. With an aim it seeks those
 /// alone that the aim is not better than, and with a wish those alone that grant it.
 #[derive(Drop)]
-pub(crate) struct Pass<'a> {
+pub struct Pass<'a> {
     pub shaped: ShapedBracket<'a>,
     pub wish: Option<Wish>,
-    pub(crate) aim: Option<Quality>,
-    /// The few steps that come first did not suffice.
-    pub(crate) is_long: bool,
-    pub(crate) floors: Floors<'a>,
-    ghost basis: { IsBasisFor shaped floors },
+    pub aim: Option<Quality>,
 }
 
 /// A pass, beside the candidate that it keeps.
 #[derive(Clone, Copy)]
-pub(crate) struct Search<'a, 'k> {
-    pub(crate) pass: &'a Pass<'a>,
-    pub(crate) kept: &'k Option<Best>,
+pub struct Search<'a, 'k> {
+    pub pass: &'a Pass<'a>,
+    pub kept: &'k Option<Best>,
 }
 
 /// Whether a quality is of no interest: the aim is better, or it is not better than that of the candidate that is kept.
-pub(crate) fn is_idle(quality: &Quality, aim: &Option<Quality>, kept: &Option<Best>) -> bool
+pub fn is_idle(quality: &Quality, aim: &Option<Quality>, kept: &Option<Best>) -> bool
     ensures { result ≡ is_idle (aim_in aim.now) kept.now (quality_in quality.now) }
 {
     if let Some(aim) = aim {

@@ -16,6 +16,7 @@ ghost use Rattle.dutch_choice.specs.Remembered.{value_below};
 ghost use Rattle.dutch_choice.specs.Passes.{IsHere};
 ghost use Rattle.dutch_order.specs.Prelude.{Spends};
 
+use crate::guide::Guide;
 use dutch_bracket::context::Context;
 use dutch_bracket::fault::PairFault;
 use dutch_bracket::lookahead::{Above, value_below};
@@ -23,7 +24,6 @@ use dutch_bracket::quality::{NextValue, Quality, Room, fill_quality};
 use dutch_bracket::reached::{BracketKind, Reached, Seats, copied, push_all};
 use dutch_order::{Budget, Candidate, LIMIT, Numbers, Stopped};
 use dutch_player::Field;
-use dutch_weights::weight_floor::WeightFloors;
 use lru::LruCache;
 use std::alloc::Global;
 use std::marker::Model;
@@ -245,7 +245,7 @@ impl<'a> LookAhead<'a> {
 }
 
 /// The look-ahead of a bracket above all lower seats: one for an ordinary bracket, and none for another kind.
-pub(crate) fn look_below<'a>(context: &'a Context<'a>) -> Result<Option<LookAhead<'a>>, PairFault>
+pub fn look_below<'a>(context: &'a Context<'a>) -> Result<Option<LookAhead<'a>>, PairFault>
     ensures { IfOk result (LooksBelow context.now) }
 {
     match context.reached().kind() {
@@ -261,20 +261,20 @@ pub(crate) fn look_below<'a>(context: &'a Context<'a>) -> Result<Option<LookAhea
 /// What tells the quality of a bracket's candidates: the look-ahead, in an ordinary bracket, and room to work it out;
 /// and a list for those whom a candidate leaves over with all lower players, filled anew for each that is asked about.
 #[derive(Drop)]
-pub(crate) struct Judge<'a> {
-    pub(crate) look: Option<LookAhead<'a>>,
+pub struct Judge<'a, G: Guide> {
+    pub look: Option<LookAhead<'a>>,
     pub room: Room,
     pub left: Seats,
-    /// Floors of the bracket by weight, where they were asked for.
-    pub(crate) weights: Option<WeightFloors<'a>>,
+    /// What draws the candidates.
+    pub guide: G,
 }
 
 /// Fills the quality of a candidate above all lower seats, by the look-ahead of its bracket.
 #[tactic(auto, using(dutch_bracket::proofs::NextGroups::is_next, dutch_bracket::proofs::NextGroups::quality_at), unfolding(dutch_bracket::specs::NextBracket::quality, dutch_bracket::specs::Quality::quality_with))]
-pub(crate) fn judge_candidate(
+pub(crate) fn judge_candidate<G: Guide>(
     context: &Context<'_>,
     candidate: &Candidate,
-    judge: &mut Judge<'_>,
+    judge: &mut Judge<'_, G>,
     budget: &mut Budget,
 ) -> Result<(), Stopped>
     requires candidate { IsHere context.now candidate.now }
@@ -283,7 +283,7 @@ pub(crate) fn judge_candidate(
         (λ _. quality_in judge.new.room.quality ≡ quality_here context.now candidate.now.lists)
         (λ _. budget.new.used ≡ budget.new.limit) }
     ensures look { LooksBelow context.now judge.new.look }
-    ensures weights { judge.new.weights ≡ judge.old.weights }
+    ensures guide { judge.new.guide ≡ judge.old.guide }
     ensures spends { Spends budget.old budget.new }
 {
     let room = &mut judge.room;

@@ -17,8 +17,8 @@ use dutch_bracket::fault::PairFault;
 use dutch_bracket::greatest::has_room;
 use dutch_bracket::quality::Quality;
 use dutch_bracket::shaped::ShapedBracket;
-use dutch_choice::choice::best_of;
-use dutch_choice::skipper::rules_out;
+use dutch_choice::barred::rules_out;
+use dutch_choice::finder::Finder;
 use dutch_choice::wish::Wish;
 use dutch_order::{Bound, Budget, Candidate, Candidates, Exchange, Prefix, Shape, Step, Stopped};
 use dutch_player::Field;
@@ -216,13 +216,13 @@ fn why_none(wished: &Wished<'_>, budget: &mut Budget) -> Result<Instead, Stopped
 
 /// The best candidate of a bracket's shape that grants a wish, or why there is none.
 #[tactic(auto, using(crate::proofs::InsteadLemmas::none_granting), unfolding(dutch_choice::specs::Aims::best_wished, dutch_choice::specs::Wishes::best_granting, crate::specs::Instead::IsInstead))]
-fn look_for(wished: &Wished<'_>, budget: &mut Budget) -> Result<Instead, PairFault>
+fn look_for<F: Finder>(wished: &Wished<'_>, budget: &mut Budget) -> Result<Instead, PairFault>
     requires greatest { shape_here wished.now.shaped.context.now ≡ Some wished.now.shaped.shape }
     ensures { IfOk result (IsInstead wished.now.shaped.context.now wished.now.shaped.shape wished.now.wish
         budget.old.limit) }
 {
     let wish = Some(wished.wish);
-    match best_of(&wished.shaped, wish, budget)? {
+    match F::best_of(&wished.shaped, wish, budget)? {
         Step::Found(best) => Ok(Instead::Best {
             candidate: best.candidate,
             quality: best.quality,
@@ -239,7 +239,7 @@ fn look_for(wished: &Wished<'_>, budget: &mut Budget) -> Result<Instead, PairFau
 /// that grants it and can be chosen (B.8, C.4), or why there is none. The wish names players by their numbers in the
 /// bracket; no candidate pairs a number that the bracket has not. The search has a budget of its own, of `limit` steps.
 #[tactic(auto, using(crate::proofs::InsteadLemmas::read_shape))]
-pub fn best_instead(
+pub fn best_instead<F: Finder>(
     alloc: Global,
     field: &Field,
     stage: &Stage,
@@ -255,5 +255,5 @@ pub fn best_instead(
         context: &context,
         shape: stage.shape(),
     };
-    look_for(&Wished { shaped, wish }, &mut Budget { used: 0, limit })
+    look_for::<F>(&Wished { shaped, wish }, &mut Budget { used: 0, limit })
 }

@@ -33,7 +33,7 @@ pub use dutch_bracket::{
     Answer, BracketKind, ByNumber, ITEMS, Item, NextValue, Pair, PairFault, Quality, Reached,
     Seats, are_left, completes, is_next, lookahead, seats, split_first_group,
 };
-pub use dutch_choice::{Choice, Look, LookAhead, Wish, choose};
+pub use dutch_choice::{Choice, Finder, Look, LookAhead, Wish, choose};
 pub use instead::{Instead, best_instead};
 pub use items::who_counts;
 pub use lower::lower_of;

@@ -13,6 +13,7 @@ use crate::walk::{Halt, Walk, everybody};
 use dutch_bracket::fault::PairFault;
 use dutch_bracket::reached::{Reached, Seats};
 use dutch_bracket::seated::Pair;
+use dutch_choice::finder::Finder;
 use dutch_order::Shape;
 use dutch_player::Field;
 use std::alloc::Global;
@@ -53,7 +54,7 @@ pub enum AllStages {
 }
 
 /// The pairs of the next round of a field, by seat, and the seat that has the bye, if one has.
-fn paired(alloc: Global, field: &Field, limit: u64) -> Result<(Vec<Pair>, Seats), Halt>
+fn paired<F: Finder>(alloc: Global, field: &Field, limit: u64) -> Result<(Vec<Pair>, Seats), Halt>
     ensures { MatchResult result
         (λ made. ArePairs field.now made.0.items made.1.items × (completable field.now (everybody field.now) ≡ true))
         (IsHalt field.now limit) }
@@ -61,7 +62,7 @@ fn paired(alloc: Global, field: &Field, limit: u64) -> Result<(Vec<Pair>, Seats)
     let all = everybody(field);
     let mut walk = Walk::start(alloc, field, &all, limit)?;
     let mut pairs = Vec::new(alloc);
-    while let Some(stage) = walk.settle_next(alloc)? {
+    while let Some(stage) = walk.settle_next::<F>(alloc)? {
         stage.put_pairs(field, &mut pairs)?;
     }
     Ok((pairs, walk.bye()))
@@ -69,11 +70,11 @@ fn paired(alloc: Global, field: &Field, limit: u64) -> Result<(Vec<Pair>, Seats)
 
 /// Pairs the next round of a field. Each bracket may make so many steps.
 #[tactic(auto, using(crate::proofs::NoDeadEnd::all_complete, crate::proofs::NoDeadEnd::not_complete, crate::proofs::NoDeadEnd::not_paired))]
-pub fn pair_round(alloc: Global, field: &Field, limit: u64) -> Result<Outcome, PairFault>
+pub fn pair_round<F: Finder>(alloc: Global, field: &Field, limit: u64) -> Result<Outcome, PairFault>
     ensures outcome { IfOk result (IsOutcome field.now limit) }
     ensures completion { IfOk result (TellsCompletion field.now) }
 {
-    match paired(alloc, field, limit) {
+    match paired::<F>(alloc, field, limit) {
         Ok((pairs, bye)) => Ok(Outcome::Paired(boards(alloc, field, &pairs, &bye)?)),
         Err(Halt::NoPairing) => Ok(Outcome::NoPairing),
         Err(Halt::Undecided { bracket, used }) => Ok(Outcome::Undecided { bracket, used }),
@@ -82,7 +83,7 @@ pub fn pair_round(alloc: Global, field: &Field, limit: u64) -> Result<Outcome, P
 }
 
 /// The bracket of a number, if the round reaches it, and its shape.
-fn found(
+fn found<F: Finder>(
     alloc: Global,
     field: &Field,
     limit: u64,
@@ -95,7 +96,7 @@ fn found(
     let all = everybody(field);
     let mut walk = Walk::start(alloc, field, &all, limit)?;
     while walk.number() != number {
-        if walk.settle_next(alloc)?.is_none() {
+        if walk.settle_next::<F>(alloc)?.is_none() {
             return Ok(None);
         }
     }
@@ -105,7 +106,7 @@ fn found(
 /// The bracket of a number, counted from 1 as the round reaches them, and its shape. No bracket has the number 0. Each
 /// bracket may make so many steps.
 #[tactic(auto, using(crate::proofs::NoDeadEnd::all_complete, crate::proofs::NoDeadEnd::not_complete, crate::proofs::NoDeadEnd::not_paired, crate::proofs::NoDeadEnd::nothing_reached, crate::proofs::NoDeadEnd::round_goes))]
-pub fn bracket_at(
+pub fn bracket_at<F: Finder>(
     alloc: Global,
     field: &Field,
     limit: u64,
@@ -114,7 +115,7 @@ pub fn bracket_at(
     ensures bracket { IfOk result (IsBracketAt field.now limit number) }
     ensures completion { IfOk result (TellsCompletionAt field.now) }
 {
-    match found(alloc, field, limit, number) {
+    match found::<F>(alloc, field, limit, number) {
         Ok(Some((reached, shape))) => Ok(BracketAt::Bracket { reached, shape }),
         Ok(None) => Ok(BracketAt::NotReached),
         Err(Halt::NoPairing) => Ok(BracketAt::NoPairing),
@@ -124,13 +125,17 @@ pub fn bracket_at(
 }
 
 /// The stages of the next round of a field, and the seat that has the bye, if one has.
-fn all_stages(alloc: Global, field: &Field, limit: u64) -> Result<(Vec<Stage>, Seats), Halt>
+fn all_stages<F: Finder>(
+    alloc: Global,
+    field: &Field,
+    limit: u64,
+) -> Result<(Vec<Stage>, Seats), Halt>
     ensures { MatchResult result (λ made. AreStages field.now limit (Paired made.0 made.1)) (IsHalt field.now limit) }
 {
     let all = everybody(field);
     let mut walk = Walk::start(alloc, field, &all, limit)?;
     let mut stages = Vec::new(alloc);
-    while let Some(stage) = walk.settle_next(alloc)? {
+    while let Some(stage) = walk.settle_next::<F>(alloc)? {
         stages.push(stage).map_err(PairFault::from)?;
     }
     Ok((stages, walk.bye()))
@@ -138,10 +143,10 @@ fn all_stages(alloc: Global, field: &Field, limit: u64) -> Result<(Vec<Stage>, S
 
 /// The stages of the next round of a field, as `pair_round` pairs it.
 #[tactic(auto, using(crate::proofs::NoDeadEnd::not_paired))]
-pub fn stages(alloc: Global, field: &Field, limit: u64) -> Result<AllStages, PairFault>
+pub fn stages<F: Finder>(alloc: Global, field: &Field, limit: u64) -> Result<AllStages, PairFault>
     ensures { IfOk result (AreStages field.now limit) }
 {
-    match all_stages(alloc, field, limit) {
+    match all_stages::<F>(alloc, field, limit) {
         Ok((stages, bye)) => Ok(AllStages::Paired { stages, bye }),
         Err(Halt::NoPairing) => Ok(AllStages::NoPairing),
         Err(Halt::Undecided { bracket, used }) => Ok(AllStages::Undecided { bracket, used }),

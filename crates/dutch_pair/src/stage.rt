@@ -14,6 +14,7 @@ use dutch_bracket::quality::Quality;
 use dutch_bracket::reached::{BracketKind, Reached, Seats};
 use dutch_bracket::seated::{Pair, by_seats};
 use dutch_choice::choice::{Choice, choose_in};
+use dutch_choice::finder::Finder;
 use dutch_order::{Budget, Candidate, Shape, Stopped};
 use dutch_player::Field;
 
@@ -54,13 +55,16 @@ fn is_again(
 
 /// Settles a bracket that has a candidate. None says that the budget's limit was reached first, by its choice or by the
 /// test behind it.
-pub(crate) fn settle(context: &Context<'_>, budget: &mut Budget) -> Result<Option<Stage>, PairFault>
+pub(crate) fn settle<F: Finder>(
+    context: &Context<'_>,
+    budget: &mut Budget,
+) -> Result<Option<Stage>, PairFault>
     requires candidate { HasCandidate context.now.facts context.now.reached context.now.lower }
     ensures answer { IfOk result (λ settled. MatchOption settled (budget.new.used ≡ budget.new.limit)
         (λ stage. (stage.reached ≡ context.now.reached) × IsSettled context.now.facts context.now.lower stage)) }
     ensures spends { Spends budget.old budget.new }
 {
-    let (shape, candidate, quality) = match choose_in(context, budget)? {
+    let (shape, candidate, quality) = match choose_in::<F>(context, budget)? {
         Choice::Chosen {
             shape,
             candidate,

@@ -21,6 +21,7 @@ use dutch_bracket::fault::PairFault;
 use dutch_bracket::group::split_first_group;
 use dutch_bracket::reached::{BracketKind, Reached, Seats, bracket, copied};
 use dutch_bracket::seated::seats_of;
+use dutch_choice::finder::Finder;
 use dutch_order::{Budget, Shape, Stopped, numbered_from};
 use dutch_player::Field;
 use dutch_player::laws::scores_do_not_ascend;
@@ -220,7 +221,7 @@ impl<'a> Walk<'a> {
 
     /// Settles the bracket that comes next by its choice and the test behind it, and goes behind it, where the budget
     /// begins anew. The answer is none if no bracket comes.
-    pub(crate) fn settle_next(&mut self, alloc: Global) -> Result<Option<Stage>, Halt>
+    pub(crate) fn settle_next<F: Finder>(&mut self, alloc: Global) -> Result<Option<Stage>, Halt>
         ensures goes { MatchResult result (GoesOn self.old self.new) (IsHalt self.old.facts self.old.limit) }
         ensures used { IfErr result (TellsUsed self.new.used) }
     {
@@ -229,7 +230,7 @@ impl<'a> Walk<'a> {
             return Ok(None);
         };
         let context = Context::new(alloc, self.field, reached, lower);
-        let Some(stage) = settle(&context, &mut self.budget)? else {
+        let Some(stage) = settle::<F>(&context, &mut self.budget)? else {
             return Err(Halt::Undecided {
                 bracket: self.number,
                 used: self.budget.used,

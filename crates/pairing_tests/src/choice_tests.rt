@@ -4,6 +4,7 @@ use crate::reports::{PlayerLine, field_of};
 use dutch_order::{Budget, Shape};
 use dutch_pair::{BracketAt, Choice, bracket_at, choose, lower_of};
 use dutch_player::Field;
+use dutch_search::WithFloors;
 use pairing_laws::calls::a_bracket_stands_above_the_lower;
 use std::alloc::Global;
 use std::test::Fail;
@@ -19,7 +20,8 @@ const ONE_MOVES_DOWN: [PlayerLine<'static>; 4] = [
 
 // The choice in the second bracket, above one lower player, and the shape that the bracket was reached with.
 fn choice_in_the_second(alloc: Global, field: &Field) -> Result<(Choice, Shape), Fail> {
-    let BracketAt::Bracket { reached, shape } = bracket_at(alloc, field, 1000, 2)? else {
+    let BracketAt::Bracket { reached, shape } = bracket_at::<WithFloors>(alloc, field, 1000, 2)?
+    else {
         return Err(Fail::new("not reached"));
     };
     a_bracket_stands_above_the_lower(field, 2, &reached, shape);
@@ -31,7 +33,10 @@ fn choice_in_the_second(alloc: Global, field: &Field) -> Result<(Choice, Shape),
         limit: 1000,
         used: 0,
     };
-    Ok((choose(alloc, field, &reached, &lower, &mut budget)?, shape))
+    Ok((
+        choose::<WithFloors>(alloc, field, &reached, &lower, &mut budget)?,
+        shape,
+    ))
 }
 
 // Whether the pair of 1 and 2 was chosen, in a bracket of this shape.

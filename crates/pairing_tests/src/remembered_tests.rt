@@ -6,6 +6,7 @@ use crate::reports::{PlayerLine, field_of};
 use dutch_order::{Budget, Numbers};
 use dutch_pair::{BracketAt, BracketKind, Look, LookAhead, Reached, are_left, bracket_at, is_next};
 use dutch_player::Field;
+use dutch_search::WithFloors;
 use std::alloc::Global;
 use std::test::Fail;
 use trf16::Colour;
@@ -33,7 +34,7 @@ const FOUR: [u16; 4] = [8, 9, 10, 11];
 fn eight(alloc: Global, field: &Field) -> Result<Reached, Fail>
     ensures { IfOk result (λ reached. IsOf field.now reached) }
 {
-    match bracket_at(alloc, field, 100_000, 1)? {
+    match bracket_at::<WithFloors>(alloc, field, 100_000, 1)? {
         BracketAt::Bracket {
             reached,
             shape: _shape,

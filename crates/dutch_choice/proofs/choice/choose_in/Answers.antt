@@ -4,5 +4,5 @@ use Rattle.dutch_bracket.proofs.ShapeLaws.{shape_there}
 use Rattle.dutch_choice.proofs.choice.choose_in.Goals as goal
 
 pub unreachable-requires : goal.unreachable-requires
-unreachable-requires c = shape_there c.args.context.now.facts c.args.context.now.reached c.args.context.now.lower c.requires.candidate
+unreachable-requires g c = shape_there c.args.context.now.facts c.args.context.now.reached c.args.context.now.lower c.requires.candidate
     (MatchOption-at_none _ _ c.in-Ok-None.field-0-is c.in-Ok-None.ensures.answer)

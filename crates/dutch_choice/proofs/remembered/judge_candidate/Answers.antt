@@ -5,7 +5,7 @@ use Rattle.dutch_bracket.proofs.FlatBrackets.{candidate_of}
 use Rattle.dutch_choice.proofs.remembered.judge_candidate.Goals as goal
 
 pub fill_quality-requires-in-None-clause-candidate : goal.fill_quality-requires-in-None-clause-candidate
-fill_quality-requires-in-None-clause-candidate c =
+fill_quality-requires-in-None-clause-candidate g c =
     let of_bracket = c.requires.candidate in
     let P : List ℕ → Type 0 = λ seats. IsCandidate seats c.args.candidate.now in
     subst P (sym (c.seats.ensures ∙ ap (λ (reached : Reached). reached.seats) c.reached.ensures.value))

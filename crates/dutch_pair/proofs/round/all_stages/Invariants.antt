@@ -6,7 +6,7 @@ use Rattle.dutch_pair.proofs.RoundEnds.{bye_in}
 use Rattle.dutch_pair.proofs.round.all_stages.Given as goal
 
 abbrev pub invariant-loop-stages : goal.invariant-loop-stages
-invariant-loop-stages l = record {
+invariant-loop-stages g l = record {
   facts : l.walk.facts ≡ l.field;
   limit : l.walk.limit ≡ l.limit;
   told : map visit l.stages.items ++ l.walk.rest.reached ≡ (round l.field).reached;
@@ -15,4 +15,4 @@ invariant-loop-stages l = record {
 }
 
 abbrev pub decreases-loop-stages : goal.decreases-loop-stages
-decreases-loop-stages l = length l.walk.rest.reached
+decreases-loop-stages g l = length l.walk.rest.reached

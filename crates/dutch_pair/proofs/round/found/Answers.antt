@@ -11,7 +11,7 @@ none_by None e = refl
 none_by (Some stage) e = let bad : true ≡ false = e in absurd (cc)
 
 pub returns-then-is_none : goal.returns-then-is_none
-returns-then-is_none c =
+returns-then-is_none g c =
     let walk = c.loop-walk.walk in
     let inv = c.loop-walk.invariant in
     let ended = (subst (GoesOn walk c.settle_next.new.self) (none_by c.in_ok-settle_next.field-0 c.if-is_none.ensures) c.in_ok-settle_next.ensures.goes).1 in

@@ -6,7 +6,7 @@ use Rattle.dutch_pair.specs.Prelude.{round, in_front}
 use Rattle.dutch_pair.proofs.round.paired.Given as goal
 
 abbrev pub invariant-loop-pairs : goal.invariant-loop-pairs
-invariant-loop-pairs l = record {
+invariant-loop-pairs g l = record {
   facts : l.walk.facts ≡ l.field;
   limit : l.walk.limit ≡ l.limit;
   paired : option_map (in_front l.pairs.items) l.walk.rest.pairing ≡ (round l.field).pairing;
@@ -14,4 +14,4 @@ invariant-loop-pairs l = record {
 }
 
 abbrev pub decreases-loop-pairs : goal.decreases-loop-pairs
-decreases-loop-pairs l = length l.walk.rest.reached
+decreases-loop-pairs g l = length l.walk.rest.reached

@@ -5,19 +5,19 @@ use Rattle.dutch_pair.proofs.WalkSteps.{chosen_as, settled_in}
 use Rattle.dutch_pair.proofs.stage.settle.Goals as goal
 
 pub is_again-requires-clause-numbers : goal.is_again-requires-clause-numbers
-is_again-requires-clause-numbers c =
+is_again-requires-clause-numbers g c =
     let k = c.args.context.now in
     let h = chosen_as k _ c.in-Chosen.is c.in_ok-shape.ensures.answer in
     numbers_left k.facts k.reached c.in-Chosen.candidate.lists k.reached.seats c.in-Chosen.candidate.down refl h.1
 
 pub is_again-requires-clause-few : goal.is_again-requires-clause-few
-is_again-requires-clause-few c =
+is_again-requires-clause-few g c =
     let k = c.args.context.now in
     let h = chosen_as k _ c.in-Chosen.is c.in_ok-shape.ensures.answer in
     few_left k.facts k.reached c.in-Chosen.candidate.lists c.in-Chosen.candidate.down h.1
 
 pub returns-clause-answer : goal.returns-clause-answer
-returns-clause-answer c =
+returns-clause-answer g c =
     let k = c.args.context.now in
     let h = chosen_as k _ c.in-Chosen.is c.in_ok-shape.ensures.answer in
     let own = c.copied.ensures ∙ c.reached.ensures.value in (

@@ -7,60 +7,61 @@ use Rattle.dutch_pair.specs.Prelude.{IsStage, visit, round, IsBehind, IsSettled,
 use Rattle.dutch_pair.proofs.NoDeadEnd.{stands_has}
 use Rattle.dutch_pair.proofs.RoundEnds.{passed_more}
 use Rattle.dutch_pair.proofs.WalkSteps.{stage_is, stands_above, stands_number}
+use Rattle.dutch_pair.proofs.walk.Walk.settle_next.Given.{Over}
 use Rattle.dutch_pair.proofs.walk.Walk.settle_next.Goals as goal
 use Rattle.dutch_pair.proofs.walk.Walk.settle_next.Goals.{After-behind-self-inside, In-Bracket}
 
-stands : (c : In-Bracket) → StandsBefore c.self.inside.field.now c.self.inside.number c.in-Bracket.reached c.in-Bracket.lower.now
-stands c = let w = c.self.inside in subst (StandsAt w.field.now w.number) c.in-Bracket.is c.self.invariant.stands
+stands : (g : Over) (c : In-Bracket g) → StandsBefore c.self.inside.field.now c.self.inside.number c.in-Bracket.reached c.in-Bracket.lower.now
+stands g c = let w = c.self.inside in subst (StandsAt w.field.now w.number) c.in-Bracket.is c.self.invariant.stands
 
-told : (c : After-behind-self-inside) → (c.in-Some.stage.reached ≡ c.in-Bracket.reached) × IsSettled c.self.inside.field.now c.in-Bracket.lower.now c.in-Some.stage
-told c =
+told : (g : Over) (c : After-behind-self-inside g) → (c.in-Some.stage.reached ≡ c.in-Bracket.reached) × IsSettled c.self.inside.field.now c.in-Bracket.lower.now c.in-Some.stage
+told g c =
     subst (λ (k : Context). (c.in-Some.stage.reached ≡ k.reached) × IsSettled k.facts k.lower c.in-Some.stage) c.new-context.ensures
     (MatchOption-at_some _ _ c.in-Some.stage c.in-Some.is c.in_ok-stage.ensures.answer)
 
-goes_on : (c : After-behind-self-inside) → let facts = c.self.inside.field.now in round_from facts c.self.inside.next ≡ stage_first facts c.in-Some.stage (round_from facts c.behind-self-inside.result)
-goes_on c =
+goes_on : (g : Over) (c : After-behind-self-inside g) → let facts = c.self.inside.field.now in round_from facts c.self.inside.next ≡ stage_first facts c.in-Some.stage (round_from facts c.behind-self-inside.result)
+goes_on g c =
     let facts = c.self.inside.field.now in
-    ap (round_from facts) c.in-Bracket.is ∙ ap (λ (b : Reached). round_by facts b.kind b c.in-Bracket.lower.now) (sym (told c).0) ∙ c.behind-self-inside.ensures.rest
+    ap (round_from facts) c.in-Bracket.is ∙ ap (λ (b : Reached). round_by facts b.kind b c.in-Bracket.lower.now) (sym (told g c).0) ∙ c.behind-self-inside.ensures.rest
 
 pub new-context-requires : goal.new-context-requires
-new-context-requires c =
+new-context-requires g c =
     let w = c.self.inside in
-    stands_above w.field.now w.number c.in-Bracket.reached c.in-Bracket.lower.now (stands (goal.at.new-context-requires c).In-Bracket)
+    stands_above w.field.now w.number c.in-Bracket.reached c.in-Bracket.lower.now (stands g (goal.at.new-context-requires g c).In-Bracket)
     (record { falls = c.scores_do_not_ascend.ensures.scores; few = c.scores_do_not_ascend.ensures.few })
 
 pub settle-requires : goal.settle-requires
-settle-requires c =
+settle-requires g c =
     let w = c.self.inside in
     record {
       candidate = subst (λ (k : Context). HasCandidate k.facts k.reached k.lower) (sym c.new-context.ensures)
-          (stands_has w.field.now w.number c.in-Bracket.reached c.in-Bracket.lower.now (stands (goal.at.settle-requires c).In-Bracket));
+          (stands_has w.field.now w.number c.in-Bracket.reached c.in-Bracket.lower.now (stands g (goal.at.settle-requires g c).In-Bracket));
     }
 
 pub invariant_of-self-2 : goal.invariant_of-self-2
-invariant_of-self-2 c =
+invariant_of-self-2 g c =
     let w = c.self.inside in
     let inv = c.self.invariant in
     let facts = w.field.now in
     let stage = c.in-Some.stage in
     let next = c.behind-self-inside.result in
-    let after = (goal.at.invariant_of-self-2 c).After-behind-self-inside in
-    let number = stands_number facts w.number c.in-Bracket.reached c.in-Bracket.lower.now (stands (goal.at.invariant_of-self-2 c).In-Bracket) in
+    let after = (goal.at.invariant_of-self-2 g c).After-behind-self-inside in
+    let number = stands_number facts w.number c.in-Bracket.reached c.in-Bracket.lower.now (stands g (goal.at.invariant_of-self-2 g c).In-Bracket) in
     let more : length (inv.passed ++ visit stage ∷ []) ≡ length inv.passed + 1 = length-append inv.passed (visit stage ∷ []) in
     record {
-      stands = subst (λ (n : ℕ). StandsAt facts (n + 1) next) (ap (λ (b : Reached). b.number) (told after).0 ∙ number) c.behind-self-inside.ensures.stands;
+      stands = subst (λ (n : ℕ). StandsAt facts (n + 1) next) (ap (λ (b : Reached). b.number) (told g after).0 ∙ number) c.behind-self-inside.ensures.stands;
       passed = inv.passed ++ visit stage ∷ [];
       count = omega (arith, inv.count, more);
-      whole = passed_more facts stage (round_from facts next) (round_from facts w.next) inv.passed (round facts).reached (goes_on after) inv.whole;
+      whole = passed_more facts stage (round_from facts next) (round_from facts w.next) inv.passed (round facts).reached (goes_on g after) inv.whole;
     }
 
 pub returns-clause-goes : goal.returns-clause-goes
-returns-clause-goes c =
+returns-clause-goes g c =
     let w = c.self.inside in
     let facts = w.field.now in
     let stage = c.in-Some.stage in
     let next = c.behind-self-inside.result in
-    let after = (goal.at.returns-clause-goes c).After-behind-self-inside in
+    let after = (goal.at.returns-clause-goes g c).After-behind-self-inside in
     let new : Walk = record {
       facts = facts;
       limit = c.settle.new.budget.limit;
@@ -75,8 +76,8 @@ returns-clause-goes c =
         limit = c.in_ok-stage.ensures.spends.limit;
         used = refl;
         number = refl;
-        rest = goes_on after;
+        rest = goes_on g after;
       },
-      stage_is facts w.number c.in-Bracket.reached c.in-Bracket.lower.now (stands (goal.at.returns-clause-goes c).In-Bracket)
-          (record { falls = c.scores_do_not_ascend.ensures.scores; few = c.scores_do_not_ascend.ensures.few }) stage (told after).0 (told after).1,
+      stage_is facts w.number c.in-Bracket.reached c.in-Bracket.lower.now (stands g (goal.at.returns-clause-goes g c).In-Bracket)
+          (record { falls = c.scores_do_not_ascend.ensures.scores; few = c.scores_do_not_ascend.ensures.few }) stage (told g after).0 (told g after).1,
     )

@@ -1,6 +1,0 @@
--- The law is the lemma.
-use Rattle.dutch_weights.proofs.C07NextMatchings.{next_in_order}
-use Rattle.dutch_choice.proofs.laws.the_next_value_is_small.Goals as goal
-
-pub returns : goal.returns
-returns c = λ context. next_in_order context.facts context.reached context.lower

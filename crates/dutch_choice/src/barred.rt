@@ -1,0 +1,65 @@
+// Which beginnings rule a wish out (C.04.3 B.3): no candidate that begins so grants it.
+ghost use Rattle.std.specs.Prelude.{◌≡◌, true, false};
+ghost use Rattle.dutch_order.specs.declared.bracket.Shape.{Shape};
+ghost use Rattle.dutch_order.specs.Prelude.{Arrangement, IsIn, Begins};
+ghost use Rattle.dutch_bracket.specs.Prelude.{FitsHere, OfEachWithBeginning, candidates_here, candidates_in};
+ghost use Rattle.dutch_choice.specs.Wishes.{grants, is_wished};
+ghost use Rattle.dutch_choice.specs.declared.wish.Wish.TheVariants.{LeftOver};
+
+use crate::pass::Pass;
+use crate::wish::Wish;
+use dutch_bracket::context::Context;
+use dutch_bracket::shaped::ShapedBracket;
+use dutch_order::Prefix;
+
+/// Whether each candidate of a shape has a player in a pair: all moved-down players are in one, or all residents.
+#[tactic(auto, using(dutch_bracket::proofs::ShapeNumbers::small_pairs))]
+fn pairs_always(shaped: &ShapedBracket<'_>, number: u16) -> bool
+    ensures { result ≡ true → (a : Arrangement) → IsIn a (candidates_in shaped.now)
+        → grants (LeftOver number) a ≡ false }
+{
+    let reached = shaped.context.reached();
+    if !reached.has(number) {
+        return false;
+    }
+    if usize::from(number) <= reached.mdps() {
+        return shaped.shape.mdps == reached.mdps();
+    }
+    shaped.context.residents_down(shaped.shape) == 0
+}
+
+/// Whether no candidate of a shape grants a wish.
+fn bars(shaped: &ShapedBracket<'_>, wish: Wish) -> bool
+    ensures { result ≡ true → (a : Arrangement) → IsIn a (candidates_in shaped.now) → grants wish a ≡ false }
+{
+    match wish {
+        Wish::Pair(_, _) => false,
+        Wish::LeftOver(number) => pairs_always(shaped, number),
+    }
+}
+
+/// Whether no candidate with a beginning grants a wish.
+fn begins_without(context: &Context<'_>, wish: Wish, prefix: &Prefix<'_>) -> bool
+    ensures { result ≡ true → (shape : Shape) (a : Arrangement) → FitsHere context.now shape
+        → IsIn a (candidates_here context.now shape) → Begins prefix.now a → grants wish a ≡ false }
+{
+    wish.is_ruled_out(context.reached().mdps(), prefix)
+}
+
+/// Whether no candidate of a shape that has a beginning grants a wish.
+pub fn rules_out(shaped: &ShapedBracket<'_>, wish: Wish, prefix: &Prefix<'_>) -> bool
+    ensures { result ≡ true → OfEachWithBeginning shaped.now prefix.now (λ a. grants wish a ≡ false) }
+{
+    bars(shaped, wish) || begins_without(shaped.context, wish, prefix)
+}
+
+/// Whether no candidate with a beginning grants what is wished.
+pub fn is_barred(pass: &Pass<'_>, prefix: &Prefix<'_>) -> bool
+    ensures { result ≡ true → OfEachWithBeginning pass.now.shaped prefix.now
+        (λ a. is_wished pass.now.wish a ≡ false) }
+{
+    match pass.wish {
+        Some(wish) => rules_out(&pass.shaped, wish, prefix),
+        None => false,
+    }
+}

@@ -1,0 +1,30 @@
+// Who finds the best candidate of a shape (C.04.3 B.8, B.3).
+//
+// The choice in a bracket is the same whoever finds it, so what pairs a round asks for a finder, and waits for none: what
+// is known of the candidates behind a beginning is found beside it.
+ghost use Rattle.std.specs.Prelude.{◌≡◌, None, IfOk};
+ghost use Rattle.dutch_order.specs.Prelude.{MatchStep, Spends};
+ghost use Rattle.dutch_choice.specs.Aims.{best_wished};
+ghost use Rattle.dutch_choice.specs.Kept.{IsBest};
+
+use crate::pass::Best;
+use crate::wish::Wish;
+use dutch_bracket::fault::PairFault;
+use dutch_bracket::shaped::ShapedBracket;
+use dutch_order::{Budget, Step};
+
+/// Finds the best candidate of a shape.
+pub trait Finder {
+    /// Of the candidates of a shape that can be chosen, and that grant the wish if there is one, the first that none of
+    /// them is better than. `End` says that there is none.
+    fn best_of(
+        shaped: &ShapedBracket<'_>,
+        wish: Option<Wish>,
+        budget: &mut Budget,
+    ) -> Result<Step<Best>, PairFault>
+        ensures answer { let context = shaped.now.context.now in IfOk result (λ step. MatchStep step
+            (IsBest context (best_wished context wish shaped.now.shape))
+            (best_wished context wish shaped.now.shape ≡ None)
+            (budget.new.used ≡ budget.new.limit)) }
+        ensures spends { Spends budget.old budget.new };
+}

@@ -1,0 +1,4 @@
+pub mod BarsBehind
+pub mod FloorsOfPass
+pub mod PremiseOfWish
+pub mod PassesTwice

@@ -1,0 +1,7 @@
+-- All who were put are players of the field, and there was room.
+use Rattle.dutch_bracket.specs.Prelude.{HasSeats}
+use Rattle.dutch_search.proofs.aiming.put_unmatched.Given as goal
+
+abbrev pub invariant-loop-above : goal.invariant-loop-above
+invariant-loop-above l =
+    HasSeats l.context.facts (record { pairs = l.seated-inside.pairs.items; down = l.seated-inside.down.items; lowest = l.seated-inside.lowest })

@@ -1,0 +1,18 @@
+-- What was skipped in the turns so far is of no interest, and the walk goes on with the rest.
+use Rattle.std.proofs.Common.{◌≡◌}
+use Rattle.dutch_order.specs.Prelude.{Spends}
+use Rattle.dutch_choice.specs.Prelude.{PassesUnwanted}
+use Rattle.dutch_search.proofs.guide.BothFloorsGuide.draw.Given as goal
+
+abbrev pub invariant-loop : goal.invariant-loop
+invariant-loop l = record {
+  passed : PassesUnwanted l.search l.initial.lister.listing.coming l.lister.listing.coming;
+  frame : l.lister.listing.frame ≡ l.initial.lister.listing.frame;
+  shape : l.lister.listing.shape ≡ l.initial.lister.listing.shape;
+  rule : l.lister.listing.rule ≡ l.initial.lister.listing.rule;
+  context : l.self.shaped.context.now ≡ l.initial.self.shaped.context.now;
+  of_shape : l.self.shaped.shape ≡ l.initial.self.shaped.shape;
+  counts : l.self.counts ≡ l.initial.self.counts;
+  weights : l.self.weights ≡ l.initial.self.weights;
+  spends : Spends l.initial.budget l.budget;
+}

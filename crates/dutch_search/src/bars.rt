@@ -1,0 +1,88 @@
+// The bars of a pass: what its aim weighs, and the candidate that it keeps. A skipper tells by them and by floors which
+// beginnings a pass may skip.
+ghost use Rattle.std.specs.Prelude.{◌≡◌, Some};
+ghost use Rattle.dutch_bracket.specs.Prelude.{quality_in};
+ghost use Rattle.dutch_weights.specs.Prelude.{HasBar};
+ghost use Rattle.dutch_choice.specs.Prelude.{aim_in, kept_in};
+ghost use Rattle.dutch_floors.specs.Behind.{IsBasisFor};
+ghost use Rattle.dutch_search.specs.Searching.{AreFor, HasWeights};
+
+use crate::both::BothFloors;
+use dutch_bracket::quality::Quality;
+use dutch_choice::pass::{Best, Pass, Search};
+use dutch_floors::floor::Floors;
+use dutch_weights::asking::Bars;
+use dutch_weights::weight_floor::{Bar, WeightFloors};
+
+/// The bar of a quality on the scale of floors, if both are there.
+fn bar_of(weights: &Option<WeightFloors<'_>>, quality: &Quality) -> Option<Bar>
+    ensures { HasBar weights.now (Some (quality_in quality.now)) result }
+{
+    match weights {
+        Some(weights) => return weights.bar(quality),
+        None => return None,
+    }
+}
+
+/// The bar of the aim of a pass.
+fn aim_bar(pass: &Pass<'_>, weights: &Option<WeightFloors<'_>>) -> Option<Bar>
+    ensures { HasBar weights.now (aim_in pass.now.aim) result }
+{
+    match &pass.aim {
+        Some(aim) => return bar_of(weights, aim),
+        None => return None,
+    }
+}
+
+/// The bar of the candidate that is kept.
+fn kept_bar(kept: &Option<Best>, weights: &Option<WeightFloors<'_>>) -> Option<Bar>
+    ensures { HasBar weights.now (kept_in kept.now) result }
+{
+    match kept {
+        Some(best) => return bar_of(weights, &best.quality),
+        None => return None,
+    }
+}
+
+/// The bars of the aim of a pass and of the candidate that is kept.
+pub(crate) fn bars_of(search: Search<'_, '_>, weights: &Option<WeightFloors<'_>>) -> Bars
+    ensures aim { HasBar weights.now (aim_in search.entry.pass.now.aim) result.aim }
+    ensures kept { HasBar weights.now (kept_in search.entry.kept.now) result.kept }
+{
+    Bars {
+        aim: aim_bar(search.pass, weights),
+        kept: kept_bar(search.kept, weights),
+    }
+}
+
+/// Tells which beginnings a pass may skip, beside the candidate that it keeps.
+#[derive(Drop)]
+pub(crate) struct Skipper<'a, 'k> {
+    pub(crate) search: Search<'a, 'k>,
+    /// What is known by counts.
+    pub(crate) counts: &'k Floors<'k>,
+    /// What is known by weight.
+    pub(crate) weights: &'k Option<WeightFloors<'k>>,
+    /// The bars of the aim and of the candidate that is kept.
+    pub(crate) bars: Bars,
+    ghost basis: { IsBasisFor search.pass.now.shaped counts.now },
+    ghost weighed: { HasWeights search.pass.now weights.now },
+    ghost aim: { ∥ HasBar weights.now (aim_in search.pass.now.aim) bars.aim ∥₁ },
+    ghost best: { ∥ HasBar weights.now (kept_in search.kept.now) bars.kept ∥₁ },
+}
+
+impl<'a, 'k> Skipper<'a, 'k> {
+    /// What tells by an aim, by what is kept and by floors of both kinds.
+    pub fn new(search: Search<'a, 'k>, floors: &'k BothFloors<'k>) -> Skipper<'a, 'k>
+        requires { AreFor search.pass.now floors.now }
+        ensures { result.search ≡ search.entry }
+    {
+        let bars = bars_of(search, &floors.weights);
+        Skipper {
+            search,
+            counts: &floors.counts,
+            weights: &floors.weights,
+            bars,
+        }
+    }
+}

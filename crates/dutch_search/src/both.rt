@@ -1,0 +1,35 @@
+// What is known of the candidates of a bracket and a shape by floors of both kinds.
+ghost use Rattle.dutch_floors.specs.Behind.{IsBasisFor};
+
+use dutch_bracket::context::Context;
+use dutch_bracket::shaped::ShapedBracket;
+use dutch_floors::floor::Floors;
+use dutch_weights::weight_floor::WeightFloors;
+
+/// Behind the few steps that come first, a step counts once more for each so many pairs of the shape.
+pub(crate) const PAIRS_FOR_A_STEP: usize = 64;
+
+/// The pairs of brackets with more players are not weighed.
+const MOST_WEIGHED: usize = 400;
+
+/// Floors by counts, and floors by weight, where they were asked for.
+#[derive(Drop)]
+pub(crate) struct BothFloors<'a> {
+    pub(crate) shaped: ShapedBracket<'a>,
+    pub(crate) counts: Floors<'a>,
+    pub(crate) weights: Option<WeightFloors<'a>>,
+    /// The few steps that come first did not suffice.
+    pub(crate) is_long: bool,
+    ghost basis: { IsBasisFor shaped counts },
+}
+
+/// Whether the pairs of a bracket are weighed: not of one of many players, nor with the next lower scoregroup, if its
+/// weights are to tell of that.
+pub(crate) fn is_weighed(context: &Context<'_>, next: bool) -> bool {
+    let players = if next {
+        context.len_below()
+    } else {
+        context.len()
+    };
+    players <= MOST_WEIGHED
+}

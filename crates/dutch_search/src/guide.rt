@@ -1,0 +1,215 @@
+// How candidates are drawn within floors of both kinds (C.04.3 B.8): in turns of steps, behind each of which floors by
+// weight are asked for more, where the walk is stuck.
+ghost use Rattle.std.specs.Prelude.{◌≡◌, ◌+◌, ◌-◌, ◌*◌, ◌≤◌, [], None, min};
+ghost use Rattle.std.specs.Option.{ForSome};
+ghost use Rattle.std.specs.Result.{MatchResult};
+ghost use Rattle.dutch_order.specs.Prelude.{MatchStep, Spends};
+ghost use Rattle.dutch_choice.specs.Prelude.{Draws, ListsFor, PassesUnwanted};
+ghost use Rattle.dutch_search.specs.Searching.{AreFor, price};
+ghost use Rattle.dutch_weights.specs.Prelude.{AreOf};
+
+use crate::bars::{Skipper, bars_of};
+use crate::both::{BothFloors, PAIRS_FOR_A_STEP, is_weighed};
+use crate::skipper::premise_with;
+use dutch_bracket::greatest::Lister;
+use dutch_bracket::quality::{Quality, Room};
+use dutch_bracket::reached::ByNumber;
+use dutch_bracket::scope::Scope;
+use dutch_bracket::spending::spend;
+use dutch_choice::guide::Guide;
+use dutch_choice::pass::Search;
+use dutch_choice::wish::Wish;
+use dutch_order::{Budget, Shape, Step, Stopped, Within};
+use dutch_weights::asking::Asked;
+use dutch_weights::weight_floor::WeightFloors;
+
+/// A walk is told more so many times at most.
+const MOST_TURNS: u32 = u32::MAX;
+
+impl<'a> BothFloors<'a> {
+    /// For how many steps each one counts: for one alone in the few steps that come first, and behind them for the
+    /// more, the more pairs the questions look at that are asked.
+    fn price(&self, shape: Shape) -> u64
+        ensures { result ≡ price self.now.is_long shape.pairs }
+    {
+        if self.is_long {
+            1 + (shape.pairs / PAIRS_FOR_A_STEP) as u64
+        } else {
+            1
+        }
+    }
+
+    /// The steps of a turn: all that are left, or so many that it is worth while to be told more behind them.
+    fn turn(&self, shape: Shape, budget: &Budget) -> Budget
+        ensures used { result.used ≡ 0 }
+        ensures limit { result.limit * price self.now.is_long shape.pairs ≤ budget.now.limit - budget.now.used }
+    {
+        let left = budget.limit - budget.used;
+        let steps = match &self.weights {
+            Some(weights) => weights.patience(budget.used).min(left),
+            None => left,
+        };
+        Budget {
+            used: 0,
+            limit: steps / self.price(shape),
+        }
+    }
+
+    /// Counts the steps of a turn, each at its price, up to the limit.
+    fn count(&self, shape: Shape, turn: &Budget, budget: &mut Budget)
+        ensures counts { budget.new.used
+            ≡ min (budget.old.used + turn.now.used * price self.now.is_long shape.pairs) budget.old.limit }
+        ensures spends { Spends budget.old budget.new }
+    {
+        let steps = turn.used.saturating_mul(self.price(shape));
+        budget.used = budget.used.saturating_add(steps).min(budget.limit);
+    }
+
+    /// Draws the next candidate that may be of interest, in one turn.
+    fn draw_once(
+        &self,
+        search: Search<'_, '_>,
+        lister: &mut Lister<'_, ByNumber<'_>>,
+        room: &mut Room,
+        budget: &mut Budget,
+    ) -> Step<()>
+        requires known { AreFor search.pass.now self.now }
+        requires lists { ListsFor search.pass.now lister.old.listing }
+        requires shape { lister.old.listing.shape ≡ search.pass.now.shaped.shape }
+        ensures answer { MatchStep result
+            (λ _. Draws search.entry lister.old lister.new)
+            (PassesUnwanted search.entry lister.old.listing.coming [])
+            (PassesUnwanted search.entry lister.old.listing.coming lister.new.listing.coming
+            × (budget.new.used ≡ budget.new.limit)) }
+        ensures frame { lister.new.listing.frame ≡ lister.old.listing.frame }
+        ensures shape { lister.new.listing.shape ≡ lister.old.listing.shape }
+        ensures rule { lister.new.listing.rule ≡ lister.old.listing.rule }
+        ensures spends { Spends budget.old budget.new }
+    {
+        let skipper = Skipper::new(search, self);
+        let within = Within::new(&skipper, room);
+        lister
+            .listing
+            .put_next_within(&within, &mut lister.drawn, budget)
+    }
+
+    /// Keeps floors by weight, with that of a cheapest matching of the bracket. It answers what to aim at.
+    fn weigh_by(
+        &mut self,
+        weights: WeightFloors<'a>,
+        wish: Option<Wish>,
+        room: &mut Room,
+        budget: &mut Budget,
+    ) -> Result<Option<Quality>, Stopped>
+        requires of { AreOf self.old.shaped.context.now self.old.shaped.shape weights }
+        requires none { self.old.weights ≡ None }
+        ensures context { self.new.shaped.context.now ≡ self.old.shaped.context.now }
+        ensures shape { self.new.shaped.shape ≡ self.old.shaped.shape }
+        ensures counts { self.new.counts ≡ self.old.counts }
+        ensures weights { ForSome self.new.weights (AreOf self.old.shaped.context.now self.old.shaped.shape) }
+        ensures stopped { MatchResult result (λ _. Unit {0}) (λ _. budget.new.used ≡ budget.new.limit) }
+        ensures spends { Spends budget.old budget.new }
+    {
+        let mut weights = weights;
+        let before = budget.used;
+        let all = Asked {
+            scope: &Scope::all(),
+            pairs: &[],
+        };
+        let found = weights.ask(&all, budget)?;
+        weights.note(before, budget.used);
+        self.weights = Some(weights);
+        Ok(self.aim_for(wish, &found, room))
+    }
+
+    /// Behind a turn, where steps are left: floors by weight are asked for more, if there are any.
+    fn go_on(
+        &mut self,
+        search: Search<'_, '_>,
+        room: &Room,
+        budget: &mut Budget,
+    ) -> Result<(), Stopped>
+        ensures stopped { MatchResult result (λ _. Unit {0}) (λ _. budget.new.used ≡ budget.new.limit) }
+        ensures context { self.new.shaped.context.now ≡ self.old.shaped.context.now }
+        ensures shape { self.new.shaped.shape ≡ self.old.shaped.shape }
+        ensures counts { self.new.counts ≡ self.old.counts }
+        ensures weights { self.new.weights ≡ self.old.weights }
+        ensures spends { Spends budget.old budget.new }
+    {
+        if budget.limit - budget.used < self.price(search.pass.shaped.shape) {
+            budget.used = budget.limit;
+            return Err(Stopped);
+        }
+        let bars = bars_of(search, &self.weights);
+        match &mut self.weights {
+            Some(weights) => {
+                let stuck = Asked {
+                    scope: &room.scope,
+                    pairs: &room.seated.pairs,
+                };
+                weights.tell_more(&stuck, &bars, budget)
+            }
+            None => Ok(()),
+        }
+    }
+}
+
+impl<'a> Guide for BothFloors<'a> {
+    ghost use Rattle.std.specs.Prelude.{◌≡◌};
+    ghost use Rattle.std.specs.Option.{ForSome};
+    ghost use Rattle.dutch_floors.specs.Behind.{IsBasis};
+    ghost use Rattle.dutch_weights.specs.Prelude.{AreOf};
+
+    ghost knows = { λ floors context shape. (floors.shaped.context.now ≡ context) × ((floors.shaped.shape ≡ shape)
+        × (IsBasis context.facts context.reached context.lower shape floors.counts
+        × ForSome floors.weights (AreOf context shape))) };
+
+    fn draw(
+        &mut self,
+        search: Search<'_, '_>,
+        lister: &mut Lister<'_, ByNumber<'_>>,
+        room: &mut Room,
+        budget: &mut Budget,
+    ) -> Result<bool, Stopped> {
+        let shape = search.pass.shaped.shape;
+        for _ in 0..MOST_TURNS {
+            let mut turn = self.turn(shape, budget);
+            let step = self.draw_once(search, lister, room, &mut turn);
+            self.count(shape, &turn, budget);
+            match step {
+                Step::Found(()) => return Ok(true),
+                Step::End => return Ok(false),
+                Step::Undecided => self.go_on(search, room, budget)?,
+            }
+        }
+        // (no limit of steps is so high)
+        budget.used = budget.limit;
+        Err(Stopped)
+    }
+
+    fn can_weigh(&self, next: bool) -> bool {
+        is_weighed(self.shaped.context, next)
+    }
+
+    fn weigh(
+        &mut self,
+        wish: Option<Wish>,
+        next: bool,
+        room: &mut Room,
+        budget: &mut Budget,
+    ) -> Result<Option<Quality>, Stopped> {
+        let (context, shape) = (self.shaped.context, self.shaped.shape);
+        let count = context.len();
+        self.is_long = true;
+        // (weights are large: those of before go first)
+        self.weights = None;
+        if is_weighed(context, next) {
+            spend((count * count) as u64, budget)?;
+            // (where memory is refused or a weight does not fit, no floors are found)
+            if let Ok(Some(weights)) = WeightFloors::weighed(context, shape, next) {
+                return self.weigh_by(weights, wish, room, budget);
+            }
+        }
+        Ok(self.counts.aim(premise_with(context, wish)))
+    }
+}

@@ -1,0 +1,79 @@
+// Laws of the weight of a candidate (C.04.3 C.6 to C.19). It has the items that are sums, C.6 and C.8 to C.19, and what
+// the next bracket can be where that is measured, C.7, as the digits of one number. A floor of `dual` bounds it for all
+// candidates with a beginning.
+ghost use Rattle.std.specs.Prelude.{◌≡◌, ℕ, true, ◌+◌, ◌≤◌, is_some, sum_by, nat_lt};
+ghost use Rattle.dutch_order.specs.Prelude.{Arrangement, down, IsIn, numbers_from, NoneTwice, Begins, Beginning};
+ghost use Rattle.dutch_order.specs.declared.bracket.Shape.{Shape};
+ghost use Rattle.dutch_bracket.specs.Prelude.{Context, fixed_lists, FitsHere, candidates_here, frame_here, quality_here};
+ghost use Rattle.dutch_bracket.specs.Prelude.{IsSmall, JoinsBelow, MayPairBelow, count_below, players_below};
+ghost use Rattle.dutch_bracket.specs.Prelude.{seat_below, Quality, is_better, next_in, IsAbove, Covers, Scope};
+ghost use Rattle.dutch_bracket.specs.Prelude.{seats_meet, HasDigits, IsOn, IsScale, IsScaleFor, Scale, alone_by};
+ghost use Rattle.dutch_bracket.specs.Prelude.{number_pairs, weighing, weight_below, weight_of};
+ghost use Rattle.dutch_bracket.specs.declared.reached.BracketKind.TheVariants.{Ordinary};
+ghost use Rattle.dutch_weights.specs.Prelude.{HasSameNextOn, added_in, Order};
+ghost use Rattle.dutch_weights.specs.declared.scoped.Reach.TheVariants.{Next};
+ghost use Rattle.dutch_search.specs.Costs.{costs_here};
+ghost use Rattle.dual.specs.Prelude.{FloorTable, IsFloor, extra_in, cost};
+
+/// C.6 to C.19: the weight of a candidate is the sum of what each of its pairs and each of its downfloaters weighs
+/// alone, and, where C.7 is measured, of what its value of the next bracket weighs.
+#[tactic(auto, using(dutch_weights::proofs::C06ToC19Weights::candidate_weighs))]
+pub fn a_weight_is_a_sum()
+    ensures { (context : Context) (scale : Scale) (a : Arrangement) → weight_of scale (quality_here context a)
+        ≡ cost (weighing context.facts context.reached scale) (number_pairs a) (down (frame_here context) a)
+        + weight_below scale (alone_by scale.next (quality_here context a).next_pairs)
+        (quality_here context a).next_psd }
+{}
+
+/// C.6 to C.19: of two qualities with one value of the next bracket, or on a scale that measures that (C.7), the better
+/// one is the one that weighs less, if the scale has a digit for each of their differences and a base above each of
+/// their digits.
+#[tactic(auto, using(dutch_weights::proofs::WrittenNumbers::lighter_is_better))]
+pub fn the_lighter_is_better()
+    ensures { (scale : Scale) → IsScale scale → (q r : Quality) → IsOn scale q → IsOn scale r → HasDigits scale q
+        → HasDigits scale r
+        → HasSameNextOn scale.next q r → is_better q r ≡ nat_lt (weight_of scale q) (weight_of scale r) }
+{}
+
+/// C.6 to C.19: on a scale that measures the next bracket (C.7), a candidate of an ordinary bracket weighs no less than
+/// a floor says that goes over the next lower scoregroup too, however many are left over there: its base, and what the
+/// pairs of the beginning add, each once, without its debt.
+#[tactic(auto, using(dutch_weights::proofs::C07NextWeights::weighs_more_next))]
+pub fn a_floor_for_the_next_group_bounds_the_weight()
+    ensures { (context : Context) (scale : Scale) (scope : Scope) (order : Order) (shape : Shape) (a : Arrangement)
+        → FitsHere context shape → IsIn a (candidates_here context shape)
+        → (b : Beginning) → Begins b a → Covers scope b → is_some scale.next ≡ true
+        → IsScaleFor context.facts context.reached context.lower shape scale → (floor : FloorTable)
+        → ((left : ℕ) → IsFloor (costs_here context scale scope Next order)
+        (numbers_from 1 (count_below context.facts context.reached context.lower)) left floor)
+        → floor.base + sum_by (extra_in floor) (number_pairs (fixed_lists b))
+        ≤ floor.debt + (weight_of scale (quality_here context a) + added_in order a) }
+{}
+
+/// C.7: what the next bracket can be at best below a candidate of an ordinary bracket is the value of pairs by number:
+/// with the pairs of the candidate, and those who are in none, they are all numbers of the bracket and the next lower
+/// scoregroup.
+#[tactic(auto, using(dutch_weights::proofs::C07NextMatchings::joins_below))]
+pub fn the_next_value_is_that_of_a_matching()
+    ensures { (context : Context) (shape : Shape) (a : Arrangement)
+        → IsAbove context.facts context.reached context.lower → context.reached.kind ≡ Ordinary
+        → IsIn a (candidates_here context shape) → JoinsBelow context.facts context.reached context.lower a }
+{}
+
+/// C.7: so it has no more pairs than half the players of the next bracket, and no more differences than players, the
+/// highest first.
+pub fn the_next_value_is_small()
+    ensures { (context : Context) (shape : Shape) (a : Arrangement)
+        → IsAbove context.facts context.reached context.lower → context.reached.kind ≡ Ordinary
+        → IsIn a (candidates_here context shape)
+        → IsSmall (players_below context.facts context.reached context.lower shape) (next_in (quality_here context a)) }
+{}
+
+/// C.1, C.3: where no lower player comes twice, two who may be a pair of the next bracket are two seats that meet.
+#[tactic(auto, using(dutch_weights::proofs::C07NextMatchings::seats_meet_below))]
+pub fn pairs_of_the_next_bracket_meet()
+    ensures { (context : Context) (a : Arrangement) → IsAbove context.facts context.reached context.lower
+        → NoneTwice context.lower → (pair : ℕ × ℕ) → MayPairBelow context.facts context.reached context.lower a pair
+        → seats_meet context.facts (seat_below context.facts context.reached context.lower pair.0)
+        (seat_below context.facts context.reached context.lower pair.1) ≡ true }
+{}

@@ -1,0 +1,279 @@
+// What a pass over the candidates of a shape may skip (C.04.3 B.8), specified by the candidates that are of no
+// interest.
+//
+// A candidate is of no interest if it does not grant what is wished, if the aim of the pass is better than it, or if it
+// is not better than the candidate that is kept. The first is true of each candidate with a beginning that rules the
+// wish out. The others are true of each candidate with a beginning if they are true of its floor, a quality that none
+// of these candidates is better than. With a wish, a floor is enough that holds only for those that grant it: it counts
+// the pair that is wished, or the one who is to go down, from the first question on.
+ghost use Rattle.std.specs.Prelude.{◌≡◌, ◌⊎◌, IfSome, true, false};
+ghost use Rattle.dutch_order.specs.Prelude.{Arrangement};
+ghost use Rattle.dutch_bracket.specs.Prelude.{quality_here, HasNoBetter, is_better, next_in, quality_in};
+ghost use Rattle.dutch_floors.specs.Premises.{IsPremise, turned};
+ghost use Rattle.dutch_choice.specs.Prelude.{IsIdle, IsIdleIfFit, grants, is_unwanted_to};
+ghost use Rattle.dutch_search.specs.Searching.{HoldsHere};
+ghost use Rattle.dutch_search.specs.Skips.{HasNoBetterNext, IsBehindAim, IsBehindKept, OfEach, OfEachWith, Weighs};
+ghost use Rattle.dutch_search.specs.Skips.{context_of};
+
+use crate::bars::Skipper;
+use dual::Wide;
+use dutch_bracket::context::Context;
+use dutch_bracket::quality::{Quality, Room};
+use dutch_choice::barred::is_barred;
+use dutch_choice::pass::is_idle;
+use dutch_choice::wish::Wish;
+use dutch_floors::premise::Premise;
+use dutch_order::{Bound, Exchange, Prefix};
+
+/// What holds for each candidate that grants a wish, or for a pair in its order or in the other one. There is none
+/// if the wish names a number that the bracket does not have.
+#[tactic(auto, using(crate::proofs::PremiseOfWish::seat_inside, crate::proofs::PremiseOfWish::they_meet, crate::proofs::PremiseOfWish::goes_down))]
+pub(crate) fn premise_of_wish(context: &Context<'_>, wish: Wish) -> Option<Premise>
+    ensures seats { IfSome result (IsPremise context.now.facts) }
+    ensures holds { IfSome result (λ premise. (a : Arrangement) → grants wish a ≡ true
+        → HoldsHere context.now premise a ⊎ HoldsHere context.now (turned premise) a) }
+{
+    let reached = context.reached();
+    match wish {
+        Wish::Pair(p, q) => {
+            if !reached.has(p) || !reached.has(q) {
+                return None;
+            }
+            Some(Premise::Meet(reached.seat(p), reached.seat(q)))
+        }
+        Wish::LeftOver(p) => {
+            if !reached.has(p) {
+                return None;
+            }
+            Some(Premise::Down(reached.seat(p)))
+        }
+    }
+}
+
+/// The same if there may be no wish.
+pub(crate) fn premise_with(context: &Context<'_>, wish: Option<Wish>) -> Option<Premise>
+    ensures { IfSome result (IsPremise context.now.facts) }
+{
+    match wish {
+        Some(wish) => premise_of_wish(context, wish),
+        None => None,
+    }
+}
+
+impl<'a, 'k> Skipper<'a, 'k> {
+    /// Fills a quality that no candidate with a beginning is better than. No says that none is known.
+    fn fill_floor(&self, prefix: &Prefix<'_>, room: &mut Room) -> bool
+        ensures { result ≡ true → OfEach self.now prefix.now
+            (λ a. is_better (quality_here (context_of self.now) a) (quality_in room.new.quality) ≡ false) }
+    {
+        self.counts.floor(prefix, room)
+    }
+
+    /// The same of a candidate for which a premise holds.
+    fn fill_floor_given(&self, premise: Premise, prefix: &Prefix<'_>, room: &mut Room) -> bool
+        requires { IsPremise (context_of self.now).facts premise }
+        ensures { result ≡ true → OfEach self.now prefix.now
+            (λ a. HoldsHere (context_of self.now) premise a
+            → is_better (quality_here (context_of self.now) a) (quality_in room.new.quality) ≡ false) }
+    {
+        self.counts.floor_given(premise, prefix, room)
+    }
+
+    /// Whether no candidate with a beginning has a better value of the next bracket than a quality says (C.7). A no says
+    /// nothing.
+    fn has_no_better_next(&self, prefix: &Prefix<'_>, quality: &Quality) -> bool
+        ensures { result ≡ true → OfEach self.now prefix.now
+            (λ a. HasNoBetter (quality_here (context_of self.now) a) (next_in (quality_in quality.now))) }
+    {
+        self.counts.has_no_better_next(prefix, quality)
+    }
+
+    /// Whether no candidate with a beginning for which a premise holds is of interest.
+    #[tactic(auto, using(dutch_choice::proofs::AimLemmas::idle_floor))]
+    fn is_idle_given(&self, premise: Premise, prefix: &Prefix<'_>, room: &mut Room) -> bool
+        requires { IsPremise (context_of self.now).facts premise }
+        ensures { result ≡ true → OfEach self.now prefix.now
+            (λ a. HoldsHere (context_of self.now) premise a → IsIdle self.now.search a) }
+    {
+        if !self.fill_floor_given(premise, prefix, room) {
+            return false;
+        }
+        is_idle(&room.quality, &self.search.pass.aim, self.search.kept)
+    }
+
+    /// Whether no candidate with a beginning is of interest, whatever it grants.
+    #[tactic(auto, using(dutch_choice::proofs::AimLemmas::idle_floor))]
+    fn is_idle_all(&self, prefix: &Prefix<'_>, room: &mut Room) -> bool
+        ensures { result ≡ true → OfEach self.now prefix.now (IsIdle self.now.search) }
+    {
+        if !self.fill_floor(prefix, room) {
+            return false;
+        }
+        let floor = &room.quality;
+        is_idle(floor, &self.search.pass.aim, self.search.kept)
+    }
+
+    /// Whether no candidate with a beginning has a better value of the next bracket than a quality says, or the weights
+    /// tell of that (C.7).
+    fn knows_next(&self, prefix: &Prefix<'_>, quality: &Quality) -> bool
+        ensures { result ≡ true
+            → OfEach self.now prefix.now (HasNoBetterNext self.now (next_in (quality_in quality.now))) }
+    {
+        match self.weights {
+            Some(weights) if weights.counts_next() => true,
+            _ => self.has_no_better_next(prefix, quality),
+        }
+    }
+
+    /// Whether the aim is better than all candidates with a beginning that weigh so much at least.
+    fn is_behind_aim(&self, prefix: &Prefix<'_>, least: Wide) -> bool
+        ensures { result ≡ true
+            → OfEach self.now prefix.now (λ a. Weighs self.now least a → IsBehindAim self.now a) }
+    {
+        let Some(bar) = &self.bars.aim else {
+            return false;
+        };
+        let Some(aim) = &self.search.pass.aim else {
+            return false;
+        };
+        bar.is_passed(least) && (bar.is_above(least) || self.knows_next(prefix, aim))
+    }
+
+    /// Whether no candidate with a beginning that weighs so much at least is better than the one that is kept.
+    fn is_behind_kept(&self, prefix: &Prefix<'_>, least: Wide) -> bool
+        ensures { result ≡ true
+            → OfEach self.now prefix.now (λ a. Weighs self.now least a → IsBehindKept self.now a) }
+    {
+        let Some(bar) = &self.bars.kept else {
+            return false;
+        };
+        let Some(best) = self.search.kept else {
+            return false;
+        };
+        bar.is_above(least) || (bar.is_reached(least) && self.knows_next(prefix, &best.quality))
+    }
+
+    /// Whether no candidate with a beginning that can be chosen is of interest by what all of them weigh at least by
+    /// one of the floors.
+    fn is_idle_by(&self, place: usize, prefix: &Prefix<'_>) -> bool
+        ensures { result ≡ true → OfEach self.now prefix.now (IsIdleIfFit self.now.search) }
+    {
+        let Some(weights) = self.weights else {
+            return false;
+        };
+        let Some(least) = weights.least_by(place, prefix) else {
+            return false;
+        };
+        self.is_behind_kept(prefix, least) || self.is_behind_aim(prefix, least)
+    }
+
+    /// Whether no candidate with a beginning that can be chosen is of interest by what all of them weigh at least.
+    fn is_idle_by_weight(&self, prefix: &Prefix<'_>) -> bool
+        ensures { result ≡ true → OfEach self.now prefix.now (IsIdleIfFit self.now.search) }
+    {
+        let Some(weights) = self.weights else {
+            return false;
+        };
+        // (the floor that was asked for last is the most likely to tell)
+        let count = weights.len();
+        for before in 0..count {
+            if self.is_idle_by(count - 1 - before, prefix) {
+                return true;
+            }
+        }
+        false
+    }
+
+    /// Whether no candidate with a beginning that can be chosen, and with such an S1R, is of interest by one of the
+    /// floors.
+    fn is_idle_with(&self, place: usize, prefix: &Prefix<'_>, exchange: &Exchange<'_>) -> bool
+        ensures { result ≡ true → OfEachWith self.now prefix.now exchange.now (IsIdleIfFit self.now.search) }
+    {
+        let Some(weights) = self.weights else {
+            return false;
+        };
+        let Some(least) = weights.least_with(place, prefix, exchange) else {
+            return false;
+        };
+        self.is_behind_kept(prefix, least) || self.is_behind_aim(prefix, least)
+    }
+
+    /// Whether no candidate with a beginning that can be chosen, and with such an S1R, is of interest by a floor that
+    /// counts the order of S1R.
+    fn is_idle_by_order(&self, prefix: &Prefix<'_>, exchange: &Exchange<'_>) -> bool
+        ensures { result ≡ true → OfEachWith self.now prefix.now exchange.now (IsIdleIfFit self.now.search) }
+    {
+        let Some(weights) = self.weights else {
+            return false;
+        };
+        for place in 0..weights.len() {
+            if self.is_idle_with(place, prefix, exchange) {
+                return true;
+            }
+        }
+        false
+    }
+
+    /// Whether no candidate with a beginning that grants what is wished is of interest.
+    fn is_idle_granted(&self, prefix: &Prefix<'_>, room: &mut Room) -> bool
+        ensures { result ≡ true → OfEach self.now prefix.now (λ a. is_unwanted_to self.now.search a ≡ true) }
+    {
+        let pass = self.search.pass;
+        let Some(wish) = pass.wish else {
+            return false;
+        };
+        let Some(premise) = premise_of_wish(pass.shaped.context, wish) else {
+            return false;
+        };
+        self.is_idle_given(premise, prefix, room)
+            && self.is_idle_given(premise.turned(), prefix, room)
+    }
+}
+
+impl<'a, 'k> Bound for Skipper<'a, 'k> {
+    type Room = Room;
+
+    ghost use Rattle.dutch_bracket.specs.Prelude.{frame_here, numbers_meet, number_may_be_left};
+    ghost use Rattle.dutch_choice.specs.Prelude.{is_unwanted_to};
+    ghost use Rattle.dutch_search.specs.Skips.{context_of};
+
+    ghost frame = { λ s. frame_here (context_of s) };
+
+    ghost shape = { λ s. s.search.pass.now.shaped.shape };
+
+    ghost meets = { λ s. numbers_meet (context_of s).facts (context_of s).reached };
+
+    ghost may_be_left = { λ s. number_may_be_left (context_of s).facts (context_of s).reached };
+
+    ghost is_unwanted = { λ s. is_unwanted_to s.search };
+
+    #[tactic(auto, using(dutch_choice::proofs::AimLemmas::unwished_is_unwanted, dutch_choice::proofs::AimLemmas::idle_is_unwanted, dutch_choice::proofs::AimLemmas::idle_if_fit_is_unwanted), unfolding(dutch_bracket::specs::Brackets::candidates_of))]
+    fn cannot_win(&self, prefix: &Prefix<'_>, room: &mut Room) -> bool {
+        if is_barred(self.search.pass, prefix) {
+            return true;
+        }
+        if self.weights.is_some() {
+            room.scope.note(prefix);
+        }
+        // then all others are of interest
+        if self.search.pass.aim.is_none() && self.search.kept.is_none() {
+            return false;
+        }
+        self.is_idle_by_weight(prefix)
+            || self.is_idle_all(prefix, room)
+            || self.is_idle_granted(prefix, room)
+    }
+
+    #[tactic(auto, using(dutch_choice::proofs::AimLemmas::idle_if_fit_is_unwanted), unfolding(dutch_bracket::specs::Brackets::candidates_of))]
+    fn cannot_win_with(
+        &self,
+        prefix: &Prefix<'_>,
+        exchange: &Exchange<'_>,
+        _room: &mut Room,
+    ) -> bool {
+        if self.search.pass.aim.is_none() && self.search.kept.is_none() {
+            return false;
+        }
+        self.is_idle_by_order(prefix, exchange)
+    }
+}

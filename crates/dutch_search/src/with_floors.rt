@@ -1,0 +1,76 @@
+// The best candidate of a shape (C.04.3 B.8), found within floors of both kinds.
+ghost use Rattle.std.specs.Prelude.{◌≡◌};
+ghost use Rattle.std.specs.Result.{MatchResult};
+ghost use Rattle.dutch_order.specs.Prelude.{Spends};
+ghost use Rattle.dutch_floors.specs.Behind.{IsBasisFor};
+
+use crate::both::BothFloors;
+use crate::skipper::premise_with;
+use dutch_bracket::eligible::at_most;
+use dutch_bracket::fault::PairFault;
+use dutch_bracket::quality::Room;
+use dutch_bracket::reached::Seats;
+use dutch_bracket::shaped::ShapedBracket;
+use dutch_choice::finder::Finder;
+use dutch_choice::pass::{Best, Pass};
+use dutch_choice::passes::best_in_time;
+use dutch_choice::remembered::{Judge, look_below};
+use dutch_choice::wish::Wish;
+use dutch_floors::floor::Floors;
+use dutch_order::{Budget, Step, Stopped};
+
+/// The floors of a bracket, which know of the next bracket what a quarter of the steps that are left tells of it.
+fn floors_of<'a>(shaped: &ShapedBracket<'a>, budget: &mut Budget) -> Result<Floors<'a>, Stopped>
+    ensures answer { MatchResult result (IsBasisFor shaped.now) (λ _. budget.new.used ≡ budget.new.limit) }
+    ensures spends { Spends budget.old budget.new }
+{
+    let mut few = at_most((budget.limit - budget.used) / 4, budget);
+    let found = Floors::find(shaped, &mut few);
+    budget.used = few.used;
+    if let Ok(floors) = found {
+        return Ok(floors);
+    }
+    if budget.used == budget.limit {
+        return Err(Stopped);
+    }
+    Ok(Floors::by_counts(shaped))
+}
+
+/// Who finds within floors by counts and by weight: what a pass with an aim ends with, or if that is nothing, one
+/// without.
+#[derive(Drop)]
+pub struct WithFloors;
+
+impl Finder for WithFloors {
+    fn best_of(
+        shaped: &ShapedBracket<'_>,
+        wish: Option<Wish>,
+        budget: &mut Budget,
+    ) -> Result<Step<Best>, PairFault> {
+        let look = look_below(shaped.context)?;
+        let Ok(counts) = floors_of(shaped, budget) else {
+            return Ok(Step::Undecided);
+        };
+        let mut pass = Pass {
+            shaped: *shaped,
+            wish,
+            aim: counts.aim(premise_with(shaped.context, wish)),
+        };
+        let mut judge = Judge {
+            look,
+            room: Room::default(),
+            left: Seats::new(),
+            guide: BothFloors {
+                shaped: *shaped,
+                counts,
+                weights: None,
+                is_long: false,
+            },
+        };
+        match best_in_time(&mut pass, &mut judge, budget) {
+            Ok(Some(best)) => Ok(Step::Found(best)),
+            Ok(None) => Ok(Step::End),
+            Err(Stopped) => Ok(Step::Undecided),
+        }
+    }
+}
