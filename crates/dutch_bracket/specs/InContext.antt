@@ -38,7 +38,7 @@ eligible_here context shape = eligible context.facts context.reached context.low
 abbrev pub shape_here : Context → Option Shape
 shape_here context = shape_of context.facts context.reached context.lower
 
--- a listing is of it
+-- a listing is of it [own]
 abbrev pub ListsHere : Context → Listing ByNumber → Type 0
 ListsHere context listing = Lists context.facts context.reached listing
 

@@ -58,13 +58,13 @@ AreAtMost joins most =
     (pairs : List (ℕ × ℕ)) (out : List ℕ) → MakeUp (numbers_from 1 (length joins.reached.seats)) pairs out
     → All (λ pair. may_pair joins pair.0 pair.1 ≡ true) pairs → length pairs ≤ most
 
--- no shape that has a candidate has more pairs, or more moved-down players in pairs, than another shape
+-- no shape that has a candidate has more pairs, or more moved-down players in pairs, than another shape [own]
 abbrev pub IsMost : Facts → Reached → Shape → Type 0
 IsMost facts reached most =
     (shape : Shape) → Fits (frame_of facts reached) shape → has_member (candidates_of facts reached shape) ≡ true
     → (shape.pairs ≤ most.pairs) × (shape.mdps ≤ most.mdps)
 
--- the shape of a bracket in which all candidates can be chosen, whatever seats are below it
+-- the shape of a bracket in which all candidates can be chosen, whatever seats are below it [own]
 pub record IsAlwaysShape (facts : Facts) (reached : Reached) (shape : Shape) : Type 0 where
   pub once : is_penultimate reached.kind ≡ false
   pub always : (lower : List ℕ) → shape_of facts reached lower ≡ Some shape

@@ -8,7 +8,7 @@ use Rattle.dutch_bracket.specs.InContext.{candidates_here, eligible_here}
 abbrev pub candidates_in : ShapedBracket → List Arrangement
 candidates_in shaped = candidates_here shaped.context.now shaped.shape
 
--- C.4: those of them that can be chosen
+-- C.4: those of them that can be chosen [C.4]
 abbrev pub eligible_in : ShapedBracket → List Arrangement
 eligible_in shaped = eligible_here shaped.context.now shaped.shape
 

@@ -18,7 +18,7 @@ fits frame shape =
 abbrev pub shapes_upto : ℕ → ℕ → List Shape
 shapes_upto pairs most = map (λ mdps. record { pairs = pairs; mdps = mdps }) (down_from most)
 
--- the shapes with a number of pairs
+-- the shapes with a number of pairs [own]
 abbrev pub shapes_with : ℕ → List Shape
 shapes_with pairs = shapes_upto pairs pairs
 
@@ -31,13 +31,13 @@ abbrev pub has_member : List Arrangement → Bool
 has_member [] = false
 has_member (a ∷ rest) = true
 
--- an arrangement, with those whom it leaves over, is the first of some of a bracket
+-- an arrangement, with those whom it leaves over, is the first of some of a bracket [own]
 pub record IsFirst (some : List Arrangement) (frame : Frame) (candidate : Candidate) : Type 0 where
   pub others : List Arrangement
   pub first : some ≡ candidate.lists ∷ others
   pub down : candidate.down ≡ down frame candidate.lists
 
--- the first shape for which some arrangement is there
+-- the first shape for which some arrangement is there [own]
 abbrev pub first_with : (Shape → List Arrangement) → List Shape → Option Shape
 first_with eligible [] = None
 first_with eligible (shape ∷ rest) = if has_member (eligible shape) then Some shape else first_with eligible rest
@@ -46,7 +46,7 @@ first_with eligible (shape ∷ rest) = if has_member (eligible shape) then Some 
 abbrev pub greatest_shape : (Shape → List Arrangement) → Frame → Option Shape
 greatest_shape eligible frame = first_with eligible (shapes frame)
 
--- what is found is the greatest shape, and its first arrangement is drawn; nothing is found only if no shape has one
+-- what is found is the greatest shape, and its first arrangement is drawn; nothing is found only if no shape has one [own]
 abbrev pub IsFound : (Shape → List Arrangement) → Frame → Option Shape → Candidate → Type 0
 IsFound eligible frame found drawn =
     MatchOption found (greatest_shape eligible frame ≡ None)

@@ -10,7 +10,7 @@ use Rattle.dutch_bracket.specs.Prelude.{Context, can_be_chosen_here, candidates_
 use Rattle.dutch_choice.specs.Kept.{kept_lists, wins}
 use Rattle.dutch_choice.specs.Wishes.{is_better_here, is_wished}
 
--- the aim of a pass, if it has one
+-- the aim of a pass, if it has one [own]
 abbrev pub aim_in : Option Fields → Option Quality
 aim_in aim = option_map quality_in aim
 
@@ -19,7 +19,7 @@ abbrev pub beats : Option Quality → Quality → Bool
 beats None quality = false
 beats (Some aim) quality = is_better aim quality
 
--- a quality is of no interest: the aim is better, or something is kept that it is not better than
+-- a quality is of no interest: the aim is better, or something is kept that it is not better than [own]
 abbrev pub is_idle : Option Quality → Option Best → Quality → Bool
 is_idle aim kept quality = beats aim quality || not (wins quality kept)
 

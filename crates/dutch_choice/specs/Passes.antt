@@ -12,11 +12,11 @@ use Rattle.dutch_choice.specs.Aims.{aim_in, best_near, best_wished, best_yet, is
 use Rattle.dutch_choice.specs.Kept.{IsBest}
 use Rattle.dutch_choice.specs.Remembered.{LooksBelow, Remembered}
 
--- a listing is of the bracket of a pass
+-- a listing is of the bracket of a pass [own]
 abbrev pub ListsFor : Pass → Listing ByNumber → Type 0
 ListsFor pass listing = Lists pass.shaped.context.now.facts pass.shaped.context.now.reached listing
 
--- a look-ahead is that of the bracket of a pass
+-- a look-ahead is that of the bracket of a pass [own]
 abbrev pub LooksFor : Pass → Option Remembered → Type 0
 LooksFor pass look = LooksBelow pass.shaped.context.now look
 
@@ -36,11 +36,11 @@ IsIdleIfFit search a = can_be_chosen_here search.pass.now.shaped.context.now a �
 abbrev pub is_unwanted_to : Search → Arrangement → Bool
 is_unwanted_to search = is_unwanted search.pass.now.shaped.context.now search.pass.now.wish (aim_in search.pass.now.aim) search.kept.now
 
--- a list of candidates goes on as another one does, once some of its beginning is skipped, each of which is of no interest to a search
+-- a list of candidates goes on as another one does, once some of its beginning is skipped, each of which is of no interest to a search [own]
 abbrev pub PassesUnwanted : Search → List Arrangement → List Arrangement → Type 0
 PassesUnwanted search before after = Passes (λ a. is_unwanted_to search a ≡ true) before after
 
--- a lister draws the next candidate, once some are skipped that are of no interest
+-- a lister draws the next candidate, once some are skipped that are of no interest [own]
 abbrev pub Draws : Search → Lister ByNumber → Lister ByNumber → Type 0
 Draws search old new = PassesUnwanted search old.listing.coming (new.drawn.lists ∷ new.listing.coming)
     × (new.drawn.down ≡ down old.listing.frame new.drawn.lists)
@@ -62,7 +62,7 @@ near_of pass = best_near pass.shaped.context.now pass.wish (aim_in pass.aim) pas
 abbrev pub wished_of : Pass → Option Arrangement
 wished_of pass = best_wished pass.shaped.context.now pass.wish pass.shaped.shape
 
--- it is found; nothing is found only if there is no such candidate
+-- it is found; nothing is found only if there is no such candidate [own]
 abbrev pub IsEnd : Pass → Option Best → Type 0
 IsEnd pass found = MatchOption found (wished_of pass ≡ None) (IsBest pass.shaped.context.now (wished_of pass))
 

@@ -74,7 +74,7 @@ pub record LooksFrom (context : Context) (look : Remembered) : Type 0 where
   pub bracket : look.reached ≡ context.reached
   pub group : look.next ≡ first_group context.facts (scoregroups context.facts context.lower)
 
--- there is a look-ahead in an ordinary bracket, and none in another one
+-- there is a look-ahead in an ordinary bracket, and none in another one [C.7]
 abbrev pub LooksBelow : Context → Option Remembered → Type 0
 LooksBelow context None = context.reached.kind ≡ Ordinary → ⊥
 LooksBelow context (Some look) = LooksFrom context look

@@ -19,7 +19,7 @@ abbrev pub grants : Wish → Arrangement → Bool
 grants (Pair p q) lists = list_any (are_these p q) (pairs_by_number lists)
 grants (LeftOver p) lists = not (is_member p (paired lists))
 
--- the same where something is wished; where nothing is, every arrangement will do
+-- the same where something is wished; where nothing is, every arrangement will do [own]
 abbrev pub is_wished : Option Wish → Arrangement → Bool
 is_wished None = λ lists. true
 is_wished (Some wish) = grants wish

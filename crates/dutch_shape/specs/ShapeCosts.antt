@@ -54,6 +54,7 @@ shape_costs context = record {
 abbrev pub vertices : Context → ℕ
 vertices context = count_all context + 1
 
+-- two vertices are joined if they may be paired, in the bracket or out of it
 abbrev pub joined : Context → ℕ → ℕ → Bool
 joined context = (shape_costs context).meets
 
