@@ -58,12 +58,12 @@ impl Arrangement {
 
 /// A place that an arrangement may stand in.
 #[derive(Drop)]
-pub struct Held {
+pub struct LastArrangement {
     is_held: bool,
     lists: Arrangement,
 }
 
-impl Model for Held {
+impl Model for LastArrangement {
     ghost use Rattle.std.specs.Prelude.{Option};
     ghost use Rattle.dutch_order.specs.Arrangements.{Arrangement};
     ghost use Rattle.dutch_order.specs.Listings.{only_if};
@@ -73,12 +73,12 @@ impl Model for Held {
     ghost view = { λ h. only_if h.is_held h.lists };
 }
 
-impl Held {
+impl LastArrangement {
     /// An empty place.
-    pub fn none() -> Held
+    pub fn none() -> LastArrangement
         ensures { result ≡ None }
     {
-        Held {
+        LastArrangement {
             is_held: false,
             lists: Arrangement::empty(),
         }

@@ -19,13 +19,13 @@ ghost use Rattle.dutch_order.specs.Listings.{EndsAtOnce, TellsEnd, Gives, Ends, 
 ghost use Rattle.dutch_sequence.specs.Steps.{MatchDrawn, MatchStep, Passes, Spends};
 ghost use Rattle.dutch_sequence.specs.declared.steps.Step.TheVariants.{Found, End, Undecided};
 
-use crate::arrangement::{Arrangement, Held};
+use crate::arrangement::{Arrangement, LastArrangement};
 use crate::bound::Bound;
 use crate::bracket::{Bracket, FittingShape, Shape};
 use crate::candidate::Candidate;
 use crate::choices::{Levels, no_levels};
 use crate::cursor::Cursor;
-use crate::cuts::{Cuts, NoCuts, Within};
+use crate::cuts::{BoundWithRoom, Cuts, NoCuts};
 use crate::levels::Arranges;
 use crate::prefix::Prefix;
 use dutch_sequence::{Budget, Drawn, Numbers, Rule, Step, Stopped};
@@ -58,7 +58,7 @@ fn put_left_over(bracket: &Bracket, lists: &Arrangement, left: &mut Numbers)
 /// Where arrangements are drawn: from a level, but first the one that was drawn before and is still to be asked about.
 #[derive(Drop)]
 struct Drawing<L> {
-    kept: Held,
+    kept: LastArrangement,
     level: L,
 }
 
@@ -205,7 +205,7 @@ pub struct Candidates<'a, R: Rule> {
     ended: bool,
     drawing: Drawing<Levels<'a, R>>,
     // what was handed out last, or before that, where the listing began
-    latest: Held,
+    latest: LastArrangement,
 }
 
 impl<'a, R: Rule> Model for Candidates<'a, R> {
@@ -253,10 +253,10 @@ impl<'a, R: Rule> Candidates<'a, R> {
             too_many_left: leaves_too_many(&fitting),
             ended: true,
             drawing: Drawing {
-                kept: Held::none(),
+                kept: LastArrangement::none(),
                 level: no_levels(rule),
             },
-            latest: Held::none(),
+            latest: LastArrangement::none(),
         }
     }
 
@@ -424,7 +424,7 @@ impl<'a, R: Rule> Candidates<'a, R> {
     /// rest is still to come. After `End` every further call answers `End` without a step.
     pub fn put_next_within<B: Bound>(
         &mut self,
-        within: &Within<'_, B>,
+        within: &BoundWithRoom<'_, B>,
         candidate: &mut Candidate,
         budget: &mut Budget,
     ) -> Step<()>
@@ -473,7 +473,7 @@ impl<'a, R: Rule> Candidates<'a, R> {
         ensures spends { Spends budget.old budget.new }
     {
         let mut candidate = Candidate::empty();
-        let step = self.put_next_within(&Within::new(bound, room), &mut candidate, budget);
+        let step = self.put_next_within(&BoundWithRoom::new(bound, room), &mut candidate, budget);
         holding(step, candidate)
     }
 

@@ -17,7 +17,7 @@ ghost use Rattle.dutch_sequence.specs.Steps.{MatchDrawn, Passes, Spends};
 use crate::arrangement::Arrangement;
 use crate::bracket::FittingShape;
 use crate::cursor::Cursor;
-use crate::cuts::{Cuts, OfS1r, OfS2, OfS2r, Unless};
+use crate::cuts::{Cuts, CutsAfterFirst, S1rCuts, S2Cuts, S2rCuts};
 use crate::levels::{Arranges, Blocks, Level};
 use dutch_sequence::numbers::{is_same, put_left_of, refill};
 use dutch_sequence::{
@@ -145,7 +145,7 @@ impl<'a, R: Rule> Arranges for ByS2r<'a, R> {
     ghost coming = { λ l. l };
 
     fn next<C: Cuts>(&mut self, cuts: &C, lists: &mut Arrangement, budget: &mut Budget) -> Drawn {
-        let tuples = OfS2r {
+        let tuples = S2rCuts {
             cuts,
             s1: &self.s1,
             s2: &self.s2,
@@ -265,16 +265,16 @@ impl<'a, R: Rule> Blocks for ByS1r<'a, R> {
         block: &mut ByS2r<'a, R>,
         budget: &mut Budget,
     ) -> Drawn {
-        let tuples = OfS2 { cuts, s1: &self.s1 };
+        let tuples = S2Cuts { cuts, s1: &self.s1 };
         if tuples.cuts(&self.s2) {
             return Ok(false);
         }
-        let exchanges = OfS1r {
+        let exchanges = S1rCuts {
             cuts,
             s1: &self.s1,
             s2: &self.s2,
         };
-        let exchanges = Unless {
+        let exchanges = CutsAfterFirst {
             very: self.resume.is_some(),
             cuts: &exchanges,
         };
@@ -400,8 +400,8 @@ impl<'a, R: Rule> Blocks for ByS2<'a, R> {
         block: &mut Level<ByS1r<'a, R>>,
         budget: &mut Budget,
     ) -> Drawn {
-        let tuples = OfS2 { cuts, s1: &self.s1 };
-        let tuples = Unless {
+        let tuples = S2Cuts { cuts, s1: &self.s1 };
+        let tuples = CutsAfterFirst {
             very: self.resume.is_some(),
             cuts: &tuples,
         };

@@ -1,5 +1,5 @@
 // What the levels of a listing and the search of their lists see of a bound: which beginnings lead to nothing of
-// interest. The room of the bound is lent once a call, as `Within`. That keeps it in a cell and lends it on to each
+// interest. The room of the bound is lent once a call, as `BoundWithRoom`. That keeps it in a cell and lends it on to each
 // question, so no level and no search has to hand it down.
 ghost use Rattle.std.specs.Prelude.{◌≡◌, ℕ, List, false, true};
 ghost use Rattle.dutch_order.specs.Arrangements.{Arrangement, candidates};
@@ -47,25 +47,25 @@ impl Cuts for NoCuts {
 
 /// What a bound tells: an arrangement is idle if it is no candidate, or one without interest.
 #[derive(Drop)]
-pub struct Within<'b, B: Bound> {
+pub struct BoundWithRoom<'b, B: Bound> {
     pub bound: &'b B,
     // lent for one question after another
     room: RefCell<&'b mut B::Room>,
 }
 
-impl<'b, B: Bound> Within<'b, B> {
+impl<'b, B: Bound> BoundWithRoom<'b, B> {
     /// A bound, with the room that it is lent.
-    pub fn new(bound: &'b B, room: &'b mut B::Room) -> Within<'b, B>
+    pub fn new(bound: &'b B, room: &'b mut B::Room) -> BoundWithRoom<'b, B>
         ensures { result.bound.now ≡ bound.now }
     {
-        Within {
+        BoundWithRoom {
             bound,
             room: RefCell::new(room),
         }
     }
 }
 
-impl<'b, B: Bound> Cuts for Within<'b, B> {
+impl<'b, B: Bound> Cuts for BoundWithRoom<'b, B> {
     ghost Idle = { λ w a.
         IsIn a (candidates (B.meets w.bound.now) (B.may_be_left w.bound.now) (B.frame w.bound.now)
         (B.shape w.bound.now)) → B.is_unwanted w.bound.now a ≡ true };
@@ -87,12 +87,12 @@ impl<'b, B: Bound> Cuts for Within<'b, B> {
 
 /// What is told of arrangements, told of their S2, once S1 is chosen.
 #[derive(Drop)]
-pub struct OfS2<'c, C> {
+pub struct S2Cuts<'c, C> {
     pub cuts: &'c C,
     pub s1: &'c Numbers,
 }
 
-impl<'c, C: Cuts> CutsTuples for OfS2<'c, C> {
+impl<'c, C: Cuts> CutsTuples for S2Cuts<'c, C> {
     ghost Idle = { λ o s2. (a : Arrangement) → o.s1.now.items ≡ a.s1 → s2 ≡ a.s2 → C.Idle o.cuts.now a };
 
     fn cuts(&self, beginning: &[u16]) -> bool {
@@ -109,13 +109,13 @@ impl<'c, C: Cuts> CutsTuples for OfS2<'c, C> {
 
 /// What is told of arrangements, told of their S1R, once S1 and S2 are chosen.
 #[derive(Drop)]
-pub struct OfS1r<'c, C> {
+pub struct S1rCuts<'c, C> {
     pub cuts: &'c C,
     pub s1: &'c Numbers,
     pub s2: &'c Numbers,
 }
 
-impl<'c, C: Cuts> CutsExchanges for OfS1r<'c, C> {
+impl<'c, C: Cuts> CutsExchanges for S1rCuts<'c, C> {
     ghost Idle = { λ o s1r.
         (a : Arrangement) → o.s1.now.items ≡ a.s1 → o.s2.now.items ≡ a.s2 → s1r ≡ a.s1r → C.Idle o.cuts.now a };
 
@@ -133,14 +133,14 @@ impl<'c, C: Cuts> CutsExchanges for OfS1r<'c, C> {
 
 /// What is told of arrangements, told of their S2R, once S1, S2 and S1R are chosen.
 #[derive(Drop)]
-pub struct OfS2r<'c, C> {
+pub struct S2rCuts<'c, C> {
     pub cuts: &'c C,
     pub s1: &'c Numbers,
     pub s2: &'c Numbers,
     pub s1r: &'c Numbers,
 }
 
-impl<'c, C: Cuts> CutsTuples for OfS2r<'c, C> {
+impl<'c, C: Cuts> CutsTuples for S2rCuts<'c, C> {
     ghost Idle = { λ o s2r. C.Idle o.cuts.now (arranged o.s1.now.items o.s2.now.items o.s1r.now.items s2r) };
 
     fn cuts(&self, beginning: &[u16]) -> bool {
@@ -157,12 +157,12 @@ impl<'c, C: Cuts> CutsTuples for OfS2r<'c, C> {
 
 /// What is told of choices, but nothing while the very next one is wanted.
 #[derive(Drop)]
-pub struct Unless<'c, C> {
+pub struct CutsAfterFirst<'c, C> {
     pub very: bool,
     pub cuts: &'c C,
 }
 
-impl<'c, C: CutsTuples> CutsTuples for Unless<'c, C> {
+impl<'c, C: CutsTuples> CutsTuples for CutsAfterFirst<'c, C> {
     ghost Idle = { λ u tuple. (u.very ≡ false) × C.Idle u.cuts.now tuple };
 
     fn cuts(&self, beginning: &[u16]) -> bool {
@@ -170,7 +170,7 @@ impl<'c, C: CutsTuples> CutsTuples for Unless<'c, C> {
     }
 }
 
-impl<'c, C: CutsExchanges> CutsExchanges for Unless<'c, C> {
+impl<'c, C: CutsExchanges> CutsExchanges for CutsAfterFirst<'c, C> {
     ghost Idle = { λ u set. (u.very ≡ false) × C.Idle u.cuts.now set };
 
     fn cuts(&self, exchange: &Exchange<'_>) -> bool {

@@ -33,7 +33,7 @@ pub use bracket::{Bracket, Shape};
 pub use candidate::Candidate;
 pub use candidates::Candidates;
 pub use cursor::{Cursor, CursorFault, CursorText, TEXT_LIMIT};
-pub use cuts::Within;
+pub use cuts::BoundWithRoom;
 pub use dutch_sequence::{
     Budget, Exchange, Exchanges, Generator, LIMIT, LimboExchanges, Numbers, Rule, Step, Stopped,
     Transpositions, numbered_from,

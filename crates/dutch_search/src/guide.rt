@@ -19,7 +19,7 @@ use dutch_bracket::spending::spend;
 use dutch_choice::guide::Guide;
 use dutch_choice::pass::Search;
 use dutch_choice::wish::Wish;
-use dutch_order::{Budget, Shape, Step, Stopped, Within};
+use dutch_order::{BoundWithRoom, Budget, Shape, Step, Stopped};
 use dutch_weights::asking::Asked;
 use dutch_weights::weight_floor::WeightFloors;
 
@@ -87,7 +87,7 @@ impl<'a> BothFloors<'a> {
         ensures spends { Spends budget.old budget.new }
     {
         let skipper = Skipper::new(search, self);
-        let within = Within::new(&skipper, room);
+        let within = BoundWithRoom::new(&skipper, room);
         lister
             .listing
             .put_next_within(&within, &mut lister.drawn, budget)
