@@ -226,74 +226,80 @@ impl Weigher<'_> {
     }
 }
 
-impl Weigher<'_> {
+/// What weighs the numbers of the next bracket (C.7), by what each downfloater weighs.
+#[derive(Drop)]
+struct BelowWeigher<'a> {
+    weigher: &'a Weigher<'a>,
+    down: &'a [Wide],
+    ghost group: { length weigher.now.reached.seats
+        < count_below weigher.now.facts weigher.now.reached weigher.now.lower },
+    ghost room: { HasAll weigher.now down.now },
+    ghost told: { TellsDown weigher.now down.now },
+}
+
+impl BelowWeigher<'_> {
     /// What a number weighs as a downfloater, if it is one of the bracket.
-    fn own(&self, a: u16, down: &[Wide]) -> Wide
-        requires number { IsNumberBelow self.now a }
-        requires room { HasAll self.now down.now }
-        requires told { TellsDown self.now down.now }
-        ensures { result ≡ own_weight self.now a }
+    fn own(&self, a: u16) -> Wide
+        requires { IsNumberBelow self.now.weigher.now a }
+        ensures { result ≡ own_weight self.now.weigher.now a }
     {
-        if usize::from(a) <= self.context.len() {
-            down[usize::from(a) - 1]
+        let weigher = self.weigher;
+        if usize::from(a) <= weigher.context.len() {
+            self.down[usize::from(a) - 1]
         } else {
             Wide::zero()
         }
     }
 
     /// What a number weighs that meets one of the next lower scoregroup; none if it is 2^512 or more.
-    fn met(&self, a: u16, down: &[Wide]) -> Option<Wide>
-        requires number { IsNumberBelow self.now a }
-        requires group { length self.now.reached.seats < count_below self.now.facts self.now.reached self.now.lower }
-        requires room { HasAll self.now down.now }
-        requires told { TellsDown self.now down.now }
-        ensures { SomeIff result (met_weight self.now a < 2 ^ 512) (met_weight self.now a) }
+    fn met(&self, a: u16) -> Option<Wide>
+        requires { IsNumberBelow self.now.weigher.now a }
+        ensures { SomeIff result (met_weight self.now.weigher.now a < 2 ^ 512) (met_weight self.now.weigher.now a) }
     {
-        let score = self.context.field().score(self.context.seat_below(a));
-        let difference = score.saturating_sub(self.context.score_below());
-        let weight = self.scale.weigh_below(0, difference)?;
-        self.own(a, down).plus(weight)
+        let weigher = self.weigher;
+        let context = weigher.context;
+        let score = context.field().score(context.seat_below(a));
+        let difference = score.saturating_sub(context.score_below());
+        let weight = weigher.scale.weigh_below(0, difference)?;
+        self.own(a).plus(weight)
     }
 
     /// What a number weighs that is in no pair of the next bracket; none if it is 2^512 or more.
-    fn alone(&self, a: u16, down: &[Wide]) -> Option<Wide>
-        requires number { IsNumberBelow self.now a }
-        requires group { length self.now.reached.seats < count_below self.now.facts self.now.reached self.now.lower }
-        requires room { HasAll self.now down.now }
-        requires told { TellsDown self.now down.now }
-        ensures { SomeIff result (alone_weight self.now a < 2 ^ 512) (alone_weight self.now a) }
+    fn alone(&self, a: u16) -> Option<Wide>
+        requires { IsNumberBelow self.now.weigher.now a }
+        ensures { SomeIff result (alone_weight self.now.weigher.now a < 2 ^ 512) (alone_weight self.now.weigher.now a) }
     {
-        let field = self.context.field();
-        let seat = self.context.seat_below(a);
-        let difference = difference_down(field, self.context.score_below(), seat);
-        let weight = self.scale.weigh_below(1, difference)?;
-        self.own(a, down).plus(weight)
+        let weigher = self.weigher;
+        let context = weigher.context;
+        let difference = difference_down(
+            context.field(),
+            context.score_below(),
+            context.seat_below(a),
+        );
+        let weight = weigher.scale.weigh_below(1, difference)?;
+        self.own(a).plus(weight)
     }
 
     /// What a number weighs in the next bracket; none if that is 2^512 or more.
-    fn next_weight(&self, a: u16, down: &[Wide]) -> Option<NextWeight>
-        requires number { IsNumberBelow self.now a }
-        requires group { length self.now.reached.seats < count_below self.now.facts self.now.reached self.now.lower }
-        requires room { HasAll self.now down.now }
-        requires told { TellsDown self.now down.now }
-        ensures { MatchOption result (IsHeavy self.now (2 ^ 512)) (λ weight. weight ≡ next_weight_of self.now a) }
+    fn next_weight(&self, a: u16) -> Option<NextWeight>
+        requires { IsNumberBelow self.now.weigher.now a }
+        ensures { MatchOption result (IsHeavy self.now.weigher.now (2 ^ 512))
+            (λ weight. weight ≡ next_weight_of self.now.weigher.now a) }
     {
-        let met = self.met(a, down)?;
-        let alone = self.alone(a, down)?;
+        let met = self.met(a)?;
+        let alone = self.alone(a)?;
         Some(NextWeight { met, alone })
     }
 
     /// Puts what all numbers weigh in the next bracket into a table.
-    fn put_below(&self, down: &[Wide], table: &mut [NextWeight]) -> bool
-        requires group { length self.now.reached.seats < count_below self.now.facts self.now.reached self.now.lower }
-        requires room { HasAll self.now down.now }
-        requires told { TellsDown self.now down.now }
-        requires table { HasBelow self.now table.old }
-        ensures told { result ≡ true → TellsEachBelow self.now table.new }
-        ensures heavy { result ≡ false → IsHeavy self.now (2 ^ 512) }
+    fn put_all(&self, table: &mut [NextWeight]) -> bool
+        requires { HasBelow self.now.weigher.now table.old }
+        ensures told { result ≡ true → TellsEachBelow self.now.weigher.now table.new }
+        ensures heavy { result ≡ false → IsHeavy self.now.weigher.now (2 ^ 512) }
     {
-        for a in 0..self.context.len_below() {
-            match self.next_weight(a as u16 + 1, down) {
+        let weigher = self.weigher;
+        for a in 0..weigher.context.len_below() {
+            match self.next_weight(a as u16 + 1) {
                 Some(weight) => table[a] = weight,
                 None => return false,
             }
@@ -361,7 +367,8 @@ fn weigh_next(
         alone: Wide::zero(),
     };
     let mut table = vec![in alloc; nothing; weigher.context.len_below()]?;
-    if weigher.put_below(down, &mut table) {
+    let numbers = BelowWeigher { weigher, down };
+    if numbers.put_all(&mut table) {
         Ok(Some(table))
     } else {
         Ok(None)

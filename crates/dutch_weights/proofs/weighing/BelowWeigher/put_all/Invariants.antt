@@ -2,11 +2,11 @@
 use Rattle.std.proofs.Common.{◌≡◌, ◌≤◌, length}
 use Rattle.dutch_bracket.specs.Prelude.{count_below}
 use Rattle.dutch_weights.specs.Prelude.{TellsBelowUpto}
-use Rattle.dutch_weights.proofs.weighing.Weigher.put_below.Given as goal
+use Rattle.dutch_weights.proofs.weighing.BelowWeigher.put_all.Given as goal
 
 abbrev pub invariant-loop-a : goal.invariant-loop-a
 invariant-loop-a l = record {
-  told : TellsBelowUpto l.self l.table l.a;
+  told : TellsBelowUpto l.self.weigher.now l.table l.a;
   room : length l.table ≡ length l.initial.table;
-  within : l.a ≤ count_below l.self.facts l.self.reached l.self.lower;
+  within : l.a ≤ count_below l.self.weigher.now.facts l.self.weigher.now.reached l.self.weigher.now.lower;
 }

@@ -3,13 +3,13 @@ use Rattle.std.proofs.Common.{◌^◌}
 use Rattle.dutch_weights.specs.Prelude.{alone_weight, met_weight}
 use Rattle.dutch_weights.specs.WeightTables.{alone, met}
 use Rattle.dutch_weights.proofs.WeighingLemmas.{at_least}
-use Rattle.dutch_weights.proofs.weighing.Weigher.next_weight.Goals as goal
+use Rattle.dutch_weights.proofs.weighing.BelowWeigher.next_weight.Goals as goal
 
 pub returns-in_err-met : goal.returns-in_err-met
 returns-in_err-met c =
-    rw c.from_residual.ensures (met c.args.a c.requires.number (at_least (met_weight c.args.self.now c.args.a) (2 ^ 512) c.in_err-met.ensures))
+    rw c.from_residual.ensures (met c.args.a c.requires (at_least (met_weight c.args.self.now.weigher.now c.args.a) (2 ^ 512) c.in_err-met.ensures))
 
 pub returns-in_err-alone : goal.returns-in_err-alone
 returns-in_err-alone c =
     rw c.from_residual-in_err-alone.ensures
-    (alone c.args.a c.requires.number (at_least (alone_weight c.args.self.now c.args.a) (2 ^ 512) c.in_err-alone.ensures))
+    (alone c.args.a c.requires (at_least (alone_weight c.args.self.now.weigher.now c.args.a) (2 ^ 512) c.in_err-alone.ensures))
