@@ -18,11 +18,11 @@ ghost use Rattle.dutch_order.specs.Prelude.{Spends};
 
 use dutch_bracket::context::Context;
 use dutch_bracket::fault::PairFault;
-use dutch_bracket::lookahead::{Above, value_below};
 use dutch_bracket::quality::{NextValue, Quality, Room, fill_quality};
 use dutch_bracket::reached::{BracketKind, Reached, Seats, copied, push_all};
 use dutch_order::{Budget, Candidate, LIMIT, Numbers, Stopped};
 use dutch_player::Field;
+use dutch_shape::lookahead::{Above, value_below};
 use dutch_weights::weight_floor::WeightFloors;
 use lru::LruCache;
 use std::alloc::Global;
