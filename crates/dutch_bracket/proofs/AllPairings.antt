@@ -137,7 +137,7 @@ one_out : (may_be_left : ℕ → Bool) (a : ℕ) (rest : List ℕ) → leaves_on
 one_out may_be_left a [] left = (left, refl)
 one_out may_be_left a (b ∷ rest) left = absurd (true≢false (sym left))
 
-module _ (meets : ℕ → ℕ → Bool) (may_go : ℕ → Bool) where
+module _ (meets : ℕ → ℕ → Bool) where
   abbrev Meet : List (ℕ × ℕ) → Type 0
   Meet pairs = list_all (λ pair. meets pair.0 pair.1) pairs ≡ true
 
@@ -145,7 +145,7 @@ module _ (meets : ℕ → ℕ → Bool) (may_go : ℕ → Bool) where
   abbrev HasWay : (ℕ → Bool) → List ℕ → Type 0
   HasWay may_be_left players = (pairs : List (ℕ × ℕ)) × (out : List ℕ) × IsWay players pairs out × Meet pairs × (leaves_one may_be_left out ≡ true)
 
-  way_found : (n : ℕ) (may_be_left : ℕ → Bool) (players : List ℕ) → length players ≡ n → can_cover meets may_go may_be_left n 0 players ≡ true → HasWay may_be_left players
+  way_found : (n : ℕ) (may_be_left : ℕ → Bool) (players : List ℕ) → length players ≡ n → can_cover meets may_be_left n players ≡ true → HasWay may_be_left players
   way_found zero may_be_left [] e t = ([], [], (refl, refl), refl, refl)
   way_found zero may_be_left (a ∷ later) e t = absurd (omega (arith, e))
   way_found (suc zero) may_be_left [] e t = absurd (omega (arith, e))
@@ -153,9 +153,9 @@ module _ (meets : ℕ → ℕ → Bool) (may_go : ℕ → Bool) where
   way_found (suc zero) may_be_left (a ∷ b ∷ later) e t = absurd (omega (arith, e))
   way_found (suc (suc n)) may_be_left [] e t = absurd (omega (arith, e))
   way_found (suc (suc n)) may_be_left (a ∷ later) e t =
-      elim (or_cases (some_partner (meets a) (can_cover meets may_go may_be_left n 0) [] later) (may_be_left a && can_cover meets may_go nobody (suc n) 0 later) t) [
+      elim (or_cases (some_partner (meets a) (can_cover meets may_be_left n) [] later) (may_be_left a && can_cover meets nobody (suc n) later) t) [
         | inl found ↦
-            (let partner = partner_of (meets a) (can_cover meets may_go may_be_left n 0) [] later found in
+            (let partner = partner_of (meets a) (can_cover meets may_be_left n) [] later found in
             let b : ℕ = partner.partner in
             let others : List ℕ = partner.front ++ partner.behind in
             let p : Picked b later others =
@@ -164,13 +164,13 @@ module _ (meets : ℕ → ℕ → Bool) (may_go : ℕ → Bool) where
             let more = put_back b later others rest.0 rest.1 p rest.2 in
             ((a, b) ∷ rest.0, rest.1, inr (b, rest.0, more.0, refl, more.2, more.1), and_from (meets a b) (list_all (λ pair. meets pair.0 pair.1) rest.0) partner.may_meet rest.3, rest.4))
         | inr left ↦
-            (let both = and_parts (may_be_left a) (can_cover meets may_go nobody (suc n) 0 later) left in
+            (let both = and_parts (may_be_left a) (can_cover meets nobody (suc n) later) left in
             let rest = way_found (suc n) nobody later (omega (arith, e)) both.1 in
             (rest.0, a ∷ [], inl ([], refl, subst (IsWay later rest.0) (none_out rest.1 rest.4) rest.2), rest.3, both.0))
       ]
 
   cover_found : (n : ℕ) (may_be_left : ℕ → Bool) (players : List ℕ) → length players ≡ n → (pairs : List (ℕ × ℕ)) (out : List ℕ) → IsWay players pairs out → Meet pairs
-      → leaves_one may_be_left out ≡ true → can_cover meets may_go may_be_left n 0 players ≡ true
+      → leaves_one may_be_left out ≡ true → can_cover meets may_be_left n players ≡ true
   cover_found zero may_be_left players e pairs out w meet left = refl
   cover_found (suc zero) may_be_left [] e pairs out w meet left = absurd (omega (arith, e))
   cover_found (suc zero) may_be_left (a ∷ []) e pairs out (inl alone) meet left =
@@ -180,31 +180,31 @@ module _ (meets : ℕ → ℕ → Bool) (may_go : ℕ → Bool) where
   cover_found (suc (suc n)) may_be_left [] e pairs out w meet left = absurd (omega (arith, e))
   cover_found (suc (suc n)) may_be_left (a ∷ later) e pairs out (inl alone) meet left =
       let one = one_out may_be_left a alone.0 (subst (λ l. leaves_one may_be_left l ≡ true) alone.1 left) in
-      let rest : can_cover meets may_go nobody (suc n) 0 later ≡ true =
+      let rest : can_cover meets nobody (suc n) later ≡ true =
       cover_found (suc n) nobody later (omega (arith, e)) pairs alone.0 alone.2 meet (ap (leaves_one nobody) one.1) in
-      or_right (some_partner (meets a) (can_cover meets may_go may_be_left n 0) [] later) (may_be_left a && can_cover meets may_go nobody (suc n) 0 later)
-      (and_from (may_be_left a) (can_cover meets may_go nobody (suc n) 0 later) one.0 rest)
+      or_right (some_partner (meets a) (can_cover meets may_be_left n) [] later) (may_be_left a && can_cover meets nobody (suc n) later)
+      (and_from (may_be_left a) (can_cover meets nobody (suc n) later) one.0 rest)
   cover_found (suc (suc n)) may_be_left (a ∷ later) e pairs out (inr met) meet left =
       let b : ℕ = met.0 in
       let fewer = taken_out b later met.1 met.2 out met.5 met.4 in
       let parts = picked_parts b later fewer.0 fewer.1 in
       let both = and_parts (meets a b) (list_all (λ pair. meets pair.0 pair.1) met.1) (subst Meet met.3 meet) in
-      let rest : can_cover meets may_go may_be_left n 0 fewer.0 ≡ true =
+      let rest : can_cover meets may_be_left n fewer.0 ≡ true =
       cover_found n may_be_left fewer.0 (omega (arith, picked_length b later fewer.0 fewer.1, e)) met.1 out fewer.2 both.1 left in
-      or_left (some_partner (meets a) (can_cover meets may_go may_be_left n 0) [] later) (may_be_left a && can_cover meets may_go nobody (suc n) 0 later)
-      (ap (λ xs. some_partner (meets a) (can_cover meets may_go may_be_left n 0) [] xs) parts.2
-      ∙ partner_serves (meets a) (can_cover meets may_go may_be_left n 0) [] parts.0 b parts.1 both.0 (ap (can_cover meets may_go may_be_left n 0) (sym parts.3) ∙ rest))
+      or_left (some_partner (meets a) (can_cover meets may_be_left n) [] later) (may_be_left a && can_cover meets nobody (suc n) later)
+      (ap (λ xs. some_partner (meets a) (can_cover meets may_be_left n) [] xs) parts.2
+      ∙ partner_serves (meets a) (can_cover meets may_be_left n) [] parts.0 b parts.1 both.0 (ap (can_cover meets may_be_left n) (sym parts.3) ∙ rest))
 
 -- players can be completed exactly where the search says so
-pub complete_by_search : (meets : ℕ → ℕ → Bool) (may_go may_be_left : ℕ → Bool) (players : List ℕ)
-    → (can_complete meets may_be_left players ≡ true) ↔ (can_cover meets may_go may_be_left (length players) 0 players ≡ true)
-complete_by_search meets may_go may_be_left players = (
+pub complete_by_search : (meets : ℕ → ℕ → Bool) (may_be_left : ℕ → Bool) (players : List ℕ)
+    → (can_complete meets may_be_left players ≡ true) ↔ (can_cover meets may_be_left (length players) players ≡ true)
+complete_by_search meets may_be_left players = (
   λ t.
       let found = found_in (is_complete meets may_be_left) (all_pairings players) t in
       let both = and_parts (list_all (λ pair. meets pair.0 pair.1) found.0.pairs) (leaves_one may_be_left found.0.out) found.2 in
-      cover_found meets may_go (length players) may_be_left players refl found.0.pairs found.0.out (ways_are players found.0 found.1) both.0 both.1,
+      cover_found meets (length players) may_be_left players refl found.0.pairs found.0.out (ways_are players found.0 found.1) both.0 both.1,
   λ t.
-      let way = way_found meets may_go (length players) may_be_left players refl t in
+      let way = way_found meets (length players) may_be_left players refl t in
       any_in (is_complete meets may_be_left) (way_of way.0 way.1) (all_pairings players) (are_ways players way.0 way.1 way.2)
       (and_from (list_all (λ pair. meets pair.0 pair.1) way.0) (leaves_one may_be_left way.1) way.3 way.4),
 )

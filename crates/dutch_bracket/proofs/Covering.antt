@@ -63,8 +63,8 @@ module _ (meets : ℕ → ℕ → Bool) where
         left_out = rest.left_out;
       }
 
-module _ (meets : ℕ → ℕ → Bool) (may_go : ℕ → Bool) where
-  list_of_test : (n : ℕ) (may_be_left : ℕ → Bool) (players : List ℕ) → length players ≡ n → can_cover meets may_go may_be_left n 0 players ≡ true → Completable meets may_be_left players
+module _ (meets : ℕ → ℕ → Bool) where
+  list_of_test : (n : ℕ) (may_be_left : ℕ → Bool) (players : List ℕ) → length players ≡ n → can_cover meets may_be_left n players ≡ true → Completable meets may_be_left players
   list_of_test zero may_be_left [] e t = record { pairs = []; out = []; covered = refl; left_out = tt {0} }
   list_of_test zero may_be_left (a ∷ later) e t = absurd (omega (arith, e))
   list_of_test (suc zero) may_be_left [] e t = absurd (cc)
@@ -72,15 +72,15 @@ module _ (meets : ℕ → ℕ → Bool) (may_go : ℕ → Bool) where
   list_of_test (suc zero) may_be_left (a ∷ b ∷ later) e t = absurd (omega (arith, e))
   list_of_test (suc (suc n)) may_be_left [] e t = absurd (cc)
   list_of_test (suc (suc n)) may_be_left (a ∷ later) e t =
-      elim (or_cases (some_partner (meets a) (can_cover meets may_go may_be_left n 0) [] later) (may_be_left a && can_cover meets may_go nobody (suc n) 0 later) t) [
+      elim (or_cases (some_partner (meets a) (can_cover meets may_be_left n) [] later) (may_be_left a && can_cover meets nobody (suc n) later) t) [
         | inl paired ↦
-            (let found = partner_of (meets a) (can_cover meets may_go may_be_left n 0) [] later paired in
+            (let found = partner_of (meets a) (can_cover meets may_be_left n) [] later paired in
             let fewer : length (found.front ++ found.behind) ≡ n =
             omega (arith, length-append found.front found.behind, length-append found.front (found.partner ∷ found.behind), ap length found.players_are, e) in
             with_pair meets may_be_left a later found.partner found.front found.behind found.players_are found.may_meet
             (list_of_test n may_be_left (found.front ++ found.behind) fewer found.others_hold))
         | inr left ↦
-            (let both = and_parts (may_be_left a) (can_cover meets may_go nobody (suc n) 0 later) left in
+            (let both = and_parts (may_be_left a) (can_cover meets nobody (suc n) later) left in
             with_left meets may_be_left a later both.0 (list_of_test (suc n) nobody later (omega (arith, e)) both.1))
       ]
 
@@ -88,31 +88,31 @@ module _ (meets : ℕ → ℕ → Bool) (may_go : ℕ → Bool) where
   abbrev Passes : ℕ → (ℕ → Bool) → Type 0
   Passes n may_be_left =
       (players : List ℕ) → length players ≡ n → (pairs : List (ℕ × ℕ)) (out : List ℕ) → Covers meets players pairs out → MayBeLeftOut may_be_left out
-      → can_cover meets may_go may_be_left n 0 players ≡ true
+      → can_cover meets may_be_left n players ≡ true
 
   passes_first : (n : ℕ) (may_be_left : ℕ → Bool) → Passes n may_be_left → Passes (suc n) nobody
       → (a : ℕ) (later : List ℕ) → length (a ∷ later) ≡ suc (suc n) → (pair : ℕ × ℕ) (pairs : List (ℕ × ℕ)) (out skipped between behind rest : List ℕ)
       → a ∷ later ≡ skipped ++ pair.0 ∷ (between ++ pair.1 ∷ behind) → meets pair.0 pair.1 ≡ true → out ≡ skipped ++ rest → Covers meets (between ++ behind) pairs rest
-      → MayBeLeftOut may_be_left out → can_cover meets may_go may_be_left (suc (suc n)) 0 (a ∷ later) ≡ true
+      → MayBeLeftOut may_be_left out → can_cover meets may_be_left (suc (suc n)) (a ∷ later) ≡ true
   passes_first n may_be_left two one a later e pair pairs out [] between behind rest are may outs cover left =
       let here : a ≡ pair.0 = cc are in
       let there : later ≡ between ++ pair.1 ∷ behind = cc are in
       let fewer : length (between ++ behind) ≡ n =
       omega (arith, length-append between behind, length-append between (pair.1 ∷ behind), ap length there, e) in
-      let holds : can_cover meets may_go may_be_left n 0 (between ++ behind) ≡ true = two (between ++ behind) fewer pairs rest cover (subst (MayBeLeftOut may_be_left) outs left) in
-      or_left (some_partner (meets a) (can_cover meets may_go may_be_left n 0) [] later) (may_be_left a && can_cover meets may_go nobody (suc n) 0 later)
-      (ap (λ xs. some_partner (meets a) (can_cover meets may_go may_be_left n 0) [] xs) there
-      ∙ partner_serves (meets a) (can_cover meets may_go may_be_left n 0) [] between pair.1 behind (ap (λ x. meets x pair.1) here ∙ may) holds)
+      let holds : can_cover meets may_be_left n (between ++ behind) ≡ true = two (between ++ behind) fewer pairs rest cover (subst (MayBeLeftOut may_be_left) outs left) in
+      or_left (some_partner (meets a) (can_cover meets may_be_left n) [] later) (may_be_left a && can_cover meets nobody (suc n) later)
+      (ap (λ xs. some_partner (meets a) (can_cover meets may_be_left n) [] xs) there
+      ∙ partner_serves (meets a) (can_cover meets may_be_left n) [] between pair.1 behind (ap (λ x. meets x pair.1) here ∙ may) holds)
   passes_first n may_be_left two one a later e pair pairs out (s ∷ skipped) between behind rest are may outs cover left =
       let here : a ≡ s = cc are in
       let there : later ≡ skipped ++ pair.0 ∷ (between ++ pair.1 ∷ behind) = cc are in
       let lone = one_left may_be_left s (skipped ++ rest) (subst (MayBeLeftOut may_be_left) outs left) in
       let nothing : MayBeLeftOut nobody (skipped ++ rest) = subst (MayBeLeftOut nobody) (sym lone.1) (tt {0}) in
-      let holds : can_cover meets may_go nobody (suc n) 0 later ≡ true =
+      let holds : can_cover meets nobody (suc n) later ≡ true =
       one later (omega (arith, e)) (pair ∷ pairs) (skipped ++ rest)
       (record { skipped = skipped; between = between; behind = behind; later = rest; players_are = there; may_meet = may; out_are = refl; covered = cover }) nothing in
-      or_right (some_partner (meets a) (can_cover meets may_go may_be_left n 0) [] later) (may_be_left a && can_cover meets may_go nobody (suc n) 0 later)
-      (and_from (may_be_left a) (can_cover meets may_go nobody (suc n) 0 later) (ap may_be_left here ∙ lone.0) holds)
+      or_right (some_partner (meets a) (can_cover meets may_be_left n) [] later) (may_be_left a && can_cover meets nobody (suc n) later)
+      (and_from (may_be_left a) (can_cover meets nobody (suc n) later) (ap may_be_left here ∙ lone.0) holds)
 
   test_of_list : (n : ℕ) (may_be_left : ℕ → Bool) → Passes n may_be_left
   test_of_list zero may_be_left players e pairs out cover left = refl
@@ -130,25 +130,25 @@ module _ (meets : ℕ → ℕ → Bool) (may_go : ℕ → Bool) where
       passes_first n may_be_left (test_of_list n may_be_left) (test_of_list (suc n) nobody) a later e pair pairs out
       c.skipped c.between c.behind c.later c.players_are c.may_meet c.out_are c.covered left
 
-pub completable_by_search : (meets : ℕ → ℕ → Bool) (may_go may_be_left : ℕ → Bool) (players : List ℕ)
-    → Completable meets may_be_left players ↔ (can_cover meets may_go may_be_left (length players) 0 players ≡ true)
-completable_by_search meets may_go may_be_left players = (
-  λ whole. test_of_list meets may_go (length players) may_be_left players refl whole.pairs whole.out whole.covered whole.left_out,
-  λ t. list_of_test meets may_go (length players) may_be_left players refl t,
+pub completable_by_search : (meets : ℕ → ℕ → Bool) (may_be_left : ℕ → Bool) (players : List ℕ)
+    → Completable meets may_be_left players ↔ (can_cover meets may_be_left (length players) players ≡ true)
+completable_by_search meets may_be_left players = (
+  λ whole. test_of_list meets (length players) may_be_left players refl whole.pairs whole.out whole.covered whole.left_out,
+  λ t. list_of_test meets (length players) may_be_left players refl t,
 )
 
 pub completable_by_test : (meets : ℕ → ℕ → Bool) (may_be_left : ℕ → Bool) (players : List ℕ)
     → Completable meets may_be_left players ↔ (can_complete meets may_be_left players ≡ true)
 completable_by_test meets may_be_left players =
-    let list = completable_by_search meets nobody may_be_left players in
-    let test = complete_by_search meets nobody may_be_left players in
+    let list = completable_by_search meets may_be_left players in
+    let test = complete_by_search meets may_be_left players in
     (λ whole. test.1 (list.0 whole), λ t. list.1 (test.0 t))
 
 -- an answer by the search is an answer
-pub answer_by_search : (meets : ℕ → ℕ → Bool) (may_go may_be_left : ℕ → Bool) (players : List ℕ) (answer : Answer) (stopped : Type 0)
-    → Tells answer (can_cover meets may_go may_be_left (length players) 0 players) stopped
+pub answer_by_search : (meets : ℕ → ℕ → Bool) (may_be_left : ℕ → Bool) (players : List ℕ) (answer : Answer) (stopped : Type 0)
+    → Tells answer (can_cover meets may_be_left (length players) players) stopped
     → MatchAnswer answer (Completable meets may_be_left players) (¬ Completable meets may_be_left players) stopped
-answer_by_search meets may_go may_be_left players Yes stopped told = (completable_by_search meets may_go may_be_left players).1 told
-answer_by_search meets may_go may_be_left players No stopped told =
-    λ whole. let yes : can_cover meets may_go may_be_left (length players) 0 players ≡ true = (completable_by_search meets may_go may_be_left players).0 whole in absurd (cc (told, yes))
-answer_by_search meets may_go may_be_left players Undecided stopped told = told
+answer_by_search meets may_be_left players Yes stopped told = (completable_by_search meets may_be_left players).1 told
+answer_by_search meets may_be_left players No stopped told =
+    λ whole. let yes : can_cover meets may_be_left (length players) players ≡ true = (completable_by_search meets may_be_left players).0 whole in absurd (cc (told, yes))
+answer_by_search meets may_be_left players Undecided stopped told = told

@@ -1,9 +1,6 @@
 pub mod AllLemmas
 pub mod PairedOut
-pub mod C04Takers
-pub mod JoinedPairs
-pub mod JoinedMates
-pub mod AlwaysShapes
+pub mod CandidatePairs
 pub mod C07WeakerRules
 pub mod GhostPairs
 pub mod RepeatedLemmas
@@ -24,7 +21,6 @@ pub mod DownLemmas
 pub mod EligibleLemmas
 pub mod LeastPsd
 pub mod LowestLists
-pub mod UniformShapes
 pub mod FlatBrackets
 pub mod FloorOrder
 pub mod GroupLemmas

@@ -7,8 +7,7 @@ use Rattle.std.proofs.lemmas.List.{drop_more, drop_all, take_more}
 use Rattle.dutch_sequence.specs.declared.steps.Budget.{Budget}
 use Rattle.dutch_bracket.specs.declared.completion.Answer.{Answer}
 use Rattle.dutch_bracket.specs.declared.completion.Answer.TheVariants.{Yes, No, Undecided}
-use Rattle.dutch_bracket.specs.declared.completion.Spare.{Spare}
-use Rattle.dutch_bracket.specs.Prelude.{most_of_bye, most_of_one, most_taking, Searched, can_cover, can_go, left_over, meets_one, nobody, some_partner, takes_one}
+use Rattle.dutch_bracket.specs.Prelude.{most, most_of_bye, Searched, can_cover, can_go, left_over, nobody, some_partner}
 use Rattle.dutch_bracket.proofs.Turned.{brought, swap-turned, turned}
 
 -- No at once
@@ -115,58 +114,56 @@ tried answer meets cover most place all now ys mid new before after len lt one =
 
 -- ---- the ways of a first player
 
-most-first : (n k : ℕ) (bye : Bool)
-    → most_taking (suc n) k bye ≡ n * (1 + most_taking (n - 1) k bye) + (most_of_one (λ j. most_taking n j bye) k + most_of_bye (most_taking n k false) bye)
-most-first zero k bye = omega arith
-most-first (suc n) k bye =
-    let others = most_of_one (λ j. most_taking (suc n) j bye) k + most_of_bye (most_taking (suc n) k false) bye in
+most-first : (n : ℕ) (bye : Bool) → most (suc n) bye ≡ n * (1 + most (n - 1) bye) + most_of_bye (most n false) bye
+most-first zero bye = omega arith
+most-first (suc n) bye =
+    let others = most_of_bye (most (suc n) false) bye in
     let e : n ≡ suc n - 1 = omega arith in
-    ap (λ m. m * (1 + most_taking n k bye) + others) (add-one n)
-    ∙ ap (λ m. suc n * (1 + most_taking m k bye) + others) e
+    ap (λ m. m * (1 + most n bye) + others) (add-one n)
+    ∙ ap (λ m. suc n * (1 + most m bye) + others) e
 
-module _ (meets : ℕ → ℕ → Bool) (may_be_left : ℕ → Bool) (takers : List ℕ) (spare : Spare) (a : ℕ) where
-  abbrev pub go : Spare → ℕ → List ℕ → Bool
-  go s = can_go meets may_be_left takers s
+module _ (meets : ℕ → ℕ → Bool) (may_be_left : ℕ → Bool) (bye : Bool) (a : ℕ) where
+  abbrev pub go : Bool → ℕ → List ℕ → Bool
+  go b = can_go meets may_be_left b
 
   abbrev pub paired : List ℕ → Bool
-  paired later = some_partner (meets a) (go spare (length later - 1)) [] later
+  paired later = some_partner (meets a) (go bye (length later - 1)) [] later
 
-  abbrev pub spared : List ℕ → Bool
-  spared later = takes_one (meets_one meets takers a) (λ k. go (record { takers = k; bye = spare.bye }) (length later) later) spare.takers
-      || (left_over spare.bye may_be_left a && go (record { takers = spare.takers; bye = false }) (length later) later)
+  abbrev pub left : List ℕ → Bool
+  left later = left_over bye may_be_left a && go false (length later) later
 
   abbrev pub pairing : ℕ → ℕ
-  pairing n = n * (1 + most_taking (n - 1) spare.takers spare.bye)
+  pairing n = n * (1 + most (n - 1) bye)
 
-  abbrev pub sparing : ℕ → ℕ
-  sparing n = most_of_one (λ k. most_taking n k spare.bye) spare.takers + most_of_bye (most_taking n spare.takers false) spare.bye
+  abbrev pub leaving : ℕ → ℕ
+  leaving n = most_of_bye (most n false) bye
 
-  first_ways : (later : List ℕ) → (paired later || spared later) ≡ go spare (length (a ∷ later)) (a ∷ later)
-  first_ways [] = ap (λ t. takes_one (meets_one meets takers a) (λ j. true) spare.takers || t) (and-true (left_over spare.bye may_be_left a))
+  first_ways : (later : List ℕ) → (paired later || left later) ≡ go bye (length (a ∷ later)) (a ∷ later)
+  first_ways [] = and-true (left_over bye may_be_left a)
   first_ways (b ∷ rest) =
-      let e : suc (length rest) - 1 ≡ length rest = omega arith in ap (λ n. some_partner (meets a) (go spare n) [] (b ∷ rest) || spared (b ∷ rest)) e
+      let e : suc (length rest) - 1 ≡ length rest = omega arith in ap (λ n. some_partner (meets a) (go bye n) [] (b ∷ rest) || left (b ∷ rest)) e
 
   module _ (later : List ℕ) (l : ℕ) (answer : Answer) where
     abbrev Whole : Budget → Budget → Type 0
     Whole old new =
-        Searched answer (go spare (length (a ∷ later)) (a ∷ later)) (most_taking (length (a ∷ later)) spare.takers spare.bye) (length (a ∷ later)) l old new
+        Searched answer (go bye (length (a ∷ later)) (a ∷ later)) (most (length (a ∷ later)) bye) (length (a ∷ later)) l old new
 
-    whole : (old new : Budget) → Searched answer (paired later || spared later) (pairing (length later) + sparing (length later)) (length (a ∷ later)) l old new → Whole old new
+    whole : (old new : Budget) → Searched answer (paired later || left later) (pairing (length later) + leaving (length later)) (length (a ∷ later)) l old new → Whole old new
     whole old new both =
-        subst (λ i. Searched answer (go spare (length (a ∷ later)) (a ∷ later)) i (length (a ∷ later)) l old new) (sym (most-first (length later) spare.takers spare.bye))
-        (subst (λ b. Searched answer b (pairing (length later) + sparing (length later)) (length (a ∷ later)) l old new) (first_ways later) both)
+        subst (λ i. Searched answer (go bye (length (a ∷ later)) (a ∷ later)) i (length (a ∷ later)) l old new) (sym (most-first (length later) bye))
+        (subst (λ b. Searched answer b (pairing (length later) + leaving (length later)) (length (a ∷ later)) l old new) (first_ways later) both)
 
     pub by_pair : (old new : Budget) → answer ≢ No → Searched answer (paired later) (pairing (length later)) (length later + 1) (length later) old new → Whole old new
     by_pair old new ne one =
         whole old new
-        (either answer (paired later) (spared later) (pairing (length later)) (pairing (length later) + sparing (length later)) (length later + 1) (length (a ∷ later)) (length later) l
+        (either answer (paired later) (left later) (pairing (length later)) (pairing (length later) + leaving (length later)) (length later + 1) (length (a ∷ later)) (length later) l
         old new ne (omega arith) (omega arith) one)
 
-    pub by_spare : (k : ℕ) (old mid new : Budget) → l ≤ length later + k → Searched No (paired later) (pairing (length later)) (length later + 1) (length later) old mid
-        → Searched answer (spared later) (sparing (length later)) (length later + 1) k mid new → Whole old new
-    by_spare k old mid new trials one two =
+    pub by_leaving : (k : ℕ) (old mid new : Budget) → l ≤ length later + k → Searched No (paired later) (pairing (length later)) (length later + 1) (length later) old mid
+        → Searched answer (left later) (leaving (length later)) (length later + 1) k mid new → Whole old new
+    by_leaving k old mid new trials one two =
         whole old new
-        (after_no answer (paired later) (spared later) (pairing (length later)) (sparing (length later)) (length later + 1) (length (a ∷ later)) (length later) k l
+        (after_no answer (paired later) (left later) (pairing (length later)) (leaving (length later)) (length later + 1) (length (a ∷ later)) (length later) k l
         old mid new (omega arith) trials one two)
 
 pub trials : (bye : Bool) (n : ℕ) → (if bye then suc n else 0) ≤ n + (if bye then 1 else 0)
@@ -186,18 +183,17 @@ some_partner-none meets holds none between (b ∷ after) =
     ∙ and-false-or (meets b) (some_partner meets holds (between ++ b ∷ []) after) (some_partner-none meets holds none (between ++ b ∷ []) after)
 
 -- an odd number of players cannot be paired
-pub odd_uncovered : (meets : ℕ → ℕ → Bool) (may_go : ℕ → Bool) (n : ℕ) → n % 2 ≡ 1 → (players : List ℕ) → can_cover meets may_go nobody n 0 players ≡ false
-odd_uncovered meets may_go zero odd players = absurd (omega (arith, odd))
-odd_uncovered meets may_go (suc zero) odd [] = refl
-odd_uncovered meets may_go (suc zero) odd (a ∷ later) = refl
-odd_uncovered meets may_go (suc (suc n)) odd [] = refl
-odd_uncovered meets may_go (suc (suc n)) odd (a ∷ later) =
+pub odd_uncovered : (meets : ℕ → ℕ → Bool) (n : ℕ) → n % 2 ≡ 1 → (players : List ℕ) → can_cover meets nobody n players ≡ false
+odd_uncovered meets zero odd players = absurd (omega (arith, odd))
+odd_uncovered meets (suc zero) odd [] = refl
+odd_uncovered meets (suc zero) odd (a ∷ later) = refl
+odd_uncovered meets (suc (suc n)) odd [] = refl
+odd_uncovered meets (suc (suc n)) odd (a ∷ later) =
     let less : n % 2 ≡ 1 = omega (arith, odd) in
-    ap (λ t. t || (false && can_cover meets may_go nobody (suc n) 0 later)) (some_partner-none (meets a) (can_cover meets may_go nobody n 0) (odd_uncovered meets may_go n less) [] later)
+    ap (λ t. t || (false && can_cover meets nobody (suc n) later)) (some_partner-none (meets a) (can_cover meets nobody n) (odd_uncovered meets n less) [] later)
 
-pub odd_unpaired : (meets : ℕ → ℕ → Bool) (may_be_left : ℕ → Bool) (takers : List ℕ) (spare : Spare) (a : ℕ) (later : List ℕ) → spare.bye ≡ false → spare.takers ≡ 0
-    → length later % 2 ≡ 0 → can_go meets may_be_left takers spare (length (a ∷ later)) (a ∷ later) ≡ false
-odd_unpaired meets may_be_left takers spare a later none no_taker even =
-    ap (λ b. can_go meets may_be_left takers (record { takers = spare.takers; bye = b }) (length (a ∷ later)) (a ∷ later)) none
-    ∙ ap (λ k. can_go meets may_be_left takers (record { takers = k; bye = false }) (length (a ∷ later)) (a ∷ later)) no_taker
-    ∙ odd_uncovered meets (meets_one meets takers) (suc (length later)) (omega (arith, even)) (a ∷ later)
+pub odd_unpaired : (meets : ℕ → ℕ → Bool) (may_be_left : ℕ → Bool) (bye : Bool) (a : ℕ) (later : List ℕ) → bye ≡ false
+    → length later % 2 ≡ 0 → can_go meets may_be_left bye (length (a ∷ later)) (a ∷ later) ≡ false
+odd_unpaired meets may_be_left bye a later none even =
+    ap (λ b. can_go meets may_be_left b (length (a ∷ later)) (a ∷ later)) none
+    ∙ odd_uncovered meets (suc (length later)) (omega (arith, even)) (a ∷ later)

@@ -49,28 +49,17 @@ is_complete meets may_be_left way = list_all (λ pair. meets pair.0 pair.1) way.
 abbrev pub can_complete : (ℕ → ℕ → Bool) → (ℕ → Bool) → List ℕ → Bool
 can_complete meets may_be_left players = list_any (is_complete meets may_be_left) (all_pairings players)
 
--- the steps of one taker: none where there is none, else the question and what one with one fewer of them may take
-abbrev pub most_of_one : (ℕ → ℕ) → ℕ → ℕ
-most_of_one most zero = 0
-most_of_one most (suc k) = 1 + most k
-
 -- the steps of one who is left out, if one may be: the question and what the others may take
 abbrev pub most_of_bye : ℕ → Bool → ℕ
 most_of_bye most true = 1 + most
 most_of_bye most false = 0
 
--- the most steps that it takes to tell whether n players can be paired out, at most k of them with takers, where one may be left out and
--- where none may: the partners of the first, the takers, and the bye
-abbrev pub most_taking : ℕ → ℕ → Bool → ℕ
-most_taking zero k bye = 0
-most_taking (suc zero) k bye = most_of_one (λ j. 0) k + most_of_bye 0 bye
-most_taking (suc (suc n)) k bye =
-    (n + 1) * (1 + most_taking n k bye) + (most_of_one (λ j. most_taking (suc n) j bye) k + most_of_bye (most_taking (suc n) k false) bye)
-
--- the most steps that it takes to tell whether n players are completable, where one may be left out and where none may: with no taker [with
--- SpendsAtMost]
+-- the most steps that it takes to tell whether n players are completable, where one may be left out and where none may: the partners of the
+-- first, and the bye [with SpendsAtMost]
 abbrev pub most : ℕ → Bool → ℕ
-most n bye = most_taking n 0 bye
+most zero bye = 0
+most (suc zero) bye = most_of_bye 0 bye
+most (suc (suc n)) bye = (n + 1) * (1 + most n bye) + most_of_bye (most (suc n) false) bye
 
 -- a call made at most n steps and took none back, and the limit stays [own]
 pub record SpendsAtMost (n : ℕ) (old new : Budget) : Type 0 where

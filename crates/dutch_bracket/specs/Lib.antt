@@ -10,7 +10,6 @@ pub mod Completion
 pub mod CompletionSearch
 pub mod Seats
 pub mod Meetings
-pub mod Joins
 pub mod Stops
 pub mod Reached
 pub mod Context
@@ -26,7 +25,6 @@ pub mod ColourFloors
 pub mod PsdFloors
 pub mod Floors
 pub mod Ghosts
-pub mod Takers
 pub mod GhostLaws
 pub mod BitTables
 pub mod Weights

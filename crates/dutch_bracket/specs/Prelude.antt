@@ -11,13 +11,11 @@ unfoldable pub use Rattle.dutch_bracket.specs.NextBracket.{quality, value_of}
 pub use Rattle.dutch_bracket.specs.NextMatchings.{GoesBelow, IsSmall, JoinsBelow, MayPairBelow, count_below, group_below, players_below, score_below, seat_below, value_below}
 pub use Rattle.dutch_bracket.specs.Items.{AreSameIn, DifferFirstIn, IsInFrontIn, article, by_rank, counted, only_if, players_counted, seats_of, those_in_pairs, those_of_both, those_with_topscorers, who_counts}
 unfoldable pub use Rattle.dutch_bracket.specs.Items.{those_in}
-pub use Rattle.dutch_bracket.specs.Completion.{IsStopped, MatchAnswer, SpendsAtMost, Takes, Tells, Way, all_pairings, can_complete, is_complete, left_out, most, most_of_bye, most_of_one, most_taking, paired, picks, with_first, with_member}
-pub use Rattle.dutch_bracket.specs.CompletionSearch.{Searched, can_cover, can_go, left_over, nobody, some_partner, takes_one}
-unfoldable pub use Rattle.dutch_bracket.specs.CompletionSearch.{meets_one}
+pub use Rattle.dutch_bracket.specs.Completion.{IsStopped, MatchAnswer, SpendsAtMost, Takes, Tells, Way, all_pairings, can_complete, is_complete, left_out, most, most_of_bye, paired, picks, with_first, with_member}
+pub use Rattle.dutch_bracket.specs.CompletionSearch.{Searched, can_cover, can_go, left_over, nobody, some_partner}
 pub use Rattle.dutch_bracket.specs.Seats.{costs_nothing, is_seat}
 unfoldable pub use Rattle.dutch_bracket.specs.Seats.{seats_may_be_left, seats_meet}
 pub use Rattle.dutch_bracket.specs.Meetings.{Meetings, joined, joined_seats, vertices}
-pub use Rattle.dutch_bracket.specs.Joins.{AreAtMost, AreMatched, IsAlwaysShape, IsMost, Joins, go_together, goes_first, has_mate, is_matched, is_matched_at, joins_of_all, joins_of_moved_down, matched_shape, mate_at, mate_of, may_pair, pairs_cost_nothing, takes_bye}
 pub use Rattle.dutch_bracket.specs.Stops.{Decides}
 pub use Rattle.dutch_bracket.specs.Reached.{IsAbove, IsOf, Reached, ends_round, frame_of, is_number}
 unfoldable pub use Rattle.dutch_bracket.specs.Reached.{number_may_be_left, numbers_meet}
@@ -39,7 +37,6 @@ pub use Rattle.dutch_bracket.specs.Floors.{IsFloor, NotBelow, floor_with}
 unfoldable pub use Rattle.dutch_bracket.specs.Floors.{floor_over}
 pub use Rattle.dutch_bracket.specs.Ghosts.{IsNotBetter, ghost_floor, ghost_frame, ghost_pair, ghost_scores, is_upto, may_bye, pairs_by_counts, some_meets}
 unfoldable pub use Rattle.dutch_bracket.specs.Ghosts.{ghost_may_be_left, ghosts_meet}
-unfoldable pub use Rattle.dutch_bracket.specs.Takers.{can_go_out}
 pub use Rattle.dutch_bracket.specs.GhostLaws.{ghosts_meet_sym}
 unfoldable pub use Rattle.dutch_bracket.specs.BitTables.{has_bit}
 pub use Rattle.dutch_bracket.specs.Weights.{FloatBases, HasDigits, HasFloatBases, IsAmong, IsNextScale, IsOn, IsOnNext, IsScale, IsScaleFor, IsWithin, NextScale, Scale, Weighing, alone_by, count_had, counts, digits, digits_below, digits_with, float_digits, in_base, number_pairs, numbers, player_digits, weighing, weight_below, weight_of, weight_of_one_down, weight_of_pair, written}

@@ -46,12 +46,9 @@ pub trait Shapes<R: Rule> {
         ensures { result.now ≡ frame self.now };
 
     /// Whether a shape with so many pairs may have an arrangement that counts: it says no only if none has.
-    fn may_have(&self, pairs: usize, budget: &mut Budget) -> Result<bool, Stopped>
-        requires small { 2 * pairs ≤ length (frame self.now).scores }
-        ensures answer { MatchDrawn result (Unit {0})
-            (first_with (counting self.now) (filter (fits (frame self.now)) (shapes_with pairs)) ≡ None)
-            (budget.new.used ≡ budget.new.limit) }
-        ensures spends { Spends budget.old budget.new };
+    fn may_have(&self, pairs: usize) -> bool
+        ensures { result ≡ false
+            → first_with (counting self.now) (filter (fits (frame self.now)) (shapes_with pairs)) ≡ None };
 
     /// Draws the first arrangement of a shape that counts. No says that there is none.
     fn first(
@@ -71,7 +68,7 @@ pub trait Shapes<R: Rule> {
 
 /// A bracket by a rule.
 #[derive(Clone, Copy)]
-pub(crate) struct Legal<'a, R: Rule> {
+pub struct Legal<'a, R: Rule> {
     pub bracket: &'a Bracket,
     pub rule: &'a R,
 }
@@ -90,8 +87,8 @@ impl<'a, R: Rule> Shapes<R> for Legal<'a, R> {
         self.bracket
     }
 
-    fn may_have(&self, _pairs: usize, _budget: &mut Budget) -> Result<bool, Stopped> {
-        Ok(true)
+    fn may_have(&self, _pairs: usize) -> bool {
+        true
     }
 
     fn first(
@@ -163,7 +160,7 @@ fn shape_with<R: Rule, S: Shapes<R>>(
     ensures lists { S.lists asked.now lister.new.listing }
     ensures spends { Spends budget.old budget.new }
 {
-    if !asked.may_have(pairs, budget)? {
+    if !asked.may_have(pairs) {
         return Ok(None);
     }
     let mut mdps = pairs;

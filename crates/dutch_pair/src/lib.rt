@@ -31,9 +31,10 @@ mod walk;
 pub use barrier::{Barrier, barrier_of, lacks_bye};
 pub use dutch_bracket::{
     Answer, BracketKind, ByNumber, ITEMS, Item, NextValue, Pair, PairFault, Quality, Reached,
-    Seats, are_left, completes, is_next, lookahead, seats, split_first_group,
+    Seats, are_left, completes, is_next, seats, split_first_group,
 };
 pub use dutch_choice::{Choice, Finder, Look, LookAhead, Wish, choose};
+pub use dutch_shape::lookahead;
 pub use instead::{Instead, best_instead};
 pub use items::who_counts;
 pub use lower::lower_of;

@@ -7,7 +7,7 @@ use Rattle.std.proofs.lemmas.Bool.{and_from, and_parts, cases_eq, cases_lt, eq-e
 use Rattle.std.proofs.lemmas.List.{get_or_append_left, get_or-append-add, length-map, map-append}
 use Rattle.std.proofs.lemmas.List.Elements.{All-nil, All-cons, All-head, All-tail}
 use Rattle.std.proofs.lemmas.List.Sums.{sum_by-cons, sum_by-append}
-use Rattle.dual.specs.Prelude.{FloorTable, IsFloor, IsMatching, MakeUp, cost, extra_in, extra_left_in, in_both}
+use Rattle.dual.specs.Prelude.{FloorTable, IsFloor, IsMatching, MakeUp, cost, in_both}
 use Rattle.dual.proofs.Sums.{sum_none}
 use Rattle.dual.proofs.WeakDuality.{counted}
 use Rattle.dutch_order.specs.declared.bracket.Shape.{Shape}
@@ -16,7 +16,7 @@ use Rattle.dutch_sequence.proofs.Lists.{map-numbers_from}
 use Rattle.dutch_sequence.proofs.Members.{length-numbers, numbers-append}
 use Rattle.dutch_sequence.proofs.Orders.{all_members, IsIn-filter}
 use Rattle.dutch_player.specs.Prelude.{Facts}
-use Rattle.dutch_bracket.specs.Completion.{Completable, MayBeLeftOut}
+use Rattle.dutch_bracket.specs.Completion.{Completable}
 use Rattle.dutch_bracket.specs.Prelude.{AllNumbers, Context, FitsHere, IsOf, Reached, candidates_of, completable, downfloaters, eligible_here, ends_round, frame_of, has_member, is_penultimate, number_may_be_left, numbers_meet, score_at, seat_of, seats_may_be_left, seats_meet}
 use Rattle.dutch_bracket.specs.Eligible.{can_be_chosen}
 use Rattle.dutch_bracket.proofs.AllLemmas.{all_join}
@@ -25,13 +25,13 @@ use Rattle.dutch_bracket.proofs.Covering.{completable_by_test}
 use Rattle.dutch_bracket.proofs.DownLemmas.{down_numbers}
 use Rattle.dutch_bracket.proofs.EligibleLemmas.{eligible_is}
 use Rattle.dutch_bracket.proofs.Everybody.{arranged}
-use Rattle.dutch_bracket.proofs.JoinedPairs.{all_onto, first_count, high, lists, low, numbers_total, other_count, places_total, s1_low, s1r_high, s2_high, s2r_high}
+use Rattle.dutch_bracket.proofs.CandidatePairs.{all_onto, first_count, high, lists, low, numbers_total, other_count, places_total, s1_low, s1r_high, s2_high, s2r_high}
 use Rattle.dutch_bracket.proofs.LegalPairs.{IsArranged, in_passes, legal_of}
 use Rattle.dutch_bracket.proofs.PairedOut.{Meet, PairedOut, each, few_left, odd_one, one_by_one, paired_out, sums_rise, sums_same}
 use Rattle.dutch_bracket.proofs.ShapeSearch.{member_of}
 use Rattle.dutch_bracket.proofs.Totals.{total, total_sum}
 use Rattle.dutch_shape.specs.declared.certified.ShapeFloor.{ShapeFloor}
-use Rattle.dutch_shape.specs.ShapeCosts.{IsShapeFloor, alone_cost, any_seat, are_pair, are_paired_out, bye_cost, cost_of, count_all, may_stay, shape_costs, spare_cost}
+use Rattle.dutch_shape.specs.ShapeCosts.{IsShapeFloor, alone_cost, any_seat, are_pair, are_paired_out, cost_of, count_all, may_stay, shape_costs, spare_cost}
 
 -- ---- numbers that all weigh the same
 

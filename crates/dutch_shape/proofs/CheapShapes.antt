@@ -1,13 +1,12 @@
 -- What a floor tells of shapes (C.04.3 C.5, B.1): one that costs less has no candidate that can be chosen; and one that costs no more, and
 -- has one, is the bracket's shape.
-use Rattle.std.proofs.Common.{◌≡◌, ℕ, ◌+◌, ◌-◌, ◌*◌, ◌<◌, ◌≤◌, Bool, false, true, List, length, Option, Some, None, inl, inr, refl, sym, ap, ◌∙◌, arith}
+use Rattle.std.proofs.Common.{◌≡◌, ℕ, ◌+◌, ◌-◌, ◌*◌, ◌<◌, ◌≤◌, Bool, false, true, length, Option, Some, None, inl, inr, refl, ap, ◌∙◌, arith}
 use Rattle.std.proofs.lemmas.Bool.{cases_lt, false_from_ne_true, and_parts}
 use Rattle.std.proofs.lemmas.List.{length-map}
 use Rattle.dutch_order.specs.declared.bracket.Shape.{Shape}
 use Rattle.dutch_sequence.specs.declared.numbers.TheConstants.{LIMIT}
-use Rattle.dutch_order.specs.Prelude.{Fits}
 use Rattle.dutch_sequence.proofs.Orders.{IsIn-map}
-use Rattle.dutch_bracket.specs.Prelude.{Context, FitsHere, IsOf, IsGreater, down_from, eligible_here, fits, frame_here, has_member, score_at, shape_here, shape_of, shapes_with}
+use Rattle.dutch_bracket.specs.Prelude.{Context, FitsHere, IsOf, IsGreater, down_from, eligible_here, fits, frame_here, has_member, score_at, shape_here, shapes_with}
 use Rattle.dutch_bracket.proofs.ShapeLaws.{has_one, has_room, none_has_one, none_is_greater}
 use Rattle.dutch_bracket.proofs.ShapeSearch.{fits_by_test, found_in, has, none_in, shape_with}
 use Rattle.dutch_shape.specs.declared.certified.ShapeFloor.{ShapeFloor}

@@ -1,3 +1,5 @@
 pub mod CheapShapes
 pub mod CandidateCosts
 pub mod MatchedCandidates
+pub mod AlwaysShapes
+pub mod UniformShapes

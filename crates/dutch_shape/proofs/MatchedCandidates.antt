@@ -4,12 +4,12 @@ use Rattle.std.proofs.Common.{◌≡◌, ℕ, ◌+◌, ◌-◌, ◌<◌, ◌≤�
 use Rattle.std.specs.Prelude.{filter}
 use Rattle.std.specs.List.{slice_get}
 use Rattle.std.proofs.Math.Bool.{and_comm}
-use Rattle.std.proofs.lemmas.Bool.{and_from, and_parts, cases_Bool, cases_eq, le-leb, leb-true, true≢false}
+use Rattle.std.proofs.lemmas.Bool.{and_parts, cases_Bool, cases_eq, le-leb, leb-true, true≢false}
 use Rattle.std.proofs.lemmas.List.{length-map}
 use Rattle.matching.specs.Matchings.{Gives, IsMatching}
 use Rattle.dutch_order.specs.declared.bracket.Shape.{Shape}
 use Rattle.dutch_sequence.specs.declared.numbers.TheConstants.{LIMIT}
-use Rattle.dutch_order.specs.Prelude.{Arrangement, Fits, Frame, IsIn, IsMovedDown, candidates, down, leaves_one, numbers_from}
+use Rattle.dutch_order.specs.Prelude.{Arrangement, Fits, Frame, IsIn, IsMovedDown, down, leaves_one, numbers_from}
 use Rattle.dutch_sequence.proofs.Members.{filter-length, length-numbers}
 use Rattle.dutch_sequence.proofs.Orders.{filter-IsIn}
 use Rattle.dutch_player.specs.Prelude.{Facts}

@@ -8,6 +8,7 @@
 #![tactic(auto)]
 
 mod certified;
+pub mod lookahead;
 mod matched;
 mod players;
 pub mod shape;

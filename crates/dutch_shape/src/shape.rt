@@ -1,8 +1,8 @@
 // The shape of a bracket (C.04.3 C.5, B.1): the most pairs that some candidate has, and then the most moved-down
 // players in them.
-ghost use Rattle.std.specs.Prelude.{◌≡◌, ◌*◌, ◌≤◌, Some, None, true, filter, length};
+ghost use Rattle.std.specs.Prelude.{◌≡◌, Some, None, true, false, filter};
 ghost use Rattle.std.specs.Result.{MatchResult};
-ghost use Rattle.dutch_order.specs.Prelude.{MatchDrawn, MatchFound, Spends};
+ghost use Rattle.dutch_order.specs.Prelude.{MatchFound, Spends};
 ghost use Rattle.dutch_bracket.specs.Prelude.{FitsHere, ListsHere, eligible_here, first_with, fits, frame_here};
 ghost use Rattle.dutch_bracket.specs.Prelude.{shape_here, shapes_with};
 ghost use Rattle.dutch_shape.specs.ShapeCosts.{IsTooCheap, IsShapeFloor};
@@ -11,37 +11,11 @@ use crate::certified::{ShapeFloor, told_by_cost};
 use crate::players::Players;
 use dutch_bracket::ByNumber;
 use dutch_bracket::context::Context;
-use dutch_bracket::eligible::{at_most, first_eligible};
+use dutch_bracket::eligible::first_eligible;
 use dutch_bracket::few_steps::decided_in_few_steps;
 use dutch_bracket::greatest::{Lister, Shapes, greatest_shape};
-use dutch_bracket::shape_bound::bound_by_matchings;
 use dutch_bracket::shaped::ShapedBracket;
-use dutch_bracket::takers::can_go_out;
 use dutch_order::{Bracket, Budget, Shape, Stopped};
-
-/// Whether a shape with so many pairs may have a candidate that can be chosen: so many pairs leave so many
-/// downfloaters. If that many cannot be paired out with the lower players, whoever they are, no candidate of a
-/// penultimate bracket can be chosen (C.4). To rule this out may take very many steps, so only a part of those that are
-/// left goes into it.
-fn may_go_out(context: &Context<'_>, pairs: usize, budget: &mut Budget) -> Result<bool, Stopped>
-    requires small { 2 * pairs ≤ length (frame_here context.now).scores }
-    ensures answer { MatchDrawn result (Unit {0})
-        (first_with (eligible_here context.now) (filter (fits (frame_here context.now)) (shapes_with pairs)) ≡ None)
-        (budget.new.used ≡ budget.new.limit) }
-    ensures spends { Spends budget.old budget.new }
-{
-    if !context.reached().kind().is_penultimate() {
-        return Ok(true);
-    }
-    let mut some = at_most((budget.limit - budget.used) / 4, budget);
-    let found = can_go_out(context, context.len() - 2 * pairs, &mut some);
-    budget.used = some.used;
-    match found {
-        Ok(found) => Ok(found),
-        Err(Stopped) if budget.used == budget.limit => Err(Stopped),
-        Err(Stopped) => Ok(true),
-    }
-}
 
 /// A bracket whose shape is looked for, and what every shape that counts costs at least.
 #[derive(Drop)]
@@ -76,19 +50,13 @@ impl<'a, 'b, 'c> Shapes<ByNumber<'c>> for Asked<'a, 'b> {
         self.context.frame()
     }
 
-    fn may_have(&self, pairs: usize, budget: &mut Budget) -> Result<bool, Stopped>
-        requires small { 2 * pairs ≤ length (frame_here self.now.context.now).scores }
-        ensures answer { MatchDrawn result (Unit {0})
-            (first_with (eligible_here self.now.context.now)
-            (filter (fits (frame_here self.now.context.now)) (shapes_with pairs)) ≡ None)
-            (budget.new.used ≡ budget.new.limit) }
-        ensures spends { Spends budget.old budget.new }
+    fn may_have(&self, pairs: usize) -> bool
+        ensures { result ≡ false
+            → first_with (eligible_here self.now.context.now)
+            (filter (fits (frame_here self.now.context.now)) (shapes_with pairs)) ≡ None }
     {
         // of the shapes with so many pairs the one that costs most
-        if self.is_too_cheap(Shape { pairs, mdps: 0 }) {
-            return Ok(false);
-        }
-        may_go_out(self.context, pairs, budget)
+        !self.is_too_cheap(Shape { pairs, mdps: 0 })
     }
 
     fn first(
@@ -105,22 +73,6 @@ impl<'a, 'b, 'c> Shapes<ByNumber<'c>> for Asked<'a, 'b> {
             shape,
         };
         first_eligible(&shaped, lister, budget)
-    }
-}
-
-/// The shape of a bracket that is not the penultimate one, by unweighted matchings. None says that they do not tell it,
-/// or were not looked for.
-fn shape_by_matchings(context: &Context<'_>, budget: &mut Budget) -> Result<Option<Shape>, Stopped>
-    ensures answer { MatchFound result (λ shape. shape_here context.now ≡ Some shape) (Unit {0})
-        (budget.new.used ≡ budget.new.limit) }
-    ensures spends { Spends budget.old budget.new }
-{
-    if context.reached().kind().is_penultimate() {
-        return Ok(None);
-    }
-    match bound_by_matchings(context.alloc(), context.rule(), budget)? {
-        Some(bound) => Ok(bound.shape),
-        None => Ok(None),
     }
 }
 
@@ -181,9 +133,6 @@ fn found_shape<'b>(
     };
     if let Some(shape) = decided_in_few_steps(&asked, lister, budget)? {
         return Ok(shape);
-    }
-    if let Some(shape) = shape_by_matchings(context, budget)? {
-        return Ok(Some(shape));
     }
     costed_shape(context, lister, budget)
 }

@@ -1,35 +1,28 @@
 -- No partner tried so far leaves players who can be paired out, and each trial took its steps.
 use Rattle.std.proofs.Common.{◌≡◌, ◌+◌, ◌*◌, ◌-◌, false, take, drop, length, []}
 use Rattle.dutch_bracket.specs.declared.completion.Answer.TheVariants.{No}
-use Rattle.dutch_bracket.specs.Prelude.{most_taking, Searched, can_go, some_partner}
+use Rattle.dutch_bracket.specs.Prelude.{most, Searched, can_go, some_partner}
 use Rattle.dutch_bracket.proofs.Turned.{turned}
 use Rattle.dutch_bracket.proofs.completion.+search.Given as goal
 
 abbrev pub decreases-can_pair : goal.decreases-can_pair
-decreases-can_pair g l = 4 * length l.players.now
+decreases-can_pair g l = 3 * length l.players.now
 
 abbrev pub decreases-pair_first : goal.decreases-pair_first
-decreases-pair_first g l = 4 * length l.later.now + 3
+decreases-pair_first g l = 3 * length l.later.now + 2
 
 abbrev pub decreases-pair_with : goal.decreases-pair_with
-decreases-pair_with g l = 4 * length l.later.now + 2
-
-abbrev pub decreases-spare_first : goal.decreases-spare_first
-decreases-spare_first g l = 4 * length l.later.now + 2
-
-abbrev pub decreases-take_first : goal.decreases-take_first
-decreases-take_first g l = 4 * length l.later.now + 1
+decreases-pair_with g l = 3 * length l.later.now + 1
 
 abbrev pub decreases-leave_first : goal.decreases-leave_first
-decreases-leave_first g l = 4 * length l.later.now + 1
+decreases-leave_first g l = 3 * length l.later.now + 1
 
 abbrev pub invariant-pair_first-loop-place : goal.invariant-pair_first-loop-place
 invariant-pair_first-loop-place g l =
-    let meets = g.R.Rule.meets l.search.rule.now in
+    let meets = g.R.Rule.meets l.rule in
     let all = l.initial.later in
-    let spare = l.first.spare in
-    let holds = can_go meets (g.R.Rule.may_be_left l.search.rule.now) l.search.takers.now spare (length all - 1) in
-    let m = most_taking (length all - 1) spare.takers spare.bye in
+    let holds = can_go meets (g.R.Rule.may_be_left l.rule) l.first.bye (length all - 1) in
+    let m = most (length all - 1) l.first.bye in
     record {
       turned : l.later ≡ turned l.place all;
       len : length l.later ≡ length all;

@@ -15,7 +15,7 @@ returns-clause-answer g c =
     subst
     (λ (xs : List ℕ). MatchAnswer c.can_pair.result (Completable meets may_be_left xs) (¬ Completable meets may_be_left xs)
     (IsStopped (most (length xs) true) c.args.budget.now c.can_pair.new.budget)) (copied _ _ _ _ c.deref_mut.ensures.value c.push_all.ensures c.new-all.ensures)
-    (answer_by_search meets _ may_be_left c.deref_mut.result.now c.can_pair.result (IsStopped (most (length c.deref_mut.result.now) true) c.args.budget.now c.can_pair.new.budget)
+    (answer_by_search meets may_be_left c.deref_mut.result.now c.can_pair.result (IsStopped (most (length c.deref_mut.result.now) true) c.args.budget.now c.can_pair.new.budget)
     c.can_pair.ensures.searched.told)
 
 pub returns-clause-steps : goal.returns-clause-steps

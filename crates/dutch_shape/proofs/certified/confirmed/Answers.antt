@@ -1,5 +1,5 @@
 -- What the check confirms for the numbers of all players is a floor of the bracket's shapes.
-use Rattle.std.proofs.Common.{◌≡◌, ℕ, IfSome, Option, Some, List, ap, ◌∙◌, subst}
+use Rattle.std.proofs.Common.{◌≡◌, ℕ, IfSome, Option, List, ap, ◌∙◌, subst}
 use Rattle.dual.specs.Prelude.{FloorTable, IsFloor}
 use Rattle.dutch_order.specs.Prelude.{numbers_from}
 use Rattle.dutch_shape.specs.ShapeCosts.{count_all, shape_costs}

@@ -1,9 +1,10 @@
 -- A bracket in which all candidates can be chosen has the greatest shape of a legal arrangement, whatever seats are below it (C.04.3 C.5).
-use Rattle.std.proofs.Common.{◌≡◌, if◌then◌else◌, List, [], ◌∷◌, Option, Some, refl, sym, ap, ◌∙◌, subst}
+use Rattle.std.proofs.Common.{◌≡◌, if◌then◌else◌, false, List, [], ◌∷◌, Option, Some, refl, sym, ap, ◌∙◌, subst}
 use Rattle.dutch_order.specs.declared.bracket.Shape.{Shape}
 use Rattle.dutch_order.specs.Prelude.{Arrangement, Fits, Frame}
 use Rattle.dutch_player.specs.Prelude.{Facts}
-use Rattle.dutch_bracket.specs.Prelude.{IsAlwaysShape, legal_by, legal_in, Reached, frame_of, candidates_of, eligible, shape_of, first_with, greatest_shape, has_member, shapes}
+use Rattle.dutch_shape.specs.AlwaysShapes.{IsAlwaysShape}
+use Rattle.dutch_bracket.specs.Prelude.{legal_by, legal_in, Reached, frame_of, candidates_of, eligible, shape_of, first_with, greatest_shape, has_member, is_penultimate, shapes}
 use Rattle.dutch_bracket.proofs.EligibleLemmas.{eligible_all}
 use Rattle.dutch_bracket.proofs.ShapeLaws.{has_room}
 
@@ -13,6 +14,18 @@ first_same some other same [] = refl
 first_same some other same (shape ∷ rest) =
     ap (λ (counting : List Arrangement). if has_member counting then Some shape else first_with some rest) (same shape)
     ∙ ap (λ (found : Option Shape). if has_member (other shape) then Some shape else found) (first_same some other same rest)
+
+-- the shape of an ordinary bracket above one list of seats is that above any
+pub always_here : (facts : Facts) (reached : Reached) (shape : Shape) → is_penultimate reached.kind ≡ false → shape_of facts reached [] ≡ Some shape
+    → IsAlwaysShape facts reached shape
+unfolding shape_of
+always_here facts reached shape once here = record {
+  once = once;
+  always = λ lower.
+      first_same (eligible facts reached lower) (eligible facts reached [])
+      (λ t. eligible_all facts reached lower t once ∙ sym (eligible_all facts reached [] t once)) (shapes (frame_of facts reached))
+      ∙ here;
+}
 
 module _ (facts : Facts) (reached : Reached) (shape : Shape) (always : IsAlwaysShape facts reached shape) where
   all_legal : (t : Shape) → eligible facts reached [] t ≡ legal_in facts reached t

@@ -4,9 +4,10 @@ use Rattle.dutch_order.specs.Prelude.{MatchDrawn}
 use Rattle.dutch_order.specs.declared.bracket.Shape.{Shape}
 use Rattle.dutch_sequence.specs.declared.steps.Stopped.{Stopped}
 use Rattle.dutch_player.specs.Prelude.{Facts}
-use Rattle.dutch_bracket.specs.Prelude.{IsAlwaysShape, Reached}
-use Rattle.dutch_bracket.proofs.AlwaysShapes.{always_fits, always_greatest}
-use Rattle.dutch_bracket.proofs.lookahead.greatest_drawn.Goals as goal
+use Rattle.dutch_shape.specs.AlwaysShapes.{IsAlwaysShape}
+use Rattle.dutch_bracket.specs.Prelude.{Reached}
+use Rattle.dutch_shape.proofs.AlwaysShapes.{always_fits, always_greatest}
+use Rattle.dutch_shape.proofs.lookahead.greatest_drawn.Goals as goal
 
 drawn_yes : (A B C : Type 0) (b : Bool) → b ≡ true → MatchDrawn {E = Stopped} (Ok b) A B C → A
 drawn_yes A B C true e h = h

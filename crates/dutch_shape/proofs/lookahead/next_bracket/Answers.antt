@@ -3,7 +3,7 @@ use Rattle.std.proofs.Common.{ap, length, arith}
 use Rattle.std.proofs.lemmas.List.{length-map}
 use Rattle.dutch_bracket.specs.Prelude.{seat_of}
 use Rattle.dutch_bracket.proofs.NextBrackets.{down_short}
-use Rattle.dutch_bracket.proofs.lookahead.next_bracket.Goals as goal
+use Rattle.dutch_shape.proofs.lookahead.next_bracket.Goals as goal
 
 pub push_all-requires : goal.push_all-requires
 push_all-requires c =

@@ -12,31 +12,34 @@ ghost use Rattle.std.specs.Result.{MatchResult};
 ghost use Rattle.dutch_bracket.specs.Seated.{seat_of};
 ghost use Rattle.dutch_bracket.specs.declared.reached.BracketKind.TheVariants.{Ordinary};
 ghost use Rattle.dutch_bracket.specs.Reached.{IsOf, frame_of};
-ghost use Rattle.dutch_bracket.specs.Joins.{IsAlwaysShape};
+ghost use Rattle.dutch_shape.specs.AlwaysShapes.{IsAlwaysShape};
 ghost use Rattle.dutch_bracket.specs.Shapes.{IsFound};
 ghost use Rattle.dutch_bracket.specs.QualityIn.{quality_in};
 ghost use Rattle.dutch_bracket.specs.NextBracket.{IsOfBracket, IsFlat, AreLeft, IsNext, legal_by, next_bracket};
 ghost use Rattle.dutch_bracket.specs.NextBracket.{value_in, value_of, quality};
 ghost use Rattle.dutch_order.specs.Prelude.{Spends};
 
-use crate::differences::fill_psd;
-use crate::few_steps::decided_in_few_steps;
-use crate::greatest::{Legal, Lister, Shapes, greatest_shape};
-use crate::psd_floor::{FlatShape, is_uniform};
-use crate::quality::{NextValue, Quality, Room, fill_quality};
-use crate::reached::{BracketKind, ByNumber, Reached, push_all};
-use crate::seated::{by_seats, seats_of};
-use crate::shape_bound::bound_by_matchings;
+use crate::certified::told_by_cost;
+use crate::players::Players;
+use dutch_bracket::differences::fill_psd;
+use dutch_bracket::few_steps::decided_in_few_steps;
+use dutch_bracket::greatest::{Legal, Lister, Shapes, greatest_shape};
+use dutch_bracket::psd_floor::{FlatShape, is_uniform};
+use dutch_bracket::quality::{NextValue, Quality, Room, fill_quality};
+use dutch_bracket::reached::{BracketKind, ByNumber, Reached, push_all};
+use dutch_bracket::seated::{by_seats, seats_of};
 use dutch_order::{Budget, Candidate, Numbers, Shape, Stopped, numbered_from};
 use dutch_player::Field;
 use std::alloc::Global;
 
-/// The shape of a bracket, as matchings tell it. None says that they do not, or that there is no memory for them.
-fn shape_by_matchings(
+/// The shape of an ordinary bracket, as a matching of least cost tells it. None says that it does not, or that there is
+/// no memory for it.
+fn shape_by_cost(
     alloc: Option<Global>,
     rule: ByNumber<'_>,
     budget: &mut Budget,
 ) -> Result<Option<Shape>, Stopped>
+    requires { rule.reached.now.kind ≡ Ordinary }
     ensures answer { MatchResult result
         (λ matched. IfSome matched (IsAlwaysShape rule.entry.field.now rule.entry.reached.now))
         (λ _. budget.new.used ≡ budget.new.limit) }
@@ -45,8 +48,13 @@ fn shape_by_matchings(
     let Some(alloc) = alloc else {
         return Ok(None);
     };
-    match bound_by_matchings(alloc, rule, budget)? {
-        Some(bound) => Ok(bound.shape),
+    let players = Players {
+        alloc,
+        rule,
+        lower: &[],
+    };
+    match told_by_cost(&players, budget)? {
+        Some(told) => Ok(told.shape),
         None => Ok(None),
     }
 }
@@ -126,7 +134,7 @@ fn value_drawn(
 /// What a bracket can be (C.7): by a listing of few steps, then by matchings if they can be had, and where they do not
 /// tell it, by a longer listing. (Apart from its caller, as a lister is large.)
 #[inline(never)]
-pub(crate) fn value_of(
+fn value_of(
     alloc: Option<Global>,
     field: &Field,
     reached: &Reached,
@@ -134,6 +142,7 @@ pub(crate) fn value_of(
 ) -> Result<NextValue, Stopped>
     requires of { IsOf field.now reached.now }
     requires flat { IsFlat field.now reached.now }
+    requires ordinary { reached.now.kind ≡ Ordinary }
     ensures answer { MatchResult result (λ v. v ≡ value_of field.now reached.now)
         (λ _. budget.new.used ≡ budget.new.limit) }
     ensures spends { Spends budget.old budget.new }
@@ -148,7 +157,7 @@ pub(crate) fn value_of(
     if let Some(found) = decided_in_few_steps(&legal, &mut lister, budget)? {
         return Ok(value_drawn(&legal, found, &lister.drawn));
     }
-    let matched = shape_by_matchings(alloc, rule, budget)?;
+    let matched = shape_by_cost(alloc, rule, budget)?;
     if let Some(shape) = matched
         && let Some(value) = value_by_shape(rule, shape)
     {
@@ -171,7 +180,7 @@ pub struct Above<'a> {
 }
 
 /// The bracket that downfloaters make with the next lower scoregroup.
-#[tactic(auto, using(crate::proofs::NextBrackets::down_short))]
+#[tactic(auto, using(dutch_bracket::proofs::NextBrackets::down_short))]
 fn next_bracket(above: &Above<'_>, down: &[u16]) -> Reached
     requires { AreLeft above.now.reached.now down.now }
     ensures { result ≡ next_bracket (map (seat_of above.now.reached.now.seats) down.now) above.now.next.now }
@@ -205,7 +214,7 @@ pub fn value_below(
 }
 
 /// The value of the next bracket for a candidate (C.7), which counts only in ordinary brackets.
-#[tactic(auto, using(crate::proofs::NextBrackets::left_by_candidate))]
+#[tactic(auto, using(dutch_bracket::proofs::NextBrackets::left_by_candidate))]
 fn next_value(
     above: &Above<'_>,
     candidate: &Candidate,
@@ -226,7 +235,7 @@ fn next_value(
 
 /// The quality of a candidate of a bracket above a next lower scoregroup (C.6 to C.19); none if the budget's limit was
 /// reached first. A step is one number tried at one place in the next bracket. It takes no memory.
-#[tactic(auto, unfolding(crate::specs::NextBracket::quality, crate::specs::Quality::quality_with))]
+#[tactic(auto, unfolding(dutch_bracket::specs::NextBracket::quality, dutch_bracket::specs::Quality::quality_with))]
 pub fn quality(
     field: &Field,
     reached: &Reached,

@@ -2,10 +2,10 @@
 use Rattle.std.proofs.Common.{◌≡◌, ℕ, ◌+◌, List, refl, sym, ap, ◌∙◌, subst}
 use Rattle.dutch_order.specs.Prelude.{numbers_from}
 use Rattle.dutch_bracket.specs.Prelude.{psd_with, NextValue, frame_of, AllNumbers, score_at, seat_of}
-use Rattle.dutch_bracket.proofs.AlwaysShapes.{always_fits}
+use Rattle.dutch_shape.proofs.AlwaysShapes.{always_fits}
 use Rattle.dutch_bracket.proofs.ShapeNumbers.{first_length, first_numbers, has_room, small_mdps, small_pairs}
-use Rattle.dutch_bracket.proofs.UniformShapes.{value_of_uniform}
-use Rattle.dutch_bracket.proofs.lookahead.value_by_shape.Goals as goal
+use Rattle.dutch_shape.proofs.UniformShapes.{value_of_uniform}
+use Rattle.dutch_shape.proofs.lookahead.value_by_shape.Goals as goal
 
 pub is_uniform-requires : goal.is_uniform-requires
 is_uniform-requires c =

@@ -2,7 +2,7 @@
 use Rattle.std.proofs.Common.{List, ℕ, sym, subst}
 use Rattle.dutch_bracket.specs.Prelude.{IsCandidate}
 use Rattle.dutch_bracket.proofs.FlatBrackets.{candidate_of}
-use Rattle.dutch_bracket.proofs.lookahead.quality.Goals as goal
+use Rattle.dutch_shape.proofs.lookahead.quality.Goals as goal
 
 pub fill_quality-requires-clause-candidate : goal.fill_quality-requires-clause-candidate
 fill_quality-requires-clause-candidate c =

@@ -6,7 +6,7 @@ use Rattle.dutch_order.specs.Prelude.{Frame}
 use Rattle.dutch_order.specs.declared.bracket.Shape.{Shape}
 use Rattle.dutch_bracket.specs.Prelude.{IsCandidate, Seated, by_seats, psd, legal_by, value_of_shape, value_of, frame_of, greatest_shape}
 use Rattle.dutch_bracket.proofs.FlatBrackets.{candidate_of, greatest_as, in_legal, value_found}
-use Rattle.dutch_bracket.proofs.lookahead.value_drawn.Goals as goal
+use Rattle.dutch_shape.proofs.lookahead.value_drawn.Goals as goal
 
 at_none : (A : Type 0) (B : Shape → Type 0) (o : Option Shape) → o ≡ None → MatchOption o A B → A
 at_none A B o e h = subst (λ (o : Option Shape). MatchOption o A B) e h

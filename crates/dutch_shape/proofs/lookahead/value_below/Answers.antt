@@ -2,7 +2,7 @@
 use Rattle.std.proofs.Common.{sym, subst}
 use Rattle.dutch_bracket.specs.Prelude.{Reached, IsOf, IsFlat}
 use Rattle.dutch_bracket.proofs.NextBrackets.{next_of, next_flat}
-use Rattle.dutch_bracket.proofs.lookahead.value_below.Goals as goal
+use Rattle.dutch_shape.proofs.lookahead.value_below.Goals as goal
 
 pub value_of-requires-clause-of : goal.value_of-requires-clause-of
 value_of-requires-clause-of c =

@@ -3,8 +3,9 @@ use Rattle.std.proofs.Common.{◌≡◌, ◌+◌, ℕ, true, List, [], Some, ref
 use Rattle.dutch_order.specs.declared.bracket.Shape.{Shape}
 use Rattle.dutch_order.specs.Prelude.{Arrangement, arrangements, is_legal, numbers_from, IsIn}
 use Rattle.dutch_player.specs.Prelude.{Facts}
-use Rattle.dutch_bracket.specs.Prelude.{is_uniform, psd_with, IsAlwaysShape, IsFlat, legal_in, psd_in, quality, value_of, value_of_shape, NextValue, quality_with, IsOf, Reached, frame_of, number_may_be_left, numbers_meet, quality_of, score_at, seat_of, greatest_shape, shapes}
-use Rattle.dutch_bracket.proofs.AlwaysShapes.{always_greatest}
+use Rattle.dutch_shape.specs.AlwaysShapes.{IsAlwaysShape}
+use Rattle.dutch_bracket.specs.Prelude.{is_uniform, psd_with, IsFlat, legal_in, psd_in, quality, value_of, value_of_shape, NextValue, quality_with, IsOf, Reached, frame_of, number_may_be_left, numbers_meet, quality_of, score_at, seat_of, greatest_shape, shapes}
+use Rattle.dutch_shape.proofs.AlwaysShapes.{always_greatest}
 use Rattle.dutch_bracket.proofs.C06Psd.{psd_of_all, uniform_of}
 use Rattle.dutch_bracket.proofs.LeastPsd.{in_filter}
 use Rattle.dutch_bracket.proofs.LowestLists.{lowest_is_one}
