@@ -9,11 +9,13 @@
 //! Each bracket may make so many steps as its budget has. If they are used up, the answer is undecided, and never
 //! another pairing. It is not proved that some number of steps decides a bracket.
 //!
+//! Who finds the best candidate of a shape is a type parameter of the calls that choose: a `Finder`, as
+//! `dutch_search::WithFloors`. They promise the same by each.
+//!
 //! Lists are arrays with room for 1,024 numbers on the stack, some 2 MiB of it for a round. On the heap are the boards,
-//! the last 64 values of C.7, for a bracket some bits for each two players, where its pairs are weighed also what these
-//! weigh and a few floors as large, and a matching while it is looked for. If memory is refused, a call says so; only a
-//! value of C.7 is then merely not kept, players are paired out by the search without a matching, and no floor by
-//! weight is found.
+//! for a bracket some bits for each two players, a matching while it is looked for, and what a finder keeps there. If
+//! memory is refused, a call says so; only are players then paired out by the search without a matching, and a finder
+//! may do without what it would keep.
 //!
 //! To mind: players are named by seat in a field, by number from 1 in a bracket, and by start rank on boards alone.
 #![tactic(auto)]

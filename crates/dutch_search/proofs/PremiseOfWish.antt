@@ -1,5 +1,5 @@
 -- What a wish makes known of each candidate that grants it (C.04.3 B.3).
-use Rattle.std.proofs.Common.{◌≡◌, ℕ, ◌-◌, ◌<◌, ◌≤◌, ◌⊎◌, true, List, [], ◌∷◌, length, inl, inr, ap, arith}
+use Rattle.std.proofs.Common.{◌≡◌, ℕ, ◌-◌, ◌<◌, ◌⊎◌, true, List, [], ◌∷◌, length, inl, inr, ap, arith}
 use Rattle.std.proofs.lemmas.List.{length-map}
 use Rattle.dutch_order.specs.Prelude.{Arrangement, down, by_place, pairs_by_number, IsIn}
 use Rattle.dutch_sequence.proofs.Orders.{IsIn-append, IsIn-back, IsIn-front, map-IsIn}

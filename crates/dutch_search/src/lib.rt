@@ -2,13 +2,15 @@
 //!
 //! It puts together what is proved side by side: the passes of `dutch_choice`, and what `dutch_floors` and
 //! `dutch_weights` tell of the candidates behind a beginning, so that a pass leaves out those of which none wins.
+//!
+//! On the heap are the last 64 values of C.7, and where the pairs of a bracket are weighed, what these weigh and a few
+//! floors as large. If memory is refused, a value is merely not kept, and no floor by weight is found.
 #![tactic(auto)]
 
 mod aiming;
 mod bars;
 mod both;
 mod guide;
-pub mod laws;
 mod skipper;
 mod with_floors;
 

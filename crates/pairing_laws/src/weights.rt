@@ -10,9 +10,9 @@ ghost use Rattle.dutch_bracket.specs.Prelude.{seat_below, Quality, is_better, ne
 ghost use Rattle.dutch_bracket.specs.Prelude.{seats_meet, HasDigits, IsOn, IsScale, IsScaleFor, Scale, alone_by};
 ghost use Rattle.dutch_bracket.specs.Prelude.{number_pairs, weighing, weight_below, weight_of};
 ghost use Rattle.dutch_bracket.specs.declared.reached.BracketKind.TheVariants.{Ordinary};
-ghost use Rattle.dutch_weights.specs.Prelude.{HasSameNextOn, added_in, Order};
+ghost use Rattle.dutch_weights.specs.Prelude.{HasSameNextOn, Order, added_in};
 ghost use Rattle.dutch_weights.specs.declared.scoped.Reach.TheVariants.{Next};
-ghost use Rattle.dutch_search.specs.Costs.{costs_here};
+ghost use Rattle.pairing_laws.specs.Costs.{costs_here};
 ghost use Rattle.dual.specs.Prelude.{FloorTable, IsFloor, extra_in, cost};
 
 /// C.6 to C.19: the weight of a candidate is the sum of what each of its pairs and each of its downfloaters weighs

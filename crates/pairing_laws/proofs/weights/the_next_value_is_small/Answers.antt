@@ -1,6 +1,6 @@
 -- The law is the lemma.
 use Rattle.dutch_weights.proofs.C07NextMatchings.{next_in_order}
-use Rattle.dutch_search.proofs.laws.the_next_value_is_small.Goals as goal
+use Rattle.pairing_laws.proofs.weights.the_next_value_is_small.Goals as goal
 
 pub returns : goal.returns
 returns c = λ context. next_in_order context.facts context.reached context.lower
