@@ -1,8 +1,9 @@
 -- The players of a bracket, in the penultimate one with all lower players, as a graph with costs (C.04.3 B.1, B.2, C.1 to C.5). What costs
 -- least is the bracket's shape.
-use Rattle.std.specs.Prelude.{◌≡◌, ℕ, ◌+◌, ◌-◌, ◌*◌, ◌%◌, ◌==◌, ◌≤◌, Bool, true, false, not, ◌&&◌, ◌||◌, ◌++◌, nat_le, if◌then◌else◌, length}
-use Rattle.dual.specs.Prelude.{Costs}
+use Rattle.std.specs.Prelude.{◌≡◌, ℕ, ◌+◌, ◌-◌, ◌*◌, ◌%◌, ◌==◌, ◌≤◌, Bool, true, false, not, ◌&&◌, ◌||◌, ◌++◌, nat_le, if◌then◌else◌, List, length}
+use Rattle.dual.specs.Prelude.{Costs, IsMatching, cost}
 use Rattle.dutch_order.specs.declared.bracket.Shape.{Shape}
+use Rattle.dutch_order.specs.Prelude.{numbers_from}
 use Rattle.dutch_bracket.specs.Prelude.{Context, FitsHere, eligible_here, ends_round, has_member, is_penultimate, number_may_be_left, numbers_meet, seat_of, seats_may_be_left, seats_meet}
 use Rattle.dutch_shape.specs.declared.certified.ShapeFloor.{ShapeFloor}
 
@@ -66,6 +67,12 @@ spare_cost context = if is_penultimate context.reached.kind && (count_all contex
 abbrev pub cost_of : Context → Shape → ℕ
 cost_of context shape =
     (4096 * ((length context.reached.seats - shape.pairs) - shape.pairs) + 2 * (context.reached.mdps - shape.mdps)) + spare_cost context
+
+-- no matching of the bracket's players, in the penultimate bracket with all lower ones, costs less than a shape
+abbrev pub CostsLeast : Context → Shape → Type 0
+CostsLeast context shape =
+    (pairs : List (ℕ × ℕ)) (out : List ℕ) → IsMatching (shape_costs context) (numbers_from 1 (count_all context)) pairs out
+    → cost_of context shape ≤ cost (shape_costs context) pairs out
 
 -- no shape that has a candidate that can be chosen costs less, beside what is owed, than a floor
 abbrev pub IsShapeFloor : Context → ShapeFloor → Type 0

@@ -5,6 +5,7 @@
 // Whoever finds the matching is not trusted: its certificate counts only if `dual` confirms it, and its pairs only if
 // they are those of a candidate that can be chosen.
 ghost use Rattle.std.specs.Prelude.{◌≡◌, ◌+◌, ◌<◌, ◌≤◌, ◌*◌, Some, IfOk, IfSome, true};
+ghost use Rattle.std.specs.Result.{MatchResult};
 ghost use Rattle.dutch_order.specs.Prelude.{MatchFound, Spends};
 ghost use Rattle.matching.specs.Matchings.{IsMatching};
 ghost use Rattle.dutch_bracket.specs.Prelude.{Context, shape_here};
@@ -19,7 +20,7 @@ use dutch_order::{Budget, Shape, Stopped, numbered_from};
 use std::alloc::{AllocError, Global};
 
 /// Of more players than so many no matching of least cost is looked for: the check takes room with their square.
-const MOST_PLAYERS: usize = 400;
+const MOST_PLAYERS: u64 = 400;
 
 /// What every shape that has a candidate that can be chosen costs at least, beside what is owed.
 #[derive(Drop)]
@@ -109,13 +110,6 @@ fn shape_by(
     Ok(Some(shape))
 }
 
-/// How many steps have to be left for a matching of so many players to be looked for: an eighth of their cube. Some
-/// take more.
-fn steps_for(players: usize) -> u64 {
-    let players = players as u64;
-    players.saturating_mul(players).saturating_mul(players) / 8
-}
-
 /// A matching of least cost. None says that it was not looked for, since too few steps are left or the players are too
 /// many, or that memory was refused.
 fn found(players: &Players<'_>, budget: &mut Budget) -> Result<Option<Found>, Stopped>
@@ -125,7 +119,9 @@ fn found(players: &Players<'_>, budget: &mut Budget) -> Result<Option<Found>, St
     ensures spends { Spends budget.old budget.new }
 {
     let mut left = budget.limit - budget.used;
-    if MOST_PLAYERS < players.count() || left < steps_for(players.count()) {
+    let count = players.count() as u64;
+    // An eighth of their cube has to be left; some take more.
+    if MOST_PLAYERS < count || left < count * count * count / 8 {
         return Ok(None);
     }
     let found = cheapest(players.alloc, players, &mut left);
@@ -137,26 +133,26 @@ fn found(players: &Players<'_>, budget: &mut Budget) -> Result<Option<Found>, St
     }
 }
 
-/// What a matching of least cost tells of a bracket's shape. None says that it was not looked for, or not confirmed.
-pub(crate) fn told_by_cost(
-    players: &Players<'_>,
-    budget: &mut Budget,
-) -> Result<Option<Told>, Stopped>
-    ensures answer { MatchFound result
+/// What a matching of least cost tells of a bracket's shape: nothing if it was not looked for, or not confirmed.
+pub(crate) fn told_by_cost(players: &Players<'_>, budget: &mut Budget) -> Result<Told, Stopped>
+    ensures answer { MatchResult result
         (λ told. IsShapeFloor players.now told.floor
         × IfSome told.shape (λ shape. shape_here players.now ≡ Some shape))
-        (Unit {0})
-        (budget.new.used ≡ budget.new.limit) }
+        (λ _. budget.new.used ≡ budget.new.limit) }
     ensures spends { Spends budget.old budget.new }
 {
+    let nothing = Told {
+        floor: ShapeFloor::none(),
+        shape: None,
+    };
     let Some(found) = found(players, budget)? else {
-        return Ok(None);
+        return Ok(nothing);
     };
     let count = players.count() as u64;
     spend(count * count, budget)?;
     let Ok(Some(floor)) = confirmed(players, &found.certificate) else {
-        return Ok(None);
+        return Ok(nothing);
     };
     let shape = shape_by(players, &found.partners, &floor, budget)?;
-    Ok(Some(Told { floor, shape }))
+    Ok(Told { floor, shape })
 }

@@ -53,10 +53,7 @@ fn shape_by_cost(
         rule,
         lower: &[],
     };
-    match told_by_cost(&players, budget)? {
-        Some(told) => Ok(told.shape),
-        None => Ok(None),
-    }
+    Ok(told_by_cost(&players, budget)?.shape)
 }
 
 /// What a bracket is by its shape, if all S1 of it give one PSD; otherwise none.

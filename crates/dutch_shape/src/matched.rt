@@ -1,9 +1,9 @@
 // What a matching of a bracket's players is to the bracket (C.04.3 B.1 to B.3): its pairs, their shape, and whom they
 // leave over, who have to be paired out in the penultimate bracket (C.4).
-ghost use Rattle.std.specs.Prelude.{◌≡◌, ◌≤◌, ◌++◌, IfOk, filter, length, map, true};
+ghost use Rattle.std.specs.Prelude.{◌≡◌, ◌≤◌, IfOk, filter, length, true};
 ghost use Rattle.dutch_order.specs.Prelude.{MatchDrawn, Spends, leaves_one};
 ghost use Rattle.dutch_sequence.specs.declared.numbers.TheConstants.{LIMIT};
-ghost use Rattle.dutch_bracket.specs.Prelude.{AllNumbers, Decides, IsOf, completable, number_may_be_left, seat_of};
+ghost use Rattle.dutch_bracket.specs.Prelude.{AllNumbers, Decides, IsOf, number_may_be_left};
 ghost use Rattle.dutch_shape.specs.Mates.{goes_first, has_mate, mate_of, matched_shape, may_leave, unmated};
 
 use crate::players::Players;
@@ -82,24 +82,6 @@ fn leaves_one(rule: ByNumber<'_>, alone: &[u16]) -> bool
     }
 }
 
-/// Whether these numbers can be paired out with all lower players.
-fn are_completable(
-    players: &Players<'_>,
-    alone: &[u16],
-    budget: &mut Budget,
-) -> Result<bool, Stopped>
-    requires numbers { AllNumbers players.now.reached.seats alone.now }
-    requires few { length alone.now ≤ length players.now.reached.seats }
-    ensures answer { Decides result
-        (completable players.now.facts (map (seat_of players.now.reached.seats) alone.now ++ players.now.lower))
-        (budget.new.used ≡ budget.new.limit) }
-    ensures spends { Spends budget.old budget.new }
-{
-    let mut all = Seats::new();
-    fill_with_lower(players.rule.reached, alone, players.lower, &mut all);
-    can_complete(players.alloc, players.rule.field, &all, budget)
-}
-
 /// Whether a candidate that can be chosen may leave these numbers over (C.2, C.4).
 fn may_leave(players: &Players<'_>, alone: &[u16], budget: &mut Budget) -> Result<bool, Stopped>
     requires numbers { AllNumbers players.now.reached.seats alone.now }
@@ -108,7 +90,9 @@ fn may_leave(players: &Players<'_>, alone: &[u16], budget: &mut Budget) -> Resul
     ensures spends { Spends budget.old budget.new }
 {
     if players.rule.reached.kind().is_penultimate() {
-        return are_completable(players, alone, budget);
+        let mut all = Seats::new();
+        fill_with_lower(players.rule.reached, alone, players.lower, &mut all);
+        return can_complete(players.alloc, players.rule.field, &all, budget);
     }
     Ok(!players.rule.reached.kind().ends_round() || leaves_one(players.rule, alone))
 }

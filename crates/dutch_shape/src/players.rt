@@ -51,13 +51,6 @@ impl<'a> Model for Players<'a> {
     ghost invariant = { λ p. length p.rule.reached.now.seats + length p.lower.now ≤ LIMIT };
 }
 
-/// A number of a list, 0 past its end.
-fn at(list: &[u16], place: usize) -> u16
-    ensures { result ≡ slice_index list.now place }
-{
-    if place < list.len() { list[place] } else { 0 }
-}
-
 impl<'a> Players<'a> {
     /// The players of a bracket above all lower seats.
     pub(crate) fn of(context: &Context<'a>) -> Players<'a>
@@ -95,9 +88,11 @@ impl<'a> Players<'a> {
     {
         let place = usize::from(number).saturating_sub(1);
         if place < self.rule.len() {
-            at(self.rule.reached.seats(), place)
-        } else {
-            at(self.lower, place - self.rule.len())
+            return self.rule.reached.seats()[place];
+        }
+        match self.lower.get(place - self.rule.len()) {
+            Some(seat) => *seat,
+            None => 0,
         }
     }
 

@@ -76,46 +76,8 @@ impl<'a, 'b, 'c> Shapes<ByNumber<'c>> for Asked<'a, 'b> {
     }
 }
 
-/// The shape, by the whole listing above a floor.
-#[tactic(auto, unfolding(dutch_bracket::specs::Brackets::shape_of))]
-fn listed_shape<'b>(
-    context: &Context<'_>,
-    floor: ShapeFloor,
-    lister: &mut Lister<'_, ByNumber<'b>>,
-    budget: &mut Budget,
-) -> Result<Option<Shape>, Stopped>
-    requires floor { IsShapeFloor context.now floor }
-    requires lists { ListsHere context.now lister.old.listing }
-    ensures answer { MatchResult result (λ shape. shape_here context.now ≡ shape)
-        (λ _. budget.new.used ≡ budget.new.limit) }
-    ensures spends { Spends budget.old budget.new }
-{
-    let asked = Asked { context, floor };
-    greatest_shape(&asked, lister, budget)
-}
-
-/// The shape, by a matching of least cost, and where that does not tell it, by the whole listing above its floor.
-fn costed_shape<'b>(
-    context: &Context<'_>,
-    lister: &mut Lister<'_, ByNumber<'b>>,
-    budget: &mut Budget,
-) -> Result<Option<Shape>, Stopped>
-    requires lists { ListsHere context.now lister.old.listing }
-    ensures answer { MatchResult result (λ shape. shape_here context.now ≡ shape)
-        (λ _. budget.new.used ≡ budget.new.limit) }
-    ensures spends { Spends budget.old budget.new }
-{
-    let Some(told) = told_by_cost(&Players::of(context), budget)? else {
-        return listed_shape(context, ShapeFloor::none(), lister, budget);
-    };
-    if let Some(shape) = told.shape {
-        return Ok(Some(shape));
-    }
-    listed_shape(context, told.floor, lister, budget)
-}
-
-/// The shape: by a listing of few steps, then by matchings if they can be had, and where they do not tell it, by the
-/// whole listing within what they allow.
+/// The shape: by a listing of few steps, then by a matching of least cost, and where that does not tell it, by the whole
+/// listing above its floor.
 #[tactic(auto, unfolding(dutch_bracket::specs::Brackets::shape_of))]
 fn found_shape<'b>(
     context: &Context<'_>,
@@ -127,14 +89,19 @@ fn found_shape<'b>(
         (λ _. budget.new.used ≡ budget.new.limit) }
     ensures spends { Spends budget.old budget.new }
 {
-    let asked = Asked {
+    let mut asked = Asked {
         context,
         floor: ShapeFloor::none(),
     };
     if let Some(shape) = decided_in_few_steps(&asked, lister, budget)? {
         return Ok(shape);
     }
-    costed_shape(context, lister, budget)
+    let told = told_by_cost(&Players::of(context), budget)?;
+    if let Some(shape) = told.shape {
+        return Ok(Some(shape));
+    }
+    asked.floor = told.floor;
+    greatest_shape(&asked, lister, budget)
 }
 
 /// The shape of a bracket of a field above all lower seats by rank: of the shapes that have a candidate, the one with
