@@ -51,11 +51,11 @@ shape_costs context = record {
   left_cost = λ a. alone_cost context a + bye_cost context;
 }
 
--- a vertex for each number, and the vertex 0, which is joined to nobody
+-- a vertex for each number, and the vertex 0, which is joined to nobody [with CostsLeast]
 abbrev pub vertices : Context → ℕ
 vertices context = count_all context + 1
 
--- two vertices are joined if they may be paired, in the bracket or out of it
+-- two vertices are joined if they may be paired, in the bracket or out of it [with CostsLeast]
 abbrev pub joined : Context → ℕ → ℕ → Bool
 joined context = (shape_costs context).meets
 
@@ -68,7 +68,7 @@ abbrev pub cost_of : Context → Shape → ℕ
 cost_of context shape =
     (4096 * ((length context.reached.seats - shape.pairs) - shape.pairs) + 2 * (context.reached.mdps - shape.mdps)) + spare_cost context
 
--- no matching of the bracket's players, in the penultimate bracket with all lower ones, costs less than a shape
+-- no matching of the bracket's players, in the penultimate bracket with all lower ones, costs less than a shape [C.4, C.5, B.1]
 abbrev pub CostsLeast : Context → Shape → Type 0
 CostsLeast context shape =
     (pairs : List (ℕ × ℕ)) (out : List ℕ) → IsMatching (shape_costs context) (numbers_from 1 (count_all context)) pairs out
