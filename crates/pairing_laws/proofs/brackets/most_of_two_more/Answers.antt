@@ -9,7 +9,7 @@ two_more n = omega arith
 one_more : (n : ℕ) → n + 1 ≡ suc n
 one_more n = omega arith
 
-by_two : (n : ℕ) (bye : Bool) → most (n + 2) bye ≡ (n + 1) * (1 + most n bye) + (0 + most_of_bye (most (suc n) false) bye)
+by_two : (n : ℕ) (bye : Bool) → most (n + 2) bye ≡ (n + 1) * (1 + most n bye) + most_of_bye (most (suc n) false) bye
 by_two n bye = ap (λ m. most m bye) (two_more n)
 
 pub returns-clause-nobody_left : goal.returns-clause-nobody_left
