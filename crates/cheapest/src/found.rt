@@ -43,8 +43,11 @@ impl Forest {
     }
 }
 
-/// Finds a matching of a graph with costs, with a certificate. Each vertex that is asked about takes one of the steps
-/// left; where none is left, the search is stopped.
+/// A step is as long as a look at so many vertices, which takes far less time than a step of a walk.
+const LOOKS_IN_A_STEP: u64 = 3;
+
+/// Finds a matching of a graph with costs, with a certificate. Each three looks from a vertex at another one take one of
+/// the steps left; where none is left, the search is stopped.
 pub fn cheapest<C: Costs>(alloc: Global, costs: &C, left: &mut u64) -> Result<Found, Fault>
     ensures matching { IfOk result
         (λ found. IsMatching (C.vertices costs.now) (C.joined costs.now) found.partners.items) }
@@ -55,5 +58,8 @@ pub fn cheapest<C: Costs>(alloc: Global, costs: &C, left: &mut u64) -> Result<Fo
     let size = costs.size();
     let nodes = size.checked_mul(2).ok_or(Fault::TooGreat)?;
     let mut forest = Forest::new(alloc, size, nodes);
-    forest.find(alloc, costs, left)
+    let mut looks = left.saturating_mul(LOOKS_IN_A_STEP);
+    let found = forest.find(alloc, costs, &mut looks);
+    *left = (looks / LOOKS_IN_A_STEP).min(*left);
+    found
 }

@@ -204,7 +204,7 @@ impl<'a> Guide for BothFloors<'a> {
         // (weights are large: those of before go first)
         self.weights = None;
         if is_weighed(context, next) {
-            spend((count * count) as u64, budget)?;
+            spend((count * count) as u64 / 3, budget)?;
             // (where memory is refused or a weight does not fit, no floors are found)
             if let Ok(Some(weights)) = WeightFloors::weighed(context, shape, next) {
                 return self.weigh_by(weights, wish, room, budget);

@@ -209,11 +209,11 @@ module _ (context : Context) where
 
     -- ---- a matching of the graph
 
-    record Whole : Type 0 where
-      pairs_all : List (ℕ × ℕ)
-      out : List ℕ
-      matching : IsMatching (shape_costs context) (numbers_from 1 (count_all context)) pairs_all out
-      no_more : cost (shape_costs context) pairs_all out ≤ cost_of context shape
+    pub record Whole : Type 0 where
+      pub pairs_all : List (ℕ × ℕ)
+      pub out : List ℕ
+      pub matching : IsMatching (shape_costs context) (numbers_from 1 (count_all context)) pairs_all out
+      pub no_more : cost (shape_costs context) pairs_all out ≤ cost_of context shape
 
     meets_pair : (pair : ℕ × ℕ) → IsPair pair → (shape_costs context).meets pair.0 pair.1 ≡ true
     meets_pair pair e = or_left (are_pair context pair.0 pair.1) (are_paired_out context pair.0 pair.1) e
@@ -390,7 +390,7 @@ module _ (context : Context) where
       }
 
     -- a candidate that can be chosen
-    whole_of : (t : Bool) → is_penultimate context.reached.kind ≡ t
+    pub whole_of : (t : Bool) → is_penultimate context.reached.kind ≡ t
         → (not t || completable facts (downfloaters facts reached a ++ context.lower)) ≡ true → Whole
     unfolding completable
     whole_of true again can =

@@ -120,8 +120,8 @@ fn found(players: &Players<'_>, budget: &mut Budget) -> Result<Option<Found>, St
 {
     let mut left = budget.limit - budget.used;
     let count = players.count() as u64;
-    // An eighth of their cube has to be left; some take more.
-    if MOST_PLAYERS < count || left < count * count * count / 8 {
+    // A twenty-fourth of their cube has to be left; some take more.
+    if MOST_PLAYERS < count || left < count * count * count / 24 {
         return Ok(None);
     }
     let found = cheapest(players.alloc, players, &mut left);
@@ -149,7 +149,7 @@ pub(crate) fn told_by_cost(players: &Players<'_>, budget: &mut Budget) -> Result
         return Ok(nothing);
     };
     let count = players.count() as u64;
-    spend(count * count, budget)?;
+    spend(count * count / 3, budget)?;
     let Ok(Some(floor)) = confirmed(players, &found.certificate) else {
         return Ok(nothing);
     };

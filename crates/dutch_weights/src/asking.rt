@@ -146,11 +146,11 @@ fn nth_resident(mdps: usize, count: usize, pairs: &[Pair], place: usize) -> Opti
     None
 }
 
-/// How many steps have to be left for a matching of so many players to be looked for: an eighth of their cube. Some
-/// take more.
+/// How many steps have to be left for a matching of so many players to be looked for: a twenty-fourth of their cube.
+/// Some take more.
 fn steps_for(players: usize) -> u64 {
     let players = players as u64;
-    players.saturating_mul(players).saturating_mul(players) / 8
+    players.saturating_mul(players).saturating_mul(players) / 24
 }
 
 impl<'a> WeightFloors<'a> {
@@ -220,7 +220,7 @@ impl<'a> WeightFloors<'a> {
         let Some(proposal) = proposal? else {
             return Ok(None);
         };
-        spend((count * count) as u64, budget)?;
+        spend((count * count) as u64 / 3, budget)?;
         match self.put(&proposal.table, asked.scope, order) {
             Ok(true) => Ok(Some(proposal.matched)),
             _ => Ok(None),

@@ -302,7 +302,7 @@ fn triangles(rt: HostRuntime) -> Result<(), Fail> {
 
 #[test]
 fn too_few_steps(rt: HostRuntime) {
-    let mut left = 5;
+    let mut left = 1;
     let found = cheapest(rt.alloc(), &tailed(4), &mut left);
     assert!(rt; matches!(found, Err(Fault::Stopped)) && left == 0);
 }
