@@ -9,7 +9,7 @@ use dual::Wide;
 
 /// What can be done with labels that have come down so far.
 #[derive(Clone, Copy)]
-pub(crate) enum Deed {
+pub(crate) enum NextMove {
     /// The pair of an outer vertex and another one can be taken.
     Join(u16, u16),
     /// An inner blossom has a label of 0.
@@ -18,11 +18,11 @@ pub(crate) enum Deed {
     Leave(u16),
 }
 
-/// A deed, and by how much the labels have to change before it can be done.
+/// A move, and by how much the labels have to change before it can be done.
 #[derive(Clone, Copy)]
 pub(crate) struct Event {
     pub(crate) by: Wide,
-    pub(crate) deed: Deed,
+    pub(crate) next_move: NextMove,
 }
 
 // The one of two events that comes first.
@@ -42,7 +42,7 @@ impl Forest {
         }
         Some(Event {
             by: self.label(v),
-            deed: Deed::Leave(v),
+            next_move: NextMove::Leave(v),
         })
     }
 
@@ -62,7 +62,7 @@ impl Forest {
         };
         Ok(Some(Event {
             by,
-            deed: Deed::Join(u, v),
+            next_move: NextMove::Join(u, v),
         }))
     }
 
@@ -74,7 +74,7 @@ impl Forest {
         }
         Some(Event {
             by: self.label(node).halved(),
-            deed: Deed::Expand(node),
+            next_move: NextMove::Expand(node),
         })
     }
 

@@ -3,7 +3,7 @@
 ghost use Rattle.std.specs.Prelude.{◌≡◌, ◌≤◌, IfErr};
 ghost use Rattle.cheapest.specs.declared.fault.Fault.TheVariants.{Stopped};
 
-use crate::events::Deed;
+use crate::events::NextMove;
 use crate::fault::Fault;
 use crate::forest::{Forest, Mark};
 
@@ -57,14 +57,14 @@ impl Forest {
     }
 
     // Does what can be done; whether the search is at its end.
-    fn act(&mut self, deed: Deed) -> bool {
-        match deed {
-            Deed::Join(u, v) => self.join(u, v),
-            Deed::Expand(blossom) => {
+    fn act(&mut self, next_move: NextMove) -> bool {
+        match next_move {
+            NextMove::Join(u, v) => self.join(u, v),
+            NextMove::Expand(blossom) => {
                 self.expand(blossom);
                 false
             }
-            Deed::Leave(v) => {
+            NextMove::Leave(v) => {
                 self.pair_up_to_root(v, None);
                 true
             }
@@ -82,7 +82,7 @@ impl Forest {
             return Ok(true);
         };
         self.adjust(event.by)?;
-        Ok(self.act(event.deed))
+        Ok(self.act(event.next_move))
     }
 
     // Searches from a vertex that is alone, and forgets the tree of the search before. Each node is grown, folded and

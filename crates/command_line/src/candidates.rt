@@ -17,7 +17,7 @@ use replies::views::{not_seen, read_before};
 use replies::{Reply, Status, texts};
 use requests::CandidatesOptions;
 use round_lines::bracket_texts;
-use round_lines::listing::{Bracket, Coming, Listed, lines};
+use round_lines::listing::{Bracket, Listed, RemainingCandidates, lines};
 use std::alloc::{AllocError, Global};
 use trf16::Report;
 
@@ -157,7 +157,7 @@ fn list_coming<'a, R: Rule>(
         field: asked.field,
         reached: asked.reached,
     };
-    let coming = Coming {
+    let coming = RemainingCandidates {
         bracket,
         candidates,
     };

@@ -22,7 +22,7 @@ pub fn is_float(float: Float, had: Option<Float>) -> bool
 
 /// A float in the last round of a field (1) or in the one before it (2).
 #[derive(Clone, Copy)]
-pub struct Past<'a> {
+pub struct FloatRound<'a> {
     pub field: &'a Field,
     pub float: Float,
     pub back: u8,
@@ -30,16 +30,16 @@ pub struct Past<'a> {
     ghost two: { back ≤ 2 },
 }
 
-impl<'a> Past<'a> {
+impl<'a> FloatRound<'a> {
     /// A float so many rounds ago.
-    pub fn new(field: &'a Field, float: Float, back: u8) -> Past<'a>
+    pub fn new(field: &'a Field, float: Float, back: u8) -> FloatRound<'a>
         requires one { 1 ≤ back }
         requires two { back ≤ 2 }
         ensures field { result.field.now ≡ field.now }
         ensures float { result.float ≡ float }
         ensures back { result.back ≡ back }
     {
-        Past { field, float, back }
+        FloatRound { field, float, back }
     }
 
     /// Whether a seat had it.
@@ -52,7 +52,7 @@ impl<'a> Past<'a> {
 }
 
 /// Puts the differences of the players of pairs who float as in a round before to their places.
-fn put_pairs(past: Past<'_>, pairs: &[Pair], by: &mut Numbers)
+fn put_pairs(past: FloatRound<'_>, pairs: &[Pair], by: &mut Numbers)
     requires inside { AllPairs past.field.now pairs.now }
     requires room { array_vec_len by.old + length pairs.now ≤ LIMIT }
     ensures items { by.new.items ≡ placed_all by.old.items
@@ -71,7 +71,7 @@ fn put_pairs(past: Past<'_>, pairs: &[Pair], by: &mut Numbers)
 }
 
 /// The same of downfloaters.
-fn put_down(past: Past<'_>, least: u16, down: &[u16], by: &mut Numbers)
+fn put_down(past: FloatRound<'_>, least: u16, down: &[u16], by: &mut Numbers)
     requires inside { AreSeats past.field.now down.now }
     requires room { array_vec_len by.old + length down.now ≤ LIMIT }
     ensures items { by.new.items ≡ placed_all by.old.items
@@ -95,7 +95,7 @@ pub(crate) fn fill_down_again(field: &Field, candidate: &Seated, back: u8, by: &
     ensures { by.new.items ≡ differences (again field.now Down back (going_down field.now candidate.now)) }
 {
     by.clear();
-    let past = Past::new(field, Float::Down, back);
+    let past = FloatRound::new(field, Float::Down, back);
     put_pairs(past, &candidate.pairs, by);
     put_down(past, candidate.lowest, &candidate.down, by);
 }
@@ -109,5 +109,9 @@ pub(crate) fn fill_up_again(field: &Field, candidate: &Seated, back: u8, by: &mu
     ensures { by.new.items ≡ differences (again field.now Up back (going_up field.now candidate.now)) }
 {
     by.clear();
-    put_pairs(Past::new(field, Float::Up, back), &candidate.pairs, by);
+    put_pairs(
+        FloatRound::new(field, Float::Up, back),
+        &candidate.pairs,
+        by,
+    );
 }

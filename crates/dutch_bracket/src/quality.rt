@@ -10,7 +10,6 @@ use crate::colours_missed::{Miss, count_in_pairs, count_with_topscorers};
 use crate::differences::fill_psd;
 use crate::floats::{fill_down_again, fill_up_again};
 use crate::reached::push_all;
-use crate::scope::Scope;
 use crate::seated::Seated;
 use dutch_order::{Candidate, LIMIT, Numbers};
 use dutch_player::Field;
@@ -236,14 +235,12 @@ impl Quality {
 }
 
 /// Where a quality is worked out, filled anew for each candidate and each beginning: its players by seats, its items,
-/// and those with whom S1R can still be paired, by number. And which arrangements have the S1 and the S1R of the last
-/// beginning.
+/// and those with whom S1R can still be paired, by number.
 #[derive(Default, Drop)]
 pub struct Room {
     pub seated: Seated,
     pub quality: Quality,
     pub pool: Numbers,
-    pub scope: Scope,
 }
 
 /// Fills a quality with the items of a candidate by seats, except those of C.6, C.7, C.10 and C.11, which stay.

@@ -12,7 +12,7 @@ ghost use Rattle.dutch_order.specs.declared.bracket.Shape.{Shape};
 use crate::pass::Search;
 use crate::wish::Wish;
 use dutch_bracket::greatest::Lister;
-use dutch_bracket::quality::{Quality, Room};
+use dutch_bracket::quality::Quality;
 use dutch_bracket::reached::ByNumber;
 use dutch_order::{Budget, Stopped};
 
@@ -27,7 +27,6 @@ pub trait Guide {
         &mut self,
         search: Search<'_, '_>,
         lister: &mut Lister<'_, ByNumber<'_>>,
-        room: &mut Room,
         budget: &mut Budget,
     ) -> Result<bool, Stopped>
         requires known { knows self.old search.pass.now.shaped.context.now search.pass.now.shaped.shape }
@@ -51,7 +50,6 @@ pub trait Guide {
         &mut self,
         wish: Option<Wish>,
         next: bool,
-        room: &mut Room,
         budget: &mut Budget,
     ) -> Result<Option<Quality>, Stopped>
         ensures known { (context : Context) (shape : Shape) → knows self.old context shape

@@ -75,12 +75,10 @@ fn best_near<'a, G: Guide>(
 {
     lister.listing.restart(pass.shaped.shape);
     let mut kept = None;
-    while judge.guide.draw(
-        Search { pass, kept: &kept },
-        lister,
-        &mut judge.room,
-        budget,
-    )? {
+    while judge
+        .guide
+        .draw(Search { pass, kept: &kept }, lister, budget)?
+    {
         consider(pass, &lister.drawn, &mut kept, judge, budget)?;
     }
     Ok(kept)
@@ -201,7 +199,7 @@ fn best_by_weight<G: Guide>(
     ensures spends { Spends budget.old budget.new }
 {
     let left = budget.limit - budget.used;
-    pass.aim = judge.guide.weigh(pass.wish, next, &mut judge.room, budget)?;
+    pass.aim = judge.guide.weigh(pass.wish, next, budget)?;
     let steps = if tells_next(pass, &judge.guide) && !next {
         left / 4
     } else {

@@ -23,7 +23,7 @@ use dutch_bracket::quality::{NextValue, Quality, Room, fill_quality};
 use dutch_bracket::reached::{BracketKind, Reached, Seats, copied, push_all};
 use dutch_order::{Budget, Candidate, LIMIT, Numbers, Stopped};
 use dutch_player::Field;
-use dutch_shape::lookahead::{Above, value_below};
+use dutch_shape::lookahead::{BracketAboveGroup, value_below};
 use lru::LruCache;
 use std::alloc::Global;
 use std::marker::Model;
@@ -155,7 +155,7 @@ impl<'a> LookAhead<'a> {
         ensures kept { MatchResult result (λ _. IsUsed down.now self.old self.new) (λ _. self.new ≡ self.old) }
         ensures spends { Spends budget.old budget.new }
     {
-        let above = Above {
+        let above = BracketAboveGroup {
             alloc: Some(self.alloc),
             field: self.field,
             reached: self.reached,

@@ -11,7 +11,7 @@ ghost use Rattle.dutch_pair.specs.Outcomes.{IsStage};
 use crate::stage::Stage;
 use dutch_bracket::colours_missed::{Miss, has_topscorer, misses};
 use dutch_bracket::differences::put;
-use dutch_bracket::floats::Past;
+use dutch_bracket::floats::FloatRound;
 use dutch_bracket::item::Item;
 use dutch_bracket::reached::Seats;
 use dutch_bracket::seated::{Pair, Seated, by_seats, goes, is_uneven};
@@ -83,7 +83,7 @@ fn put_with_topscorers(field: &Field, miss: Miss, pairs: &[Pair], seats: &mut Se
 }
 
 /// Puts the players of pairs who float as in a round before to their places.
-fn put_again(past: Past<'_>, pairs: &[Pair], seats: &mut Seats)
+fn put_again(past: FloatRound<'_>, pairs: &[Pair], seats: &mut Seats)
     requires inside { AllPairs past.field.now pairs.now }
     requires room { array_vec_len seats.old + length pairs.now ≤ LIMIT }
     ensures items { seats.new.items ≡ placed_all seats.old.items
@@ -102,7 +102,7 @@ fn put_again(past: Past<'_>, pairs: &[Pair], seats: &mut Seats)
 }
 
 /// The same of downfloaters.
-fn put_down_again(past: Past<'_>, least: u16, down: &[u16], seats: &mut Seats)
+fn put_down_again(past: FloatRound<'_>, least: u16, down: &[u16], seats: &mut Seats)
     requires inside { AreSeats past.field.now down.now }
     requires room { array_vec_len seats.old + length down.now ≤ LIMIT }
     ensures { seats.new.items ≡ placed_all seats.old.items
@@ -126,7 +126,7 @@ fn fill_going_down(field: &Field, back: u8, candidate: &Seated, seats: &mut Seat
         ≡ highest_first (seats_of (again field.now Down back (going_down field.now candidate.now))) }
 {
     seats.clear();
-    let past = Past::new(field, Float::Down, back);
+    let past = FloatRound::new(field, Float::Down, back);
     put_again(past, &candidate.pairs, seats);
     put_down_again(past, candidate.lowest, &candidate.down, seats);
 }
@@ -146,9 +146,9 @@ fn fill_counted(field: &Field, candidate: &Seated, item: Item, seats: &mut Seats
         Item::MissedPreferences => put_pairs(field, Miss::Preference, pairs, seats),
         Item::MissedStrong => put_pairs(field, Miss::StrongPreference, pairs, seats),
         Item::DownAgain => fill_going_down(field, 1, candidate, seats),
-        Item::UpAgain => put_again(Past::new(field, Float::Up, 1), pairs, seats),
+        Item::UpAgain => put_again(FloatRound::new(field, Float::Up, 1), pairs, seats),
         Item::DownAgainBefore => fill_going_down(field, 2, candidate, seats),
-        Item::UpAgainBefore => put_again(Past::new(field, Float::Up, 2), pairs, seats),
+        Item::UpAgainBefore => put_again(FloatRound::new(field, Float::Up, 2), pairs, seats),
         Item::Psd
         | Item::NextBracket
         | Item::DownAgainBy

@@ -8,13 +8,12 @@ use crate::both::BothFloors;
 use crate::skipper::premise_with;
 use dutch_bracket::context::Context;
 use dutch_bracket::differences::put;
-use dutch_bracket::quality::{NextValue, Quality, Room, fill_seated};
+use dutch_bracket::quality::{NextValue, Quality, fill_seated};
 use dutch_bracket::seated::{Pair, Seated, difference_down};
 use dutch_choice::wish::Wish;
 use dutch_order::{LIMIT, Numbers};
 use dutch_weights::asking::Matched;
-use dutch_weights::rest::is_in;
-use std::mem::take;
+use dutch_weights::unpaired_graph::is_in;
 
 /// Puts the pairs of a matching to others, as far as there is room.
 fn put_matched(context: &Context<'_>, pairs: &[Pair], seated: &mut Seated)
@@ -114,12 +113,12 @@ impl<'a> BothFloors<'a> {
 
     /// The quality of a matching of a bracket by number. Where the scale has not all its differences, it is a little
     /// worse.
-    fn aim_by(&self, context: &Context<'_>, matched: &Matched, room: &mut Room) -> Quality {
-        seat_matching(context, &matched.pairs, &mut room.seated);
-        fill_seated(context.field(), &room.seated, &mut room.quality);
+    fn aim_by(&self, context: &Context<'_>, matched: &Matched) -> Quality {
+        let (mut seated, mut aim) = (Seated::default(), Quality::default());
+        seat_matching(context, &matched.pairs, &mut seated);
+        fill_seated(context.field(), &seated, &mut aim);
         let next = self.next_by(context, matched);
-        room.quality.put_next(next.pairs, &next.psd);
-        let aim = take(&mut room.quality);
+        aim.put_next(next.pairs, &next.psd);
         match &self.weights {
             Some(weights) if weights.measures(&aim) => aim,
             _ => aim.without_differences(),
@@ -128,16 +127,11 @@ impl<'a> BothFloors<'a> {
 
     /// What a pass aims at: the quality of a matching, if one was found that has as many pairs as the shape, and
     /// nothing is wished; else what floors by counts tell.
-    pub(crate) fn aim_for(
-        &self,
-        wish: Option<Wish>,
-        found: &Option<Matched>,
-        room: &mut Room,
-    ) -> Option<Quality> {
+    pub(crate) fn aim_for(&self, wish: Option<Wish>, found: &Option<Matched>) -> Option<Quality> {
         let (context, pairs) = (self.shaped.context, self.shaped.shape.pairs);
         match (found, wish) {
             (Some(matched), None) if matched.pairs.len() == pairs => {
-                Some(self.aim_by(context, matched, room))
+                Some(self.aim_by(context, matched))
             }
             _ => self.counts.aim(premise_with(context, wish)),
         }

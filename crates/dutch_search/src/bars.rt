@@ -5,9 +5,8 @@ ghost use Rattle.dutch_bracket.specs.Prelude.{quality_in};
 ghost use Rattle.dutch_weights.specs.Prelude.{HasBar};
 ghost use Rattle.dutch_choice.specs.Prelude.{aim_in, kept_in};
 ghost use Rattle.dutch_floors.specs.Behind.{IsBasisFor};
-ghost use Rattle.dutch_search.specs.Searching.{AreFor, HasWeights};
+ghost use Rattle.dutch_search.specs.Searching.{HasWeights};
 
-use crate::both::BothFloors;
 use dutch_bracket::quality::Quality;
 use dutch_choice::pass::{Best, Pass, Search};
 use dutch_floors::floor::Floors;
@@ -73,15 +72,20 @@ pub(crate) struct Skipper<'a, 'k> {
 
 impl<'a, 'k> Skipper<'a, 'k> {
     /// What tells by an aim, by what is kept and by floors of both kinds.
-    pub fn new(search: Search<'a, 'k>, floors: &'k BothFloors<'k>) -> Skipper<'a, 'k>
-        requires { AreFor search.pass.now floors.now }
+    pub fn new(
+        search: Search<'a, 'k>,
+        counts: &'k Floors<'k>,
+        weights: &'k Option<WeightFloors<'k>>,
+    ) -> Skipper<'a, 'k>
+        requires counts { IsBasisFor search.pass.now.shaped counts.now }
+        requires weights { HasWeights search.pass.now weights.now }
         ensures { result.search ≡ search.entry }
     {
-        let bars = bars_of(search, &floors.weights);
+        let bars = bars_of(search, weights);
         Skipper {
             search,
-            counts: &floors.counts,
-            weights: &floors.weights,
+            counts,
+            weights,
             bars,
         }
     }

@@ -11,8 +11,9 @@ ghost use Rattle.dutch_weights.specs.Prelude.{AreOf};
 use crate::bars::{Skipper, bars_of};
 use crate::both::{BothFloors, PAIRS_FOR_A_STEP, is_weighed};
 use crate::skipper::premise_with;
+use crate::workroom::LastBeginning;
 use dutch_bracket::greatest::Lister;
-use dutch_bracket::quality::{Quality, Room};
+use dutch_bracket::quality::Quality;
 use dutch_bracket::reached::ByNumber;
 use dutch_bracket::scope::Scope;
 use dutch_bracket::spending::spend;
@@ -20,7 +21,7 @@ use dutch_choice::guide::Guide;
 use dutch_choice::pass::Search;
 use dutch_choice::wish::Wish;
 use dutch_order::{BoundWithRoom, Budget, Shape, Step, Stopped};
-use dutch_weights::asking::Asked;
+use dutch_weights::asking::FloorRequest;
 use dutch_weights::weight_floor::WeightFloors;
 
 /// A walk is told more so many times at most.
@@ -67,13 +68,12 @@ impl<'a> BothFloors<'a> {
 
     /// Draws the next candidate that may be of interest, in one turn.
     fn draw_once(
-        &self,
+        &mut self,
         search: Search<'_, '_>,
         lister: &mut Lister<'_, ByNumber<'_>>,
-        room: &mut Room,
         budget: &mut Budget,
     ) -> Step<()>
-        requires known { AreFor search.pass.now self.now }
+        requires known { AreFor search.pass.now self.old }
         requires lists { ListsFor search.pass.now lister.old.listing }
         requires shape { lister.old.listing.shape ≡ search.pass.now.shaped.shape }
         ensures answer { MatchStep result
@@ -84,10 +84,14 @@ impl<'a> BothFloors<'a> {
         ensures frame { lister.new.listing.frame ≡ lister.old.listing.frame }
         ensures shape { lister.new.listing.shape ≡ lister.old.listing.shape }
         ensures rule { lister.new.listing.rule ≡ lister.old.listing.rule }
+        ensures context { self.new.shaped.context.now ≡ self.old.shaped.context.now }
+        ensures of_shape { self.new.shaped.shape ≡ self.old.shaped.shape }
+        ensures counts { self.new.counts ≡ self.old.counts }
+        ensures weights { self.new.weights ≡ self.old.weights }
         ensures spends { Spends budget.old budget.new }
     {
-        let skipper = Skipper::new(search, self);
-        let within = BoundWithRoom::new(&skipper, room);
+        let skipper = Skipper::new(search, &self.counts, &self.weights);
+        let within = BoundWithRoom::new(&skipper, &mut self.work);
         lister
             .listing
             .put_next_within(&within, &mut lister.drawn, budget)
@@ -98,7 +102,6 @@ impl<'a> BothFloors<'a> {
         &mut self,
         weights: WeightFloors<'a>,
         wish: Option<Wish>,
-        room: &mut Room,
         budget: &mut Budget,
     ) -> Result<Option<Quality>, Stopped>
         requires of { AreOf self.old.shaped.context.now self.old.shaped.shape weights }
@@ -112,23 +115,18 @@ impl<'a> BothFloors<'a> {
     {
         let mut weights = weights;
         let before = budget.used;
-        let all = Asked {
+        let all = FloorRequest {
             scope: &Scope::all(),
             pairs: &[],
         };
         let found = weights.ask(&all, budget)?;
         weights.note(before, budget.used);
         self.weights = Some(weights);
-        Ok(self.aim_for(wish, &found, room))
+        Ok(self.aim_for(wish, &found))
     }
 
     /// Behind a turn, where steps are left: floors by weight are asked for more, if there are any.
-    fn go_on(
-        &mut self,
-        search: Search<'_, '_>,
-        room: &Room,
-        budget: &mut Budget,
-    ) -> Result<(), Stopped>
+    fn go_on(&mut self, search: Search<'_, '_>, budget: &mut Budget) -> Result<(), Stopped>
         ensures stopped { MatchResult result (λ _. Unit {0}) (λ _. budget.new.used ≡ budget.new.limit) }
         ensures context { self.new.shaped.context.now ≡ self.old.shaped.context.now }
         ensures shape { self.new.shaped.shape ≡ self.old.shaped.shape }
@@ -143,11 +141,8 @@ impl<'a> BothFloors<'a> {
         let bars = bars_of(search, &self.weights);
         match &mut self.weights {
             Some(weights) => {
-                let stuck = Asked {
-                    scope: &room.scope,
-                    pairs: &room.seated.pairs,
-                };
-                weights.tell_more(&stuck, &bars, budget)
+                let LastBeginning { scope, pairs } = &self.work.last;
+                weights.tell_more(&FloorRequest { scope, pairs }, &bars, budget)
             }
             None => Ok(()),
         }
@@ -168,18 +163,17 @@ impl<'a> Guide for BothFloors<'a> {
         &mut self,
         search: Search<'_, '_>,
         lister: &mut Lister<'_, ByNumber<'_>>,
-        room: &mut Room,
         budget: &mut Budget,
     ) -> Result<bool, Stopped> {
         let shape = search.pass.shaped.shape;
         for _ in 0..MOST_TURNS {
             let mut turn = self.turn(shape, budget);
-            let step = self.draw_once(search, lister, room, &mut turn);
+            let step = self.draw_once(search, lister, &mut turn);
             self.count(shape, &turn, budget);
             match step {
                 Step::Found(()) => return Ok(true),
                 Step::End => return Ok(false),
-                Step::Undecided => self.go_on(search, room, budget)?,
+                Step::Undecided => self.go_on(search, budget)?,
             }
         }
         // (no limit of steps is so high)
@@ -195,7 +189,6 @@ impl<'a> Guide for BothFloors<'a> {
         &mut self,
         wish: Option<Wish>,
         next: bool,
-        room: &mut Room,
         budget: &mut Budget,
     ) -> Result<Option<Quality>, Stopped> {
         let (context, shape) = (self.shaped.context, self.shaped.shape);
@@ -207,7 +200,7 @@ impl<'a> Guide for BothFloors<'a> {
             spend((count * count) as u64 / 3, budget)?;
             // (where memory is refused or a weight does not fit, no floors are found)
             if let Ok(Some(weights)) = WeightFloors::weighed(context, shape, next) {
-                return self.weigh_by(weights, wish, room, budget);
+                return self.weigh_by(weights, wish, budget);
             }
         }
         Ok(self.counts.aim(premise_with(context, wish)))

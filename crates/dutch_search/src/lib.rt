@@ -13,5 +13,6 @@ mod both;
 mod guide;
 mod skipper;
 mod with_floors;
+mod workroom;
 
 pub use with_floors::WithFloors;

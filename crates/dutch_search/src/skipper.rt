@@ -16,6 +16,7 @@ ghost use Rattle.dutch_search.specs.Skips.{HasNoBetterNext, IsBehindAim, IsBehin
 ghost use Rattle.dutch_search.specs.Skips.{context_of};
 
 use crate::bars::Skipper;
+use crate::workroom::Workroom;
 use dual::Wide;
 use dutch_bracket::context::Context;
 use dutch_bracket::quality::{Quality, Room};
@@ -231,7 +232,7 @@ impl<'a, 'k> Skipper<'a, 'k> {
 }
 
 impl<'a, 'k> Bound for Skipper<'a, 'k> {
-    type Room = Room;
+    type Room = Workroom;
 
     ghost use Rattle.dutch_bracket.specs.Prelude.{frame_here, numbers_meet, number_may_be_left};
     ghost use Rattle.dutch_choice.specs.Prelude.{is_unwanted_to};
@@ -248,20 +249,20 @@ impl<'a, 'k> Bound for Skipper<'a, 'k> {
     ghost is_unwanted = { λ s. is_unwanted_to s.search };
 
     #[tactic(auto, using(dutch_choice::proofs::AimLemmas::unwished_is_unwanted, dutch_choice::proofs::AimLemmas::idle_is_unwanted, dutch_choice::proofs::AimLemmas::idle_if_fit_is_unwanted), unfolding(dutch_bracket::specs::Brackets::candidates_of))]
-    fn cannot_win(&self, prefix: &Prefix<'_>, room: &mut Room) -> bool {
+    fn cannot_win(&self, prefix: &Prefix<'_>, work: &mut Workroom) -> bool {
         if is_barred(self.search.pass, prefix) {
             return true;
         }
         if self.weights.is_some() {
-            room.scope.note(prefix);
+            work.last.note(prefix);
         }
         // then all others are of interest
         if self.search.pass.aim.is_none() && self.search.kept.is_none() {
             return false;
         }
         self.is_idle_by_weight(prefix)
-            || self.is_idle_all(prefix, room)
-            || self.is_idle_granted(prefix, room)
+            || self.is_idle_all(prefix, &mut work.room)
+            || self.is_idle_granted(prefix, &mut work.room)
     }
 
     #[tactic(auto, using(dutch_choice::proofs::AimLemmas::idle_if_fit_is_unwanted), unfolding(dutch_bracket::specs::Brackets::candidates_of))]
@@ -269,7 +270,7 @@ impl<'a, 'k> Bound for Skipper<'a, 'k> {
         &self,
         prefix: &Prefix<'_>,
         exchange: &Exchange<'_>,
-        _room: &mut Room,
+        _work: &mut Workroom,
     ) -> bool {
         if self.search.pass.aim.is_none() && self.search.kept.is_none() {
             return false;

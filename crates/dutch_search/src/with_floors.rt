@@ -6,6 +6,7 @@ ghost use Rattle.dutch_floors.specs.Behind.{IsBasisFor};
 
 use crate::both::BothFloors;
 use crate::skipper::premise_with;
+use crate::workroom::Workroom;
 use dutch_bracket::eligible::at_most;
 use dutch_bracket::fault::PairFault;
 use dutch_bracket::quality::Room;
@@ -65,6 +66,7 @@ impl Finder for WithFloors {
                 counts,
                 weights: None,
                 is_long: false,
+                work: Workroom::default(),
             },
         };
         match best_in_time(&mut pass, &mut judge, budget) {

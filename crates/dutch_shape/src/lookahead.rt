@@ -166,7 +166,7 @@ fn value_of(
 
 /// A bracket of a field above the next lower scoregroup.
 #[derive(Drop)]
-pub struct Above<'a> {
+pub struct BracketAboveGroup<'a> {
     /// For matchings, where memory is lent for them.
     pub alloc: Option<Global>,
     pub field: &'a Field,
@@ -178,7 +178,7 @@ pub struct Above<'a> {
 
 /// The bracket that downfloaters make with the next lower scoregroup.
 #[tactic(auto, using(dutch_bracket::proofs::NextBrackets::down_short))]
-fn next_bracket(above: &Above<'_>, down: &[u16]) -> Reached
+fn next_bracket(above: &BracketAboveGroup<'_>, down: &[u16]) -> Reached
     requires { AreLeft above.now.reached.now down.now }
     ensures { result ≡ next_bracket (map (seat_of above.now.reached.now.seats) down.now) above.now.next.now }
 {
@@ -195,7 +195,7 @@ fn next_bracket(above: &Above<'_>, down: &[u16]) -> Reached
 
 /// What the next bracket can be for downfloaters of an ordinary bracket (C.7).
 pub fn value_below(
-    above: &Above<'_>,
+    above: &BracketAboveGroup<'_>,
     down: &[u16],
     budget: &mut Budget,
 ) -> Result<NextValue, Stopped>
@@ -213,7 +213,7 @@ pub fn value_below(
 /// The value of the next bracket for a candidate (C.7), which counts only in ordinary brackets.
 #[tactic(auto, using(dutch_bracket::proofs::NextBrackets::left_by_candidate))]
 fn next_value(
-    above: &Above<'_>,
+    above: &BracketAboveGroup<'_>,
     candidate: &Candidate,
     budget: &mut Budget,
 ) -> Result<NextValue, Stopped>
@@ -247,7 +247,7 @@ pub fn quality(
         (λ q. quality_in q ≡ quality field.now reached.now next.now candidate.now) }
     ensures spends { Spends budget.old budget.new }
 {
-    let above = Above {
+    let above = BracketAboveGroup {
         alloc: None,
         field,
         reached,

@@ -19,13 +19,13 @@ use dutch_order::{Bracket, Budget, Shape, Stopped};
 
 /// A bracket whose shape is looked for, and what every shape that counts costs at least.
 #[derive(Drop)]
-struct Asked<'a, 'b> {
+struct ShapesAboveFloor<'a, 'b> {
     context: &'b Context<'a>,
     floor: ShapeFloor,
     ghost bound: { IsShapeFloor context.now floor },
 }
 
-impl<'a, 'b> Asked<'a, 'b> {
+impl<'a, 'b> ShapesAboveFloor<'a, 'b> {
     /// Whether the floor says that no candidate that can be chosen has a shape, or one that costs less.
     #[tactic(auto, using(crate::proofs::CheapShapes::too_cheap_by))]
     fn is_too_cheap(&self, shape: Shape) -> bool
@@ -35,7 +35,7 @@ impl<'a, 'b> Asked<'a, 'b> {
     }
 }
 
-impl<'a, 'b, 'c> Shapes<ByNumber<'c>> for Asked<'a, 'b> {
+impl<'a, 'b, 'c> Shapes<ByNumber<'c>> for ShapesAboveFloor<'a, 'b> {
     ghost use Rattle.dutch_bracket.specs.Prelude.{ListsHere, eligible_here, frame_here};
 
     ghost counting = { λ b. eligible_here b.context.now };
@@ -89,7 +89,7 @@ fn found_shape<'b>(
         (λ _. budget.new.used ≡ budget.new.limit) }
     ensures spends { Spends budget.old budget.new }
 {
-    let mut asked = Asked {
+    let mut asked = ShapesAboveFloor {
         context,
         floor: ShapeFloor::none(),
     };

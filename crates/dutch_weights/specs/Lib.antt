@@ -2,6 +2,6 @@
 pub mod WeightTables
 pub mod WeightFloors
 pub mod Orders
-pub mod Rests
+pub mod UnpairedGraphs
 pub mod ScopedCosts
 pub mod Prelude

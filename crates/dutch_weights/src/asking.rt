@@ -7,11 +7,11 @@ ghost use Rattle.std.specs.Result.{MatchResult};
 ghost use Rattle.dutch_sequence.specs.declared.numbers.TheConstants.{LIMIT};
 ghost use Rattle.dutch_order.specs.Prelude.{Spends};
 
+use crate::certificate_table::table_of;
 use crate::order::{Halves, Order};
-use crate::rest::{Alone, Rest, is_in};
 use crate::scoped::Scoped;
-use crate::telling::table_of;
 use crate::trail::Stuck;
+use crate::unpaired_graph::{LeftOverCost, UnpairedGraph, is_in};
 use crate::weight_floor::{Bar, WeightFloors};
 use cheapest::{Fault, Found, cheapest};
 use dual::{Table, Wide};
@@ -43,7 +43,7 @@ struct Proposal {
 
 /// Where more is asked for: in the arrangements of a scope, behind some pairs by number.
 #[derive(Clone, Copy)]
-pub struct Asked<'s> {
+pub struct FloorRequest<'s> {
     pub scope: &'s Scope,
     pub pairs: &'s [Pair],
 }
@@ -65,18 +65,18 @@ impl Bars {
 
 /// The pairs of a matching by number, each once: those of the bracket, or those that are not.
 fn made_pairs(
-    rest: &Rest<'_, '_>,
+    graph: &UnpairedGraph<'_, '_>,
     partners: &[Option<u16>],
     inside: bool,
     alloc: Global,
 ) -> Result<Vec<Pair>, AllocError> {
     let mut pairs = Vec::new(alloc);
-    let numbers = rest.numbers();
+    let numbers = graph.numbers();
     for (number, partner) in numbers.iter().zip(partners.iter()) {
         if let Some(partner) = partner
             && let Some(other) = numbers.get(usize::from(*partner))
             && number < other
-            && rest.may_pair(*number, *other) == inside
+            && graph.may_pair(*number, *other) == inside
         {
             pairs.push((*number, *other))?;
         }
@@ -87,46 +87,19 @@ fn made_pairs(
 /// What a matching of players tells; none if a sum does not fit.
 fn proposed_by(
     alloc: Global,
-    rest: &Rest<'_, '_>,
+    graph: &UnpairedGraph<'_, '_>,
     last: usize,
     found: &Found,
 ) -> Result<Option<Proposal>, AllocError>
     requires { last < 65536 }
 {
-    let Some(table) = table_of(alloc, rest, last, &found.certificate)? else {
+    let Some(table) = table_of(alloc, graph, last, &found.certificate)? else {
         return Ok(None);
     };
-    let pairs = made_pairs(rest, &found.partners, true, alloc)?;
-    let next = made_pairs(rest, &found.partners, false, alloc)?;
+    let pairs = made_pairs(graph, &found.partners, true, alloc)?;
+    let next = made_pairs(graph, &found.partners, false, alloc)?;
     let matched = Matched { pairs, next };
     Ok(Some(Proposal { table, matched }))
-}
-
-/// The number of a seat in a bracket; none if it is not there.
-fn number_of(seats: &[u16], seat: u16) -> Option<u16>
-    requires { length seats.now ≤ LIMIT }
-{
-    for (place, other) in seats.iter().enumerate() {
-        if *other == seat {
-            return Some(place as u16 + 1);
-        }
-    }
-    None
-}
-
-/// The pairs by number of some pairs by seat, up to the first one that is not of the bracket.
-fn by_number(alloc: Global, seats: &[u16], pairs: &[Pair]) -> Result<Vec<Pair>, AllocError>
-    requires { length seats.now ≤ LIMIT }
-{
-    let mut numbers = Vec::new(alloc);
-    for pair in pairs {
-        let (Some(first), Some(second)) = (number_of(seats, pair.0), number_of(seats, pair.1))
-        else {
-            return Ok(numbers);
-        };
-        numbers.push((first, second))?;
-    }
-    Ok(numbers)
 }
 
 /// The resident at a place among those who are in none of some pairs, counted from 1; none if it is no place, or the
@@ -156,7 +129,7 @@ fn steps_for(players: usize) -> u64 {
 impl<'a> WeightFloors<'a> {
     /// What being left over costs beside half of a weight: more than any weight, so that as many pairs are made as can
     /// be; nothing where C.7 is measured, since there the weights tell of it.
-    fn alone(&self) -> Option<Alone> {
+    fn left_over_cost(&self) -> Option<LeftOverCost> {
         let width = u32::try_from(self.weighing.scale().width()).ok()?;
         let most = Wide::power_of_two(width)?;
         let never = most.times(NEVER_LEFT)?;
@@ -165,14 +138,14 @@ impl<'a> WeightFloors<'a> {
         } else {
             most
         };
-        Some(Alone { cost, never })
+        Some(LeftOverCost { cost, never })
     }
 
     /// The table that a cheapest matching of the players who are in none of some pairs gives, for the arrangements of a
     /// scope, to be checked; none if nothing was found, or memory was refused.
     fn propose(
         &self,
-        asked: &Asked<'_>,
+        request: &FloorRequest<'_>,
         order: &Order,
         left: &mut u64,
     ) -> Result<Option<Proposal>, Stopped>
@@ -180,15 +153,15 @@ impl<'a> WeightFloors<'a> {
         ensures stopped { MatchResult result (λ _. Unit {0}) (λ _. left.new ≡ 0) }
     {
         let context = self.weighing.context();
-        let Some(alone) = self.alone() else {
+        let Some(left_over) = self.left_over_cost() else {
             return Ok(None);
         };
-        let scoped = Scoped::new(&self.weighing, asked.scope, self.reach(), order);
-        let Ok(rest) = Rest::beside(&scoped, asked.pairs, alone) else {
+        let scoped = Scoped::new(&self.weighing, request.scope, self.reach(), order);
+        let Ok(graph) = UnpairedGraph::beside(&scoped, request.pairs, left_over) else {
             return Ok(None);
         };
-        match cheapest(context.alloc(), &rest, left) {
-            Ok(found) => Ok(proposed_by(context.alloc(), &rest, scoped.size(), &found).unwrap_or(
+        match cheapest(context.alloc(), &graph, left) {
+            Ok(found) => Ok(proposed_by(context.alloc(), &graph, scoped.size(), &found).unwrap_or(
                 None,
             )),
             Err(Fault::Stopped) => Err(Stopped),
@@ -201,7 +174,7 @@ impl<'a> WeightFloors<'a> {
     /// nothing was confirmed.
     fn ask_with(
         &mut self,
-        asked: &Asked<'_>,
+        request: &FloorRequest<'_>,
         order: Order,
         budget: &mut Budget,
     ) -> Result<Option<Matched>, Stopped>
@@ -210,18 +183,18 @@ impl<'a> WeightFloors<'a> {
         ensures spends { Spends budget.old budget.new }
     {
         let count = self.size();
-        let free = count.saturating_sub(2 * asked.pairs.len());
+        let free = count.saturating_sub(2 * request.pairs.len());
         let mut left = budget.limit - budget.used;
         if left < steps_for(free) {
             return Ok(None);
         }
-        let proposal = self.propose(asked, &order, &mut left);
+        let proposal = self.propose(request, &order, &mut left);
         budget.used = budget.limit - left;
         let Some(proposal) = proposal? else {
             return Ok(None);
         };
         spend((count * count) as u64 / 3, budget)?;
-        match self.put(&proposal.table, asked.scope, order) {
+        match self.put(&proposal.table, request.scope, order) {
             Ok(true) => Ok(Some(proposal.matched)),
             _ => Ok(None),
         }
@@ -230,7 +203,7 @@ impl<'a> WeightFloors<'a> {
     /// The same where nothing is added for the order of S1R.
     pub fn ask(
         &mut self,
-        asked: &Asked<'_>,
+        request: &FloorRequest<'_>,
         budget: &mut Budget,
     ) -> Result<Option<Matched>, Stopped>
         ensures same { self.new ≡ self.old }
@@ -238,7 +211,7 @@ impl<'a> WeightFloors<'a> {
         ensures spends { Spends budget.old budget.new }
     {
         let order = Order::none(self.weighing.context().alloc());
-        self.ask_with(asked, order, budget)
+        self.ask_with(request, order, budget)
     }
 
     /// Whether the last floor says that all candidates with some pairs are behind one of the bars.
@@ -275,7 +248,7 @@ impl<'a> WeightFloors<'a> {
         let (mut sound, mut ruled_out) = (stuck.sound, stuck.depth);
         let mut depth = stuck.depth;
         for _ in 0..MOST_HALVINGS {
-            let front = Asked {
+            let front = FloorRequest {
                 scope: stuck.scope,
                 pairs: stuck.front(depth),
             };
@@ -333,19 +306,19 @@ impl<'a> WeightFloors<'a> {
         let Some(order) = self.order_behind(front) else {
             return Ok(false);
         };
-        let asked = Asked {
+        let request = FloorRequest {
             scope: &scope.of_s1(),
             pairs: front,
         };
-        self.ask_with(&asked, order, budget)?;
+        self.ask_with(&request, order, budget)?;
         Ok(true)
     }
 
-    /// Tells a walk more that is stuck at the beginning with some pairs by seat, among the arrangements of a scope. It
-    /// takes no more than the steps that it counts.
+    /// Tells a walk more that is stuck at the beginning with some pairs, among the arrangements of a scope. It takes no
+    /// more than the steps that it counts.
     pub fn tell_more(
         &mut self,
-        stuck: &Asked<'_>,
+        stuck: &FloorRequest<'_>,
         bars: &Bars,
         budget: &mut Budget,
     ) -> Result<(), Stopped>
@@ -353,8 +326,8 @@ impl<'a> WeightFloors<'a> {
         ensures stopped { MatchResult result (λ _. Unit {0}) (λ _. budget.new.used ≡ budget.new.limit) }
         ensures spends { Spends budget.old budget.new }
     {
-        let context = self.weighing.context();
-        let Ok(pairs) = by_number(context.alloc(), context.reached().seats(), stuck.pairs) else {
+        let alloc = self.weighing.context().alloc();
+        let Ok(pairs) = stuck.pairs.iter().copied().collect::<Vec<Pair>>(alloc) else {
             return Ok(());
         };
         let before = budget.used;

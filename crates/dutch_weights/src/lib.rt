@@ -7,11 +7,11 @@
 #![tactic(auto)]
 
 pub mod asking;
+mod certificate_table;
 mod order;
-pub mod rest;
 mod scale;
 pub mod scoped;
-mod telling;
 mod trail;
+pub mod unpaired_graph;
 mod weighing;
 pub mod weight_floor;

@@ -110,7 +110,7 @@ impl Order {
     }
 
     /// What is more of a number.
-    fn more(&self, number: u16) -> Wide
+    fn order_bonus(&self, number: u16) -> Wide
         ensures { result ≡ more_of self.now number }
     {
         let place = usize::from(number.saturating_sub(1));
@@ -136,7 +136,9 @@ impl Order {
         if 0 < place && place <= self.table.len() {
             return Some(self.table[place - 1]);
         }
-        self.unit.times(u32::from(number))?.plus(self.more(number))
+        self.unit
+            .times(u32::from(number))?
+            .plus(self.order_bonus(number))
     }
 
     /// A table of what each number up to a last one adds, as far as that is below 2^512.
@@ -199,7 +201,7 @@ impl Order {
         if has(barred, number) {
             Wide::zero()
         } else {
-            self.more(number)
+            self.order_bonus(number)
         }
     }
 
@@ -227,7 +229,7 @@ impl Order {
         ensures { IfSome result (λ n. n ≡ short_of self.now top held.now number) }
     {
         if has(held, number) {
-            top.minus(self.more(number))
+            top.minus(self.order_bonus(number))
         } else {
             Some(Wide::zero())
         }
@@ -326,7 +328,7 @@ impl Halves {
     }
 
     /// What is more of a number.
-    fn more(&self, number: u32) -> Option<Wide> {
+    fn order_bonus(&self, number: u32) -> Option<Wide> {
         if number <= self.mdps {
             Some(Wide::zero())
         } else if number <= self.half {
@@ -337,10 +339,10 @@ impl Halves {
     }
 
     /// What is more of each number, from 1 on; none if it does not fit.
-    fn all_more(&self, alloc: Global) -> Result<Option<Vec<Wide>>, AllocError> {
+    fn all_bonuses(&self, alloc: Global) -> Result<Option<Vec<Wide>>, AllocError> {
         let mut all = Vec::new(alloc);
         for above in 0..self.count {
-            let Some(more) = self.more(above + 1) else {
+            let Some(more) = self.order_bonus(above + 1) else {
                 return Ok(None);
             };
             all.push(more)?;
@@ -359,7 +361,7 @@ impl Order {
         let Some(unit) = Wide::power_of_two(halves.fine_bits() + 1) else {
             return Ok(None);
         };
-        let Some(more) = halves.all_more(alloc)? else {
+        let Some(more) = halves.all_bonuses(alloc)? else {
             return Ok(None);
         };
         let mut order = Order {

@@ -14,7 +14,7 @@ ghost use Rattle.dutch_weights.specs.WeightFloors.{is_first};
 ghost use Rattle.dutch_weights.specs.WeightFloors.{left_known, passed_over, weighed_for};
 
 use crate::order::{Halves, Order};
-use crate::scale::{Extent, Scale};
+use crate::scale::{DigitPlan, Scale};
 use crate::scoped::{Reach, Scoped};
 use crate::trail::Trail;
 use crate::weighing::Weighing;
@@ -253,18 +253,18 @@ fn scale_for(context: &Context<'_>, shape: Shape, next: bool) -> Scale
     let order = order_bits(context);
     for floats in [true, false] {
         for spare in [order, 0] {
-            let extent = Extent {
+            let plan = DigitPlan {
                 next,
                 floats,
                 spare,
             };
-            let scale = Scale::of(context, shape, extent);
+            let scale = Scale::of(context, shape, plan);
             if scale.width() <= MOST_BITS {
                 return scale;
             }
         }
     }
-    Scale::of(context, shape, Extent::least(next))
+    Scale::of(context, shape, DigitPlan::least(next))
 }
 
 impl<'a> WeightFloors<'a> {

@@ -11,7 +11,7 @@ use clap::{Arg, Command};
 use std::alloc::{AllocError, Global};
 
 /// A command, unless memory was refused on the way to it.
-pub type Made<'a> = Result<Command<'a>, AllocError>;
+pub type CommandResult<'a> = Result<Command<'a>, AllocError>;
 
 /// Which command of the program is meant.
 #[derive(Clone, Copy)]
@@ -153,7 +153,7 @@ const STANDINGS_TEXTS: HelpTexts<'static> = HelpTexts {
 
 /// A command of the program.
 #[tactic(auto, unfolding(crate::specs::CommandLine::check_app, crate::specs::CommandLine::format_app, crate::specs::CommandLine::pair_app, crate::specs::CommandLine::boards_app, crate::specs::CommandLine::candidates_app, crate::specs::CommandLine::explain_app, crate::specs::CommandLine::standings_app, crate::specs::CommandLine::with_bracket_rules, crate::specs::CommandLine::with_round_rules, crate::specs::CommandLine::with_table_rules))]
-pub fn command_for<'a>(alloc: Global, which: CommandName) -> Made<'a>
+pub fn command_for<'a>(alloc: Global, which: CommandName) -> CommandResult<'a>
     ensures app { IfOk result (λ command. app_of command ≡ app_for which) }
     ensures local { IfOk result (λ command. (fields_of command).has_globals ≡ false) }
 {
@@ -174,7 +174,7 @@ fn optioned<'a>(
     name: &'a str,
     texts: HelpTexts<'a>,
     options: &[OptionName],
-) -> Made<'a>
+) -> CommandResult<'a>
     ensures app { IfOk result (λ command. app_of command ≡ with_options (new_app name.entry.now) options.now) }
     ensures local { IfOk result (λ command. (fields_of command).has_globals ≡ false) }
 {
@@ -182,7 +182,11 @@ fn optioned<'a>(
 }
 
 // A command with some more options.
-fn with_options<'a>(alloc: Global, command: Command<'a>, options: &[OptionName]) -> Made<'a>
+fn with_options<'a>(
+    alloc: Global,
+    command: Command<'a>,
+    options: &[OptionName],
+) -> CommandResult<'a>
     ensures app { IfOk result (λ made. app_of made ≡ with_options (app_of command.entry) options.now) }
     ensures local { IfOk result (HasSameGlobals command.entry) }
 {
@@ -206,7 +210,7 @@ pub fn described<'a>(alloc: Global, name: &'a str, texts: HelpTexts<'a>) -> Comm
 
 // A command with one more option.
 #[tactic(auto, unfolding(crate::specs::CommandLine::with_option))]
-fn with_option<'a>(command: Command<'a>, option: Arg<'a>) -> Made<'a>
+fn with_option<'a>(command: Command<'a>, option: Arg<'a>) -> CommandResult<'a>
     requires { option.global ≡ false }
     ensures app { IfOk result (λ made. app_of made ≡ with_option (app_of command.entry) (rule_of option.entry)) }
     ensures local { IfOk result (HasSameGlobals command.entry) }

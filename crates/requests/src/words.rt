@@ -10,7 +10,7 @@ ghost use Rattle.requests.specs.Words.{pair_request, request_of, standings_reque
 ghost use Rattle.requests.specs.Words.{arbiter_app, settled, versioned, with_command};
 ghost use Rattle.requests.specs.Words.{with_commands, without_help};
 
-use crate::commands::{COMMANDS, CommandName, HelpTexts, Made, command_for, described};
+use crate::commands::{COMMANDS, CommandName, CommandResult, HelpTexts, command_for, described};
 use crate::options::{
     BoardsOptions, CandidatesOptions, CheckOptions, CursorSyntax, ExplainOptions, FormatOptions,
     PairOptions, StandingsOptions, WordFault, boards_options, bye_in, candidates_options,
@@ -230,7 +230,7 @@ fn told<'a>(alloc: Global, error: &Error) -> Result<Meaning<'a>, AllocError>
 
 // The program's command line.
 #[tactic(auto, unfolding(crate::specs::Words::arbiter_app, crate::specs::Words::with_engine))]
-fn arbiter_command<'a>(alloc: Global) -> Made<'a>
+fn arbiter_command<'a>(alloc: Global) -> CommandResult<'a>
     ensures app { IfOk result (λ command. app_of command ≡ arbiter_app) }
     ensures local { IfOk result (λ command. (fields_of command).has_globals ≡ false) }
 {
@@ -239,7 +239,11 @@ fn arbiter_command<'a>(alloc: Global) -> Made<'a>
 }
 
 // A program with some more of its commands.
-fn with_commands<'a>(alloc: Global, command: Command<'a>, names: &[CommandName]) -> Made<'a>
+fn with_commands<'a>(
+    alloc: Global,
+    command: Command<'a>,
+    names: &[CommandName],
+) -> CommandResult<'a>
     ensures app { IfOk result (λ made. app_of made ≡ with_commands (app_of command.entry) names.now) }
     ensures local { IfOk result (HasSameGlobals command.entry) }
 {
@@ -251,7 +255,7 @@ fn with_commands<'a>(alloc: Global, command: Command<'a>, names: &[CommandName])
 }
 
 // A program with one more of its commands.
-fn with_named<'a>(alloc: Global, command: Command<'a>, name: CommandName) -> Made<'a>
+fn with_named<'a>(alloc: Global, command: Command<'a>, name: CommandName) -> CommandResult<'a>
     ensures app { IfOk result (λ made. app_of made ≡ with_command (app_of command.entry) (app_for name)) }
     ensures local { IfOk result (HasSameGlobals command.entry) }
 {
@@ -267,7 +271,7 @@ fn with_named<'a>(alloc: Global, command: Command<'a>, name: CommandName) -> Mad
 
 // A program with one more command.
 #[tactic(auto, unfolding(crate::specs::Words::with_command))]
-fn with_command<'a>(command: Command<'a>, more: Command<'a>) -> Made<'a>
+fn with_command<'a>(command: Command<'a>, more: Command<'a>) -> CommandResult<'a>
     requires { (fields_of more).has_globals ≡ false }
     ensures app { IfOk result (λ made. app_of made ≡ with_command (app_of command.entry) (app_of more.entry)) }
     ensures local { IfOk result (HasSameGlobals command.entry) }
@@ -277,7 +281,7 @@ fn with_command<'a>(command: Command<'a>, more: Command<'a>) -> Made<'a>
 
 // The name and the texts of the program.
 #[tactic(auto, unfolding(crate::specs::Words::versioned))]
-fn named<'a>(alloc: Global) -> Made<'a>
+fn named<'a>(alloc: Global) -> CommandResult<'a>
     ensures app { IfOk result (λ command. app_of command ≡ versioned (new_app (codes "arbiter"))) }
     ensures local { IfOk result (λ command. (fields_of command).has_globals ≡ false) }
 {

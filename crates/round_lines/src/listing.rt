@@ -53,7 +53,7 @@ pub struct Bracket<'a> {
 
 /// A bracket, and its candidates that are to come.
 #[derive(Drop)]
-pub struct Coming<'a, R: Rule> {
+pub struct RemainingCandidates<'a, R: Rule> {
     pub bracket: Bracket<'a>,
     pub candidates: Candidates<'a, R>,
 }
@@ -63,7 +63,7 @@ pub struct Coming<'a, R: Rule> {
 #[tactic(auto, using(crate::proofs::ListingLemmas::underway_none, crate::proofs::ListingLemmas::underway_line, crate::proofs::ListingLemmas::underway_end, crate::proofs::ListingLemmas::underway_stopped, crate::proofs::ListingLemmas::underway_count))]
 pub fn lines<R: Rule>(
     alloc: Global,
-    coming: Coming<'_, R>,
+    coming: RemainingCandidates<'_, R>,
     count: usize,
     budget: &mut Budget,
 ) -> Result<Listed, AllocError>
@@ -75,7 +75,7 @@ pub fn lines<R: Rule>(
     ensures stopped { IfOk result (λ listed. StopsAtLimit listed.ending budget.new) }
     ensures spends { Spends budget.old budget.new }
 {
-    let Coming {
+    let RemainingCandidates {
         bracket,
         mut candidates,
     } = coming;

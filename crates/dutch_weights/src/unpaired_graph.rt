@@ -18,28 +18,28 @@ use std::marker::Model;
 /// What it costs to be left over, beside half of the weight, and what it costs whoever is in a pair in all
 /// arrangements.
 #[derive(Clone, Copy)]
-pub(crate) struct Alone {
+pub(crate) struct LeftOverCost {
     pub(crate) cost: Wide,
     pub(crate) never: Wide,
 }
 
 /// The players over whom matchings go, without those who are in some pairs.
 #[derive(Drop)]
-pub(crate) struct Rest<'a, 'b> {
+pub(crate) struct UnpairedGraph<'a, 'b> {
     scoped: &'b Scoped<'a, 'b>,
     // the vertices, by number
     numbers: Vec<u16>,
-    alone: Alone,
+    left_over: LeftOverCost,
 }
 
-impl<'a, 'b> Model for Rest<'a, 'b> {
-    ghost use Rattle.dutch_weights.specs.Rests.{IsRest, Rest};
+impl<'a, 'b> Model for UnpairedGraph<'a, 'b> {
+    ghost use Rattle.dutch_weights.specs.UnpairedGraphs.{IsUnpairedGraph, UnpairedGraph};
 
-    ghost Value = { Rest };
+    ghost Value = { UnpairedGraph };
 
     ghost view = { λ r. record { scoped = r.scoped.now; numbers = r.numbers.items } };
 
-    ghost invariant = { λ r. IsRest (record { scoped = r.scoped.now; numbers = r.numbers.items }) };
+    ghost invariant = { λ r. IsUnpairedGraph (record { scoped = r.scoped.now; numbers = r.numbers.items }) };
 }
 
 /// Whether a number is in one of some pairs.
@@ -64,18 +64,18 @@ fn numbers_beside(scoped: &Scoped<'_, '_>, pairs: &[Pair]) -> Result<Vec<u16>, A
     Ok(numbers)
 }
 
-impl<'a, 'b> Rest<'a, 'b> {
+impl<'a, 'b> UnpairedGraph<'a, 'b> {
     /// The players who are in none of some pairs of numbers, and what it costs to be left over.
     pub(crate) fn beside(
         scoped: &'b Scoped<'a, 'b>,
         pairs: &[Pair],
-        alone: Alone,
-    ) -> Result<Rest<'a, 'b>, AllocError> {
+        left_over: LeftOverCost,
+    ) -> Result<UnpairedGraph<'a, 'b>, AllocError> {
         let numbers = numbers_beside(scoped, pairs)?;
-        Ok(Rest {
+        Ok(UnpairedGraph {
             scoped,
             numbers,
-            alone,
+            left_over,
         })
     }
 
@@ -92,13 +92,13 @@ impl<'a, 'b> Rest<'a, 'b> {
     }
 
     /// What it costs to be left over, beside half of the weight.
-    pub(crate) fn alone(&self) -> Wide {
-        self.alone.cost
+    pub(crate) fn left_over_cost(&self) -> Wide {
+        self.left_over.cost
     }
 }
 
-impl<'a, 'b> Costs for Rest<'a, 'b> {
-    ghost use Rattle.dutch_weights.specs.Rests.{joined, vertices};
+impl<'a, 'b> Costs for UnpairedGraph<'a, 'b> {
+    ghost use Rattle.dutch_weights.specs.UnpairedGraphs.{joined, vertices};
 
     ghost vertices = { vertices };
 
@@ -119,11 +119,11 @@ impl<'a, 'b> Costs for Rest<'a, 'b> {
     fn left_cost(&self, a: u16) -> Option<Wide> {
         let a = self.numbers[usize::from(a)];
         if self.scoped.must_meet(a) {
-            return Some(self.alone.never);
+            return Some(self.left_over.never);
         }
         if !self.scoped.may_be_left(a) {
             return None;
         }
-        self.scoped.left_cost(a).halved().plus(self.alone.cost)
+        self.scoped.left_cost(a).halved().plus(self.left_over.cost)
     }
 }

@@ -6,7 +6,7 @@
 // they cost. Nobody relies on a table that was not checked.
 ghost use Rattle.std.specs.Prelude.{◌<◌};
 
-use crate::rest::Rest;
+use crate::unpaired_graph::UnpairedGraph;
 use dual::{MarkedSet, Table, Wide};
 use std::alloc::{AllocError, Global};
 
@@ -62,7 +62,7 @@ fn sets(
 /// vertex.
 fn potentials(
     alloc: Global,
-    rest: &Rest<'_, '_>,
+    graph: &UnpairedGraph<'_, '_>,
     last: usize,
     certificate: &Table,
 ) -> Result<Vec<Wide>, AllocError>
@@ -70,7 +70,7 @@ fn potentials(
 {
     let more = greatest(&certificate.potentials);
     let mut all = vec![in alloc; Wide::zero(); last + 1]?;
-    for (number, potential) in rest.numbers().iter().zip(certificate.potentials.iter()) {
+    for (number, potential) in graph.numbers().iter().zip(certificate.potentials.iter()) {
         let number = usize::from(*number);
         if number < all.len() {
             all[number] = potential.plus(more).unwrap_or(*potential);
@@ -92,7 +92,7 @@ fn given_left(certificate: &Table, more: Wide, alone: Wide) -> Option<Wide> {
 /// The table of all players, up to the last number, by the certificate of some of them; none if a sum does not fit.
 pub(crate) fn table_of(
     alloc: Global,
-    rest: &Rest<'_, '_>,
+    graph: &UnpairedGraph<'_, '_>,
     last: usize,
     certificate: &Table,
 ) -> Result<Option<Table>, AllocError>
@@ -102,13 +102,13 @@ pub(crate) fn table_of(
     let Some(given) = given(certificate, more) else {
         return Ok(None);
     };
-    let Some(given_left) = given_left(certificate, more, rest.alone()) else {
+    let Some(given_left) = given_left(certificate, more, graph.left_over_cost()) else {
         return Ok(None);
     };
     Ok(Some(Table {
-        potentials: potentials(alloc, rest, last, certificate)?,
+        potentials: potentials(alloc, graph, last, certificate)?,
         given,
         given_left,
-        sets: sets(alloc, rest.numbers(), last, &certificate.sets)?,
+        sets: sets(alloc, graph.numbers(), last, &certificate.sets)?,
     }))
 }

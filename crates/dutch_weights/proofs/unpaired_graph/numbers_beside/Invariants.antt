@@ -1,7 +1,7 @@
 -- The numbers that were put are those of players, and no more than were looked at.
 use Rattle.std.proofs.Common.{◌≤◌, All, length}
 use Rattle.dutch_weights.specs.Prelude.{IsReached}
-use Rattle.dutch_weights.proofs.rest.numbers_beside.Given as goal
+use Rattle.dutch_weights.proofs.unpaired_graph.numbers_beside.Given as goal
 
 abbrev pub invariant-loop-above : goal.invariant-loop-above
 invariant-loop-above l = record {

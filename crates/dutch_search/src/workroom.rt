@@ -1,0 +1,41 @@
+// Where the questions of a pass are worked out, and where its walk was asked about last.
+use arrayvec::ArrayVec;
+use dutch_bracket::quality::Room;
+use dutch_bracket::scope::Scope;
+use dutch_bracket::seated::Pair;
+use dutch_order::{LIMIT, Prefix};
+
+/// The beginning that a walk asked about last. Behind it the walk is stuck if its steps end.
+#[derive(Default, Drop)]
+pub(crate) struct LastBeginning {
+    /// The arrangements with its S1 and its S1R.
+    pub(crate) scope: Scope,
+    /// Its pairs by number.
+    pub(crate) pairs: ArrayVec<Pair, LIMIT>,
+}
+
+/// Room for the questions of a pass, and the beginning that was asked about last.
+#[derive(Default, Drop)]
+pub(crate) struct Workroom {
+    pub(crate) room: Room,
+    pub(crate) last: LastBeginning,
+}
+
+/// Adds the pairs of two lists of numbers, place by place. (There is room for all pairs of a bracket.)
+fn put_pairs(firsts: &[u16], seconds: &[u16], pairs: &mut ArrayVec<Pair, LIMIT>) {
+    for (first, second) in firsts.iter().zip(seconds.iter()) {
+        if pairs.len() < LIMIT {
+            pairs.push((*first, *second));
+        }
+    }
+}
+
+impl LastBeginning {
+    /// Notes a beginning in place of the one before.
+    pub(crate) fn note(&mut self, prefix: &Prefix<'_>) {
+        self.scope.note(prefix);
+        self.pairs.clear();
+        put_pairs(prefix.s1(), prefix.s2(), &mut self.pairs);
+        put_pairs(prefix.s1r(), prefix.s2r(), &mut self.pairs);
+    }
+}
