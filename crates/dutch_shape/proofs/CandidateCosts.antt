@@ -134,6 +134,25 @@ module _ (context : Context) where
   cost_below : (v : ℕ) → q < v → n < v → w v ≡ 0
   cost_below v h g = ap (λ t. cond t 4098 (cond (nat_le v n) 4096 0)) (high v q h) ∙ ap (λ t. cond t 4096 0) (high v n g)
 
+  -- ---- seats
+
+  -- the numbers of the lower seats
+  abbrev pub lowers : List ℕ
+  lowers = numbers_from (1 + n) (length context.lower)
+
+  pub inside_mapped : (vs : List ℕ) → AllNumbers context.reached.seats vs → map (any_seat context) vs ≡ map (seat_of context.reached.seats) vs
+  inside_mapped [] all = refl
+  inside_mapped (v ∷ vs) all =
+      ap (λ x. x ∷ map (any_seat context) vs) (get_or_append_left context.reached.seats context.lower 0 (v - 1) (omega (arith, all.0.0, all.0.1)))
+      ∙ ap (λ xs. seat_of context.reached.seats v ∷ xs) (inside_mapped vs all.1)
+
+  pub lower_mapped : map (any_seat context) lowers ≡ context.lower
+  lower_mapped =
+      map-numbers_from (any_seat context) context.lower (1 + n)
+      (λ j lt.
+      ap (λ k. get_or (context.reached.seats ++ context.lower) k 0) (let e : ((1 + n) + j) - 1 ≡ n + j = omega arith in e)
+      ∙ get_or-append-add context.reached.seats context.lower j 0)
+
   module _ (of' : IsOf context.facts context.reached) (shape : Shape) (a : Arrangement) (room : FitsHere context shape)
       (m : IsIn a (candidates_of context.facts context.reached shape)) where
     within : q ≤ n
@@ -361,22 +380,6 @@ module _ (context : Context) where
 
     -- in the penultimate bracket
     module _ (again : is_penultimate context.reached.kind ≡ true) (whole_rest : Completable (seats_meet context.facts) (seats_may_be_left context.facts) (downfloaters context.facts context.reached a ++ context.lower)) where
-      abbrev lowers : List ℕ
-      lowers = numbers_from (1 + n) (length context.lower)
-
-      inside_mapped : (vs : List ℕ) → AllNumbers context.reached.seats vs → map (any_seat context) vs ≡ map (seat_of context.reached.seats) vs
-      inside_mapped [] all = refl
-      inside_mapped (v ∷ vs) all =
-          ap (λ x. x ∷ map (any_seat context) vs) (get_or_append_left context.reached.seats context.lower 0 (v - 1) (omega (arith, all.0.0, all.0.1)))
-          ∙ ap (λ xs. seat_of context.reached.seats v ∷ xs) (inside_mapped vs all.1)
-
-      lower_mapped : map (any_seat context) lowers ≡ context.lower
-      lower_mapped =
-          map-numbers_from (any_seat context) context.lower (1 + n)
-          (λ j lt.
-          ap (λ k. get_or (context.reached.seats ++ context.lower) k 0) (let e : ((1 + n) + j) - 1 ≡ n + j = omega arith in e)
-          ∙ get_or-append-add context.reached.seats context.lower j 0)
-
       seats_are : map (any_seat context) (left ++ lowers) ≡ map (seat_of context.reached.seats) left ++ context.lower
       seats_are =
           map-append (any_seat context) left lowers

@@ -5,3 +5,4 @@ pub mod MatchedCandidates
 pub mod AlwaysShapes
 pub mod UniformShapes
 pub mod PairPartners
+pub mod MatchingShapes
