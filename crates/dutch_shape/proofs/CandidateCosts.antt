@@ -213,7 +213,9 @@ module _ (context : Context) where
     HasLow pair = has_mdp context pair ≡ true
 
     firsts_low : All HasLow firsts
-    firsts_low = lows_placed HasLow (λ x y h. or_left (nat_le x q) (nat_le y q) (low x q h)) a.s1 a.s2 (λ z i. (s1_low facts reached shape a within legal z i).1)
+    firsts_low =
+        lows_placed HasLow (λ x y h. or_left (nat_le x q) (nat_le y q) (low x q h)) a.s1 a.s2
+        (λ z i. (s1_low facts reached shape a within legal z i).1)
 
     made_is : (all more : List (ℕ × ℕ)) → all ≡ pairs ++ more → pairs_here context all ≡ firsts ++ (others ++ pairs_here context more)
     made_is all more e =
@@ -241,7 +243,6 @@ module _ (context : Context) where
     low_made : (all more : List (ℕ × ℕ)) → all ≡ pairs ++ more → shape.mdps ≤ (made_shape context all).mdps
     low_made all more e =
         let four = lists facts reached shape a within legal in
-        let later = others ++ pairs_here context more in
         omega (
           arith,
           ap (λ ps. length (filter (has_mdp context) ps)) (made_is all more e),
@@ -373,7 +374,8 @@ module _ (context : Context) where
           sums_same (shape_costs context).left_cost w left (all_members (λ v. (shape_costs context).left_cost v ≡ w v) left (λ v i. no_bye v)),
           left_cost,
         );
-        few = λ other. few_by (number_may_be_left facts reached) (ends_round context.reached.kind) left (other_ends context.reached.kind once other) left_legal;
+        few = λ other.
+            few_by (number_may_be_left facts reached) (ends_round context.reached.kind) left (other_ends context.reached.kind once other) left_legal;
         as_many = many_made pairs [] (sym (append-nil pairs));
         as_low = low_made pairs [] (sym (append-nil pairs));
       }

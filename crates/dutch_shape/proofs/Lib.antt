@@ -6,3 +6,4 @@ pub mod AlwaysShapes
 pub mod UniformShapes
 pub mod PairPartners
 pub mod MatchingShapes
+pub mod GreatestMatchings

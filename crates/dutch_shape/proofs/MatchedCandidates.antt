@@ -1,26 +1,17 @@
 -- A matching of a bracket's graph is the pairs of a candidate (C.04.3 B.1 to B.3, C.1 to C.4), which can be chosen if those whom it leaves
 -- over may be.
-use Rattle.std.proofs.Common.{◌≡◌, ℕ, ◌+◌, ◌-◌, ◌<◌, ◌≤◌, Bool, true, false, not, cond, ◌&&◌, ◌||◌, ◌==◌, nat_le, ltb, List, ◌++◌, map, length, Option, Some, None, inl, inr, refl, sym, ap, subst, ◌∙◌, arith}
-use Rattle.std.specs.Prelude.{filter}
+use Rattle.std.proofs.Common.{◌≡◌, ℕ, ◌+◌, ◌<◌, ◌≤◌, Bool, true, cond, ◌==◌, List, length, Option, Some, None, inl, inr, refl, sym, ap, subst, ◌∙◌, arith}
 use Rattle.std.specs.List.{slice_get}
-use Rattle.std.proofs.Math.Bool.{and_comm}
-use Rattle.std.proofs.lemmas.Bool.{and_parts, cases_Bool, cases_eq, le-leb, leb-true, true≢false}
+use Rattle.std.proofs.lemmas.Bool.{cases_Bool, cases_eq}
 use Rattle.std.proofs.lemmas.List.{length-map}
 use Rattle.matching.specs.Matchings.{Gives, IsMatching}
 use Rattle.dutch_order.specs.declared.bracket.Shape.{Shape}
 use Rattle.dutch_sequence.specs.declared.numbers.TheConstants.{LIMIT}
-use Rattle.dutch_order.specs.Prelude.{Arrangement, Fits, Frame, IsIn, IsMovedDown, down, leaves_one, numbers_from}
+use Rattle.dutch_order.specs.Prelude.{numbers_from}
 use Rattle.dutch_sequence.proofs.Members.{filter-length, length-numbers}
-use Rattle.dutch_sequence.proofs.Orders.{filter-IsIn}
-use Rattle.dutch_player.specs.Prelude.{Facts}
-use Rattle.dutch_bracket.specs.declared.reached.BracketKind.{BracketKind}
-use Rattle.dutch_bracket.specs.declared.reached.BracketKind.TheVariants.{Ordinary, Last, Penultimate, Collapsed}
-use Rattle.dutch_bracket.specs.Prelude.{AllNumbers, Context, FitsHere, IsOf, Reached, can_be_chosen, candidates_of, completable, downfloaters, eligible, eligible_here, ends_round, frame_of, has_member, is_number, is_penultimate, number_may_be_left, numbers_meet, numbers_meet_sym, score_at, seat_of, shape_here}
+use Rattle.dutch_bracket.specs.Prelude.{AllNumbers, Context, FitsHere, IsOf, eligible_here, frame_of, has_member, score_at, shape_here}
 use Rattle.dutch_bracket.proofs.AllLemmas.{all_filter}
 use Rattle.dutch_bracket.proofs.ArrangementParts.{numbers_within}
-use Rattle.dutch_bracket.proofs.EligibleLemmas.{eligible_is}
-use Rattle.dutch_bracket.proofs.MateLists.{IsNumber, NumberMates, down_is, legal_member, mates_fit, mates_shape, of_mates}
-use Rattle.dutch_bracket.proofs.ShapeSearch.{has_in}
 use Rattle.dutch_shape.specs.Mates.{mate_at, mate_of, matched_shape, may_leave, unmated}
 use Rattle.dutch_shape.specs.declared.certified.ShapeFloor.{ShapeFloor}
 use Rattle.dutch_shape.specs.ShapeCosts.{CostsLeast, IsShapeFloor, are_pair, cost_of, joined, vertices}

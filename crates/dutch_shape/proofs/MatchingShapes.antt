@@ -4,7 +4,7 @@ use Rattle.std.proofs.Common.{◌≡◌, ℕ, zero, suc, ◌+◌, ◌-◌, ◌<�
 use Rattle.std.specs.Prelude.{filter}
 use Rattle.std.specs.Option.{option_to_list}
 use Rattle.std.proofs.Math.Bool.{and_comm}
-use Rattle.std.proofs.lemmas.Bool.{and_from, and_parts, cases_Bool, cases_eq, cases_lt, cases_order, eq-eqb, false_from_ne_true, le-leb, lt-ltb, ltb-true, ne_eqb, not-true, true≢false}
+use Rattle.std.proofs.lemmas.Bool.{and_parts, cases_eq, cases_lt, cases_order, eq-eqb, false_from_ne_true, lt-ltb, ltb-true, ne_eqb, not-true, true≢false}
 use Rattle.std.proofs.lemmas.List.{length-map, map-append}
 use Rattle.std.proofs.lemmas.List.Elements.{All-nil, All-cons, All-head, All-tail}
 use Rattle.std.proofs.lemmas.List.Filters.{sum_by-filter_both}
@@ -16,14 +16,13 @@ use Rattle.dutch_order.specs.declared.bracket.Shape.{Shape}
 use Rattle.dutch_order.specs.Prelude.{leaves_one, numbers_from}
 use Rattle.dutch_sequence.proofs.Members.{numbers-append}
 use Rattle.dutch_bracket.specs.declared.reached.BracketKind.{BracketKind}
-use Rattle.dutch_bracket.specs.declared.reached.BracketKind.TheVariants.{Ordinary, Last, Penultimate, Collapsed}
+use Rattle.dutch_bracket.specs.declared.reached.BracketKind.TheVariants.{Ordinary}
 use Rattle.dutch_bracket.specs.Prelude.{AllNumbers, Context, FitsHere, IsOf, completable, eligible_here, ends_round, has_member, is_penultimate, number_may_be_left, numbers_meet, numbers_meet_sym, score_at, seat_of, seats_may_be_left, seats_meet, seats_meet_sym}
 use Rattle.dutch_bracket.proofs.AllLemmas.{all_filter}
 use Rattle.dutch_bracket.proofs.ArrangementParts.{numbers_within}
 use Rattle.dutch_bracket.proofs.CandidatePairs.{high, low}
 use Rattle.dutch_bracket.proofs.Completions.{told_yes}
 use Rattle.dutch_shape.specs.GreatestMatchings.{IsBracketMatching, has_mdp, made_shape, pairs_here}
-use Rattle.dutch_shape.specs.Mates.{may_leave}
 use Rattle.dutch_shape.specs.ShapeCosts.{any_seat, are_pair, are_paired_out, count_all, may_stay, shape_costs}
 use Rattle.dutch_shape.proofs.CandidateCosts.{inside_mapped, lower_mapped, lowers}
 use Rattle.dutch_shape.proofs.MateCandidates.{alone_of, mates_eligible, mates_fit_here, number_is, pair_sym, shape_of_mates, two_numbers}
@@ -75,7 +74,8 @@ numbers_none f first (suc many) same =
       numbers_none f (suc first) many (λ x h l. same x (omega (arith, h)) (omega (arith, l))),
     )
 
-numbers_cut : (f : ℕ → ℕ) (first m more : ℕ) → sum_by f (numbers_from first (m + more)) ≡ sum_by f (numbers_from first m) + sum_by f (numbers_from (first + m) more)
+numbers_cut : (f : ℕ → ℕ) (first m more : ℕ)
+    → sum_by f (numbers_from first (m + more)) ≡ sum_by f (numbers_from first m) + sum_by f (numbers_from (first + m) more)
 numbers_cut f first m more = ap (sum_by f) (numbers-append first m more) ∙ sum_by-append f (numbers_from first m) (numbers_from (first + m) more)
 
 -- sums of pairs of which the same holds
@@ -365,7 +365,6 @@ module _ (context : Context) (of' : IsOf context.facts context.reached) (pairs :
 
   first_same : length paired_first + length (filter (has_mdp context) here) ≡ length here
   first_same =
-      let g = stands_first q in
       let f : ℕ → ℕ = λ x. stands_first q x (mate x) in
       let lows : sum_by f (numbers_from 1 q) ≡ 0 =
       numbers_none f 1 q (λ x h l. ap (λ t. cond (ltb x (mate x)) (cond t 0 1) 0) (low x q (omega (arith, l))) ∙ no_choice (ltb x (mate x))) in
@@ -485,7 +484,8 @@ module _ (context : Context) (of' : IsOf context.facts context.reached) (pairs :
     others_complete =
         sym (told_yes context.facts (map (seat_of context.reached.seats) alone ++ context.lower)
         (subst (Completable (seats_meet context.facts) (seats_may_be_left context.facts)) others_are
-        (witness_completes (seats_meet context.facts) (seats_may_be_left context.facts) (map (any_seat context) others) (map (by_seat context) there) left.value witness)))
+        (witness_completes (seats_meet context.facts) (seats_may_be_left context.facts) (map (any_seat context) others)
+        (map (by_seat context) there) left.value witness)))
 
   leave_at : (t : Bool) → is_penultimate context.reached.kind ≡ t
       → cond t (completable context.facts (map (seat_of context.reached.seats) alone ++ context.lower))

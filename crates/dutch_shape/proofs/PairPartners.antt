@@ -1,8 +1,8 @@
 -- Who is whose partner in a list of pairs in which no number stands twice, and what the pairs come to when they are counted by number.
-use Rattle.std.proofs.Common.{◌≡◌, ℕ, zero, suc, ◌+◌, ◌<◌, ◌≤◌, ◌==◌, cond, List, [], ◌∷◌, ◌++◌, All, length, sum_by, inl, inr, refl, sym, ap, subst, ◌∙◌, arith}
-use Rattle.std.proofs.lemmas.Bool.{cases_eq, cases_lt, eq-eqb, ne_eqb}
+use Rattle.std.proofs.Common.{◌≡◌, ℕ, zero, suc, ◌+◌, ◌<◌, ◌≤◌, ◌==◌, cond, List, [], ◌∷◌, All, sum_by, inl, inr, refl, sym, ap, subst, ◌∙◌, arith}
+use Rattle.std.proofs.lemmas.Bool.{cases_eq, eq-eqb, ne_eqb}
 use Rattle.std.proofs.lemmas.List.Elements.{All-head, All-tail}
-use Rattle.std.proofs.lemmas.List.Sums.{sum_by-cons, sum_by-append}
+use Rattle.std.proofs.lemmas.List.Sums.{sum_by-cons}
 use Rattle.dual.specs.Prelude.{MakeUp, in_both}
 use Rattle.dual.proofs.Sums.{one, one_itself}
 use Rattle.dutch_order.specs.Prelude.{numbers_from}
@@ -76,7 +76,6 @@ partner_met P turned (pair ∷ pairs) all x ne =
 pub partner_back : (pairs : List (ℕ × ℕ)) → Once pairs → (x : ℕ) → partner_in pairs (partner_in pairs x) ≡ x
 partner_back [] once x = refl
 partner_back (pair ∷ pairs) once x =
-    let here = partner_in (pair ∷ pairs) in
     let back = partner_back pairs (tail_once pair pairs once) in
     let own : partner_in pairs pair.0 ≡ pair.0 = partner_none pairs pair.0 (first_off pair pairs once) in
     let own' : partner_in pairs pair.1 ≡ pair.1 = partner_none pairs pair.1 (second_off pair pairs once) in
