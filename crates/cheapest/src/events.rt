@@ -34,6 +34,14 @@ fn sooner(first: Option<Event>, second: Option<Event>) -> Option<Event> {
     }
 }
 
+// Whether an event needs no change of labels.
+fn is_due(event: &Option<Event>) -> bool {
+    match event {
+        Some(event) => event.by.is_zero(),
+        None => false,
+    }
+}
+
 impl Forest {
     // When an outer vertex can be left over.
     fn leave_event(&self, v: u16) -> Option<Event> {
@@ -78,13 +86,16 @@ impl Forest {
         })
     }
 
-    // The first event at a vertex.
+    // The first event at a vertex. None comes before one that can be done at once.
     fn first_at_vertices(&self) -> Result<Option<Event>, Fault>
         ensures { IfErr result (λ fault. fault ≡ TooGreat) }
     {
         let mut first = None;
         for v in 0..self.size {
             first = sooner(sooner(first, self.leave_event(v)), self.join_event(v)?);
+            if is_due(&first) {
+                return Ok(first);
+            }
         }
         Ok(first)
     }
@@ -94,6 +105,9 @@ impl Forest {
         ensures { IfErr result (λ fault. fault ≡ TooGreat) }
     {
         let mut first = self.first_at_vertices()?;
+        if is_due(&first) {
+            return Ok(first);
+        }
         for node in self.size..self.nodes {
             first = sooner(first, self.expand_event(node));
         }

@@ -81,7 +81,9 @@ impl Forest {
         let Some(event) = self.first_event()? else {
             return Ok(true);
         };
-        self.adjust(event.by)?;
+        if !event.by.is_zero() {
+            self.adjust(event.by)?;
+        }
         Ok(self.act(event.next_move))
     }
 
