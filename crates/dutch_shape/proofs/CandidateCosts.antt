@@ -1,11 +1,11 @@
 -- The pairs of a candidate that can be chosen, in the penultimate bracket with those of the rest, are a matching of the bracket's graph, which
 -- costs no more than its shape does (C.04.3 B.1, C.1 to C.5).
 use Rattle.std.proofs.Common.{◌≡◌, ℕ, zero, suc, ◌+◌, ◌-◌, ◌*◌, ◌<◌, ◌≤◌, Bool, true, false, not, cond, ◌&&◌, ◌||◌, ◌==◌, nat_le, List, [], ◌∷◌, ◌++◌, All, map, length, get_or, sum_by, inl, inr, refl, sym, ap, subst, ◌∙◌, arith}
-use Rattle.std.specs.Prelude.{◌%◌}
+use Rattle.std.specs.Prelude.{◌%◌, filter}
 use Rattle.std.specs.List.{AllByRecursion}
 use Rattle.std.proofs.lemmas.Bool.{and_from, and_parts, cases_eq, cases_lt, eq-eqb, le-leb, ne_eqb, or_left, or_right}
-use Rattle.std.proofs.lemmas.List.{get_or_append_left, get_or-append-add, length-map, map-append}
-use Rattle.std.proofs.lemmas.List.Elements.{All-nil, All-cons, All-head, All-tail}
+use Rattle.std.proofs.lemmas.List.{append_assoc, append-nil, get_or_append_left, get_or-append-add, length-append, length-map, map-append}
+use Rattle.std.proofs.lemmas.List.Elements.{All-nil, All-cons, All-head, All-tail, filter-append}
 use Rattle.std.proofs.lemmas.List.Sums.{sum_by-cons, sum_by-append}
 use Rattle.dual.specs.Prelude.{FloorTable, IsFloor, IsMatching, MakeUp, cost, in_both}
 use Rattle.dual.proofs.Sums.{sum_none}
@@ -17,6 +17,8 @@ use Rattle.dutch_sequence.proofs.Members.{length-numbers, numbers-append}
 use Rattle.dutch_sequence.proofs.Orders.{all_members, IsIn-filter}
 use Rattle.dutch_player.specs.Prelude.{Facts}
 use Rattle.dutch_bracket.specs.Completion.{Completable}
+use Rattle.dutch_bracket.specs.declared.reached.BracketKind.{BracketKind}
+use Rattle.dutch_bracket.specs.declared.reached.BracketKind.TheVariants.{Ordinary, Last, Penultimate, Collapsed}
 use Rattle.dutch_bracket.specs.Prelude.{AllNumbers, Context, FitsHere, IsOf, Reached, candidates_of, completable, downfloaters, eligible_here, ends_round, frame_of, has_member, is_penultimate, number_may_be_left, numbers_meet, score_at, seat_of, seats_may_be_left, seats_meet}
 use Rattle.dutch_bracket.specs.Eligible.{can_be_chosen}
 use Rattle.dutch_bracket.proofs.AllLemmas.{all_join}
@@ -31,6 +33,7 @@ use Rattle.dutch_bracket.proofs.PairedOut.{Meet, PairedOut, each, few_left, odd_
 use Rattle.dutch_bracket.proofs.ShapeSearch.{member_of}
 use Rattle.dutch_bracket.proofs.Totals.{total, total_sum}
 use Rattle.dutch_shape.specs.declared.certified.ShapeFloor.{ShapeFloor}
+use Rattle.dutch_shape.specs.GreatestMatchings.{has_mdp, made_shape, pairs_here}
 use Rattle.dutch_shape.specs.ShapeCosts.{IsShapeFloor, alone_cost, any_seat, are_pair, are_paired_out, cost_of, count_all, may_stay, shape_costs, spare_cost}
 
 -- ---- numbers that all weigh the same
@@ -49,6 +52,42 @@ left_may may false (v ∷ left) e = (refl, left_may may false left refl)
 left_may may true [] e = tt
 left_may may true (v ∷ []) e = (e, tt)
 left_may may true (v ∷ w ∷ left) e = absurd (let bad : false ≡ true = e in cc)
+
+-- ---- pairs by place
+
+placed_count : (firsts seconds : List ℕ) → length firsts ≡ length seconds → length (by_place firsts seconds) ≡ length firsts
+placed_count [] [] e = refl
+placed_count [] (b ∷ seconds) e = absurd (omega (arith, e))
+placed_count (a ∷ firsts) [] e = absurd (omega (arith, e))
+placed_count (a ∷ firsts) (b ∷ seconds) e = omega (arith, placed_count firsts seconds (omega (arith, e)))
+
+lows_placed : {q : ℕ} (P : ℕ × ℕ → Type 0) → ((x y : ℕ) → x ≤ q → P (x, y)) → (firsts seconds : List ℕ) → ((z : ℕ) → IsIn z firsts → z ≤ q)
+    → All P (by_place firsts seconds)
+lows_placed P each [] seconds few = All-nil P
+lows_placed P each (a ∷ firsts) [] few = All-nil P
+lows_placed P each (a ∷ firsts) (b ∷ seconds) few =
+    All-cons P (a, b) (by_place firsts seconds) (each a b (few a (inl refl))) (lows_placed P each firsts seconds (λ z m. few z (inr m)))
+
+all_kept : (p : ℕ × ℕ → Bool) (ps : List (ℕ × ℕ)) → All (λ pair. p pair ≡ true) ps → filter p ps ≡ ps
+all_kept p [] all = refl
+all_kept p (pair ∷ ps) all =
+    ap (λ t. cond t (pair ∷ filter p ps) (filter p ps)) (All-head (λ pair. p pair ≡ true) pair ps all)
+    ∙ ap (λ rest. pair ∷ rest) (all_kept p ps (All-tail (λ pair. p pair ≡ true) pair ps all))
+
+-- ---- who may be left over
+
+-- a bracket that is not the penultimate one, and no ordinary one, ends the round
+other_ends : (kind : BracketKind) → is_penultimate kind ≡ false → ¬ (kind ≡ Ordinary) → ends_round kind ≡ true
+other_ends Ordinary once other = absurd (other refl)
+other_ends Last once other = refl
+other_ends Penultimate once other = absurd (let bad : true ≡ false = once in cc)
+other_ends Collapsed once other = refl
+
+few_by : (may : ℕ → Bool) (ends : Bool) (left : List ℕ) → ends ≡ true → (not ends || leaves_one may left) ≡ true → length left ≤ 1
+few_by may true [] on e = omega arith
+few_by may true (v ∷ []) on e = omega arith
+few_by may true (v ∷ w ∷ left) on e = absurd (let bad : false ≡ true = e in cc)
+few_by may false left on e = absurd (let bad : false ≡ true = on in cc)
 
 odd_is : (p : Bool) (n k : ℕ) → k ≡ n % 2 → cond p 16777216 0 * k ≡ cond (p && (n % 2 == 1)) 16777216 0
 odd_is true n k e = elim (cases_eq (n % 2) 1) [
@@ -94,6 +133,25 @@ module _ (context : Context) where
 
   cost_below : (v : ℕ) → q < v → n < v → w v ≡ 0
   cost_below v h g = ap (λ t. cond t 4098 (cond (nat_le v n) 4096 0)) (high v q h) ∙ ap (λ t. cond t 4096 0) (high v n g)
+
+  -- ---- seats
+
+  -- the numbers of the lower seats
+  abbrev pub lowers : List ℕ
+  lowers = numbers_from (1 + n) (length context.lower)
+
+  pub inside_mapped : (vs : List ℕ) → AllNumbers context.reached.seats vs → map (any_seat context) vs ≡ map (seat_of context.reached.seats) vs
+  inside_mapped [] all = refl
+  inside_mapped (v ∷ vs) all =
+      ap (λ x. x ∷ map (any_seat context) vs) (get_or_append_left context.reached.seats context.lower 0 (v - 1) (omega (arith, all.0.0, all.0.1)))
+      ∙ ap (λ xs. seat_of context.reached.seats v ∷ xs) (inside_mapped vs all.1)
+
+  pub lower_mapped : map (any_seat context) lowers ≡ context.lower
+  lower_mapped =
+      map-numbers_from (any_seat context) context.lower (1 + n)
+      (λ j lt.
+      ap (λ k. get_or (context.reached.seats ++ context.lower) k 0) (let e : ((1 + n) + j) - 1 ≡ n + j = omega arith in e)
+      ∙ get_or-append-add context.reached.seats context.lower j 0)
 
   module _ (of' : IsOf context.facts context.reached) (shape : Shape) (a : Arrangement) (room : FitsHere context shape)
       (m : IsIn a (candidates_of context.facts context.reached shape)) where
@@ -149,6 +207,51 @@ module _ (context : Context) where
         (all_onto IsPair (numbers_meet facts reached) (IsResident frame) (IsResident frame)
         (λ x y one other met. apart x y false false (high x q one.0) (high y q other.0) refl met)
         a.s1r a.s2r (s1r_high facts reached shape a within legal) (s2r_high facts reached shape a within legal) legal.residents [] (All-nil IsPair))
+
+    -- with others they make a shape that is no less
+    abbrev HasLow : ℕ × ℕ → Type 0
+    HasLow pair = has_mdp context pair ≡ true
+
+    firsts_low : All HasLow firsts
+    firsts_low =
+        lows_placed HasLow (λ x y h. or_left (nat_le x q) (nat_le y q) (low x q h)) a.s1 a.s2
+        (λ z i. (s1_low facts reached shape a within legal z i).1)
+
+    made_is : (all more : List (ℕ × ℕ)) → all ≡ pairs ++ more → pairs_here context all ≡ firsts ++ (others ++ pairs_here context more)
+    made_is all more e =
+        ap (pairs_here context) e
+        ∙ filter-append (λ pair. are_pair context pair.0 pair.1) pairs more
+        ∙ ap (λ ps. ps ++ pairs_here context more) (all_kept (λ pair. are_pair context pair.0 pair.1) pairs all_pairs)
+        ∙ append_assoc firsts others (pairs_here context more)
+
+    many_made : (all more : List (ℕ × ℕ)) → all ≡ pairs ++ more → shape.pairs ≤ (made_shape context all).pairs
+    many_made all more e =
+        let four = lists facts reached shape a within legal in
+        omega (
+          arith,
+          ap length (made_is all more e),
+          length-append firsts (others ++ pairs_here context more),
+          length-append others (pairs_here context more),
+          length-append (by_place a.s1r a.s2r) [],
+          placed_count a.s1 a.s2 (first_count facts reached shape a within legal),
+          placed_count a.s1r a.s2r (other_count facts reached shape a within legal),
+          four.s1.count,
+          four.s1r.count,
+          room.within_pairs,
+        )
+
+    low_made : (all more : List (ℕ × ℕ)) → all ≡ pairs ++ more → shape.mdps ≤ (made_shape context all).mdps
+    low_made all more e =
+        let four = lists facts reached shape a within legal in
+        omega (
+          arith,
+          ap (λ ps. length (filter (has_mdp context) ps)) (made_is all more e),
+          ap length (filter-append (has_mdp context) firsts (others ++ pairs_here context more)),
+          length-append (filter (has_mdp context) firsts) (filter (has_mdp context) (others ++ pairs_here context more)),
+          ap length (all_kept (has_mdp context) firsts firsts_low),
+          placed_count a.s1 a.s2 (first_count facts reached shape a within legal),
+          four.s1.count,
+        )
 
     abbrev weigh : ℕ × ℕ → ℕ
     weigh pair = (shape_costs context).weight pair.0 pair.1
@@ -214,6 +317,9 @@ module _ (context : Context) where
       pub out : List ℕ
       pub matching : IsMatching (shape_costs context) (numbers_from 1 (count_all context)) pairs_all out
       pub no_more : cost (shape_costs context) pairs_all out ≤ cost_of context shape
+      pub few : ¬ (context.reached.kind ≡ Ordinary) → length out ≤ 1
+      pub as_many : shape.pairs ≤ (made_shape context pairs_all).pairs
+      pub as_low : shape.mdps ≤ (made_shape context pairs_all).mdps
 
     meets_pair : (pair : ℕ × ℕ) → IsPair pair → (shape_costs context).meets pair.0 pair.1 ≡ true
     meets_pair pair e = or_left (are_pair context pair.0 pair.1) (are_paired_out context pair.0 pair.1) e
@@ -234,15 +340,18 @@ module _ (context : Context) where
 
     -- elsewhere than in the penultimate bracket
     module _ (once : is_penultimate context.reached.kind ≡ false) where
-      left_stays : AllByRecursion Stays left
+      left_legal : (not (ends_round context.reached.kind) || leaves_one (number_may_be_left facts reached) left) ≡ true
       unfolding candidates_of
-      left_stays =
+      left_legal =
           let passes = in_passes (is_legal (numbers_meet facts reached) (number_may_be_left facts reached) frame) a (arrangements frame shape) m in
           let first = and_parts (all_meet (numbers_meet facts reached) a.s1 a.s2) _ passes in
-          let second = and_parts (all_meet (numbers_meet facts reached) a.s1r a.s2r) _ first.1 in
+          (and_parts (all_meet (numbers_meet facts reached) a.s1r a.s2r) _ first.1).1
+
+      left_stays : AllByRecursion Stays left
+      left_stays =
           so_each (λ v. (not (ends_round context.reached.kind) || number_may_be_left facts reached v) ≡ true) Stays
           (λ v e. ap (λ t. cond t (seats_may_be_left facts (any_seat context v)) (not (ends_round context.reached.kind) || number_may_be_left facts reached v)) once ∙ e)
-          left (left_may (number_may_be_left facts reached) (ends_round context.reached.kind) left second.1)
+          left (left_may (number_may_be_left facts reached) (ends_round context.reached.kind) left left_legal)
 
       same_size : count_all context ≡ n
       same_size = ap (λ t. cond t (n + length context.lower) n) once
@@ -265,26 +374,14 @@ module _ (context : Context) where
           sums_same (shape_costs context).left_cost w left (all_members (λ v. (shape_costs context).left_cost v ≡ w v) left (λ v i. no_bye v)),
           left_cost,
         );
+        few = λ other.
+            few_by (number_may_be_left facts reached) (ends_round context.reached.kind) left (other_ends context.reached.kind once other) left_legal;
+        as_many = many_made pairs [] (sym (append-nil pairs));
+        as_low = low_made pairs [] (sym (append-nil pairs));
       }
 
     -- in the penultimate bracket
     module _ (again : is_penultimate context.reached.kind ≡ true) (whole_rest : Completable (seats_meet context.facts) (seats_may_be_left context.facts) (downfloaters context.facts context.reached a ++ context.lower)) where
-      abbrev lowers : List ℕ
-      lowers = numbers_from (1 + n) (length context.lower)
-
-      inside_mapped : (vs : List ℕ) → AllNumbers context.reached.seats vs → map (any_seat context) vs ≡ map (seat_of context.reached.seats) vs
-      inside_mapped [] all = refl
-      inside_mapped (v ∷ vs) all =
-          ap (λ x. x ∷ map (any_seat context) vs) (get_or_append_left context.reached.seats context.lower 0 (v - 1) (omega (arith, all.0.0, all.0.1)))
-          ∙ ap (λ xs. seat_of context.reached.seats v ∷ xs) (inside_mapped vs all.1)
-
-      lower_mapped : map (any_seat context) lowers ≡ context.lower
-      lower_mapped =
-          map-numbers_from (any_seat context) context.lower (1 + n)
-          (λ j lt.
-          ap (λ k. get_or (context.reached.seats ++ context.lower) k 0) (let e : ((1 + n) + j) - 1 ≡ n + j = omega arith in e)
-          ∙ get_or-append-add context.reached.seats context.lower j 0)
-
       seats_are : map (any_seat context) (left ++ lowers) ≡ map (seat_of context.reached.seats) left ++ context.lower
       seats_are =
           map-append (any_seat context) left lowers
@@ -387,6 +484,9 @@ module _ (context : Context) where
           out_cost rest.out,
           spare,
         );
+        few = λ other. one_left.0;
+        as_many = many_made (pairs ++ rest.pairs) rest.pairs refl;
+        as_low = low_made (pairs ++ rest.pairs) rest.pairs refl;
       }
 
     -- a candidate that can be chosen

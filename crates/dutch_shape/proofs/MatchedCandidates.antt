@@ -1,48 +1,23 @@
 -- A matching of a bracket's graph is the pairs of a candidate (C.04.3 B.1 to B.3, C.1 to C.4), which can be chosen if those whom it leaves
 -- over may be.
-use Rattle.std.proofs.Common.{◌≡◌, ℕ, ◌+◌, ◌-◌, ◌<◌, ◌≤◌, Bool, true, false, not, cond, ◌&&◌, ◌||◌, ◌==◌, nat_le, ltb, List, ◌++◌, map, length, Option, Some, None, inl, inr, refl, sym, ap, subst, ◌∙◌, arith}
-use Rattle.std.specs.Prelude.{filter}
+use Rattle.std.proofs.Common.{◌≡◌, ℕ, ◌+◌, ◌<◌, ◌≤◌, Bool, true, cond, ◌==◌, List, length, Option, Some, None, inl, inr, refl, sym, ap, subst, ◌∙◌, arith}
 use Rattle.std.specs.List.{slice_get}
-use Rattle.std.proofs.Math.Bool.{and_comm}
-use Rattle.std.proofs.lemmas.Bool.{and_parts, cases_Bool, cases_eq, le-leb, leb-true, true≢false}
+use Rattle.std.proofs.lemmas.Bool.{cases_Bool, cases_eq}
 use Rattle.std.proofs.lemmas.List.{length-map}
 use Rattle.matching.specs.Matchings.{Gives, IsMatching}
 use Rattle.dutch_order.specs.declared.bracket.Shape.{Shape}
 use Rattle.dutch_sequence.specs.declared.numbers.TheConstants.{LIMIT}
-use Rattle.dutch_order.specs.Prelude.{Arrangement, Fits, Frame, IsIn, IsMovedDown, down, leaves_one, numbers_from}
+use Rattle.dutch_order.specs.Prelude.{numbers_from}
 use Rattle.dutch_sequence.proofs.Members.{filter-length, length-numbers}
-use Rattle.dutch_sequence.proofs.Orders.{filter-IsIn}
-use Rattle.dutch_player.specs.Prelude.{Facts}
-use Rattle.dutch_bracket.specs.declared.reached.BracketKind.{BracketKind}
-use Rattle.dutch_bracket.specs.declared.reached.BracketKind.TheVariants.{Ordinary, Last, Penultimate, Collapsed}
-use Rattle.dutch_bracket.specs.Prelude.{AllNumbers, Context, FitsHere, IsOf, Reached, can_be_chosen, candidates_of, completable, downfloaters, eligible, eligible_here, ends_round, frame_of, has_member, is_number, is_penultimate, number_may_be_left, numbers_meet, numbers_meet_sym, score_at, seat_of, shape_here}
+use Rattle.dutch_bracket.specs.Prelude.{AllNumbers, Context, FitsHere, IsOf, eligible_here, frame_of, has_member, score_at, shape_here}
 use Rattle.dutch_bracket.proofs.AllLemmas.{all_filter}
 use Rattle.dutch_bracket.proofs.ArrangementParts.{numbers_within}
-use Rattle.dutch_bracket.proofs.EligibleLemmas.{eligible_is}
-use Rattle.dutch_bracket.proofs.MateLists.{IsNumber, NumberMates, down_is, legal_member, mates_fit, mates_shape, of_mates}
-use Rattle.dutch_bracket.proofs.ShapeSearch.{has_in}
 use Rattle.dutch_shape.specs.Mates.{mate_at, mate_of, matched_shape, may_leave, unmated}
 use Rattle.dutch_shape.specs.declared.certified.ShapeFloor.{ShapeFloor}
 use Rattle.dutch_shape.specs.ShapeCosts.{CostsLeast, IsShapeFloor, are_pair, cost_of, joined, vertices}
 use Rattle.dutch_shape.proofs.CandidateCosts.{least_of_shapes}
 use Rattle.dutch_shape.proofs.CheapShapes.{shape_reached}
-
--- the penultimate bracket does not end the round
-goes_on : (kind : BracketKind) → is_penultimate kind ≡ true → ends_round kind ≡ false
-goes_on Ordinary e = refl
-goes_on Last e = absurd (true≢false (sym e))
-goes_on Penultimate e = refl
-goes_on Collapsed e = absurd (true≢false (sym e))
-
-two_numbers : (facts : Facts) (reached : Reached) (a b : ℕ) → numbers_meet facts reached a b ≡ true → is_number reached b ≡ true
-unfolding numbers_meet
-two_numbers facts reached a b e =
-    let both = and_parts (is_number reached a && is_number reached b) _ e in (and_parts (is_number reached a) (is_number reached b) both.0).1
-
-number_is : (reached : Reached) (b : ℕ) → is_number reached b ≡ true → (0 < b) × (b ≤ length reached.seats)
-number_is reached b e =
-    let both = and_parts (nat_le 1 b) (nat_le b (length reached.seats)) e in
-    let low : 1 ≤ b = leb-true 1 b both.0 in (omega (arith, low), leb-true b (length reached.seats) both.1)
+use Rattle.dutch_shape.proofs.MateCandidates.{mates_eligible, mates_fit_here, pair_sym}
 
 pub unmated_numbers : (context : Context) (partners : List (Option ℕ)) → AllNumbers context.reached.seats (unmated context partners)
 unmated_numbers context partners =
@@ -56,11 +31,6 @@ unmated_few context partners =
     omega (arith, filter-length test numbers, length-numbers 1 (length context.reached.seats))
 
 module _ (context : Context) where
-  pair_sym : (a b : ℕ) → are_pair context a b ≡ are_pair context b a
-  pair_sym a b =
-      ap (λ t. t && not (nat_le a context.reached.mdps && nat_le b context.reached.mdps)) (numbers_meet_sym context.facts context.reached a b)
-      ∙ ap (λ t. numbers_meet context.facts context.reached b a && not t) (and_comm (nat_le a context.reached.mdps) (nat_le b context.reached.mdps))
-
   -- whoever is not their own mate has their mate as partner, and the two may be a pair
   given_at : (o : Option (Option ℕ)) (a : ℕ) → (mate_at context a o ≡ a → ⊥)
       → (o ≡ Some (Some (mate_at context a o))) × (are_pair context a (mate_at context a o) ≡ true)
@@ -75,17 +45,8 @@ module _ (context : Context) where
 
   module _ (partners : List (Option ℕ)) (matching : IsMatching (vertices context) (joined context) partners)
       (within : context.reached.mdps ≤ length context.reached.seats) where
-    abbrev frame : Frame
-    frame = frame_of context.facts context.reached
-
     abbrev mate : ℕ → ℕ
     mate = mate_of context partners
-
-    count : length frame.scores ≡ length context.reached.seats
-    count = length-map context.reached.seats (score_at context.facts)
-
-    inside : frame.mdps ≤ length frame.scores
-    inside = omega (arith, within, count)
 
     are : (x : ℕ) → (mate x ≡ x → ⊥) → are_pair context x (mate x) ≡ true
     are x ne = (given_at (slice_get partners x) x ne).1
@@ -93,96 +54,18 @@ module _ (context : Context) where
     mate_given : (a b : ℕ) → Gives partners a b → are_pair context a b ≡ true → mate a ≡ b
     mate_given a b given on = ap (mate_at context a) given ∙ ap (λ t. cond t b a) on
 
-    met : (x : ℕ) → IsNumber frame x → (mate x ≡ x → ⊥) → numbers_meet context.facts context.reached x (mate x) ≡ true
-    met x h ne = (and_parts (numbers_meet context.facts context.reached x (mate x)) _ (are x ne)).0
-
-    number_mate : (x : ℕ) → IsNumber frame x → IsNumber frame (mate x)
-    number_mate x h = elim (cases_eq (mate x) x) [
-      | inl same ↦ subst (IsNumber frame) (sym same) h
-      | inr ne ↦
-          (let number = number_is context.reached (mate x) (two_numbers context.facts context.reached x (mate x) (met x h ne)) in
-          (number.0, omega (arith, number.1, count)))
-    ]
-
-    back : (x : ℕ) → IsNumber frame x → mate (mate x) ≡ x
-    back x h = elim (cases_eq (mate x) x) [
+    back : (x : ℕ) → mate (mate x) ≡ x
+    back x = elim (cases_eq (mate x) x) [
       | inl same ↦ ap mate same ∙ same
       | inr ne ↦
-          mate_given (mate x) x (matching.pairs x (mate x) (given_at (slice_get partners x) x ne).0).back (pair_sym (mate x) x ∙ are x ne)
+          mate_given (mate x) x (matching.pairs x (mate x) (given_at (slice_get partners x) x ne).0).back (pair_sym context (mate x) x ∙ are x ne)
     ]
 
-    both_low : (one other : Bool) → not (one && other) ≡ true → one ≡ true → other ≡ true → ⊥
-    both_low one other e f g = true≢false (sym e ∙ ap (λ t. not (t && other)) f ∙ ap (λ t. not t) g)
+    pub matched_fits : FitsHere context (matched_shape context partners)
+    matched_fits = mates_fit_here context mate are back within
 
-    never_both : (x : ℕ) → IsMovedDown frame x → mate x ≤ frame.mdps → mate x ≡ x
-    never_both x h few = elim (cases_eq (mate x) x) [
-      | inl same ↦ same
-      | inr ne ↦
-          absurd (both_low (nat_le x context.reached.mdps) (nat_le (mate x) context.reached.mdps)
-          (and_parts (numbers_meet context.facts context.reached x (mate x)) _ (are x ne)).1
-          (le-leb x context.reached.mdps h.1) (le-leb (mate x) context.reached.mdps few))
-    ]
-
-    mates : NumberMates frame mate
-    mates = record { inside = number_mate; back = back; apart = never_both }
-
-    abbrev shape : Shape
-    shape = matched_shape context partners
-
-    abbrev lists : Arrangement
-    lists = of_mates frame mate inside mates
-
-    same_shape : mates_shape frame mate inside mates ≡ shape
-    same_shape =
-        ap (λ (n : ℕ). record {
-          pairs = length (filter (λ x. not (mate x == x)) (numbers_from 1 context.reached.mdps))
-              + length (filter (λ x. ltb x (mate x)) (numbers_from (context.reached.mdps + 1) (n - context.reached.mdps)));
-          mdps = length (filter (λ x. not (mate x == x)) (numbers_from 1 context.reached.mdps));
-        }) count
-
-    pub matched_fits : FitsHere context shape
-    matched_fits = subst (Fits frame) same_shape (mates_fit frame mate inside mates)
-
-    left_is : down frame lists ≡ unmated context partners
-    left_is = down_is frame mate inside mates ∙ ap (λ (n : ℕ). filter (λ z. mate z == z) (numbers_from 1 n)) count
-
-    abbrev may : ℕ → Bool
-    may = number_may_be_left context.facts context.reached
-
-    abbrev kind : BracketKind
-    kind = context.reached.kind
-
-    -- what those left over may be, by the test
-    legal_by : (t : Bool) → is_penultimate kind ≡ t
-        → cond t (completable context.facts (map (seat_of context.reached.seats) (unmated context partners) ++ context.lower))
-        (not (ends_round kind) || leaves_one may (unmated context partners)) ≡ true
-        → (not (ends_round kind) || leaves_one may (down frame lists)) ≡ true
-    legal_by true e can = ap (λ t. not t || leaves_one may (down frame lists)) (goes_on kind e)
-    legal_by false e can = ap (λ (left : List ℕ). not (ends_round kind) || leaves_one may left) left_is ∙ can
-
-    chosen_by : (t : Bool) → is_penultimate kind ≡ t
-        → cond t (completable context.facts (map (seat_of context.reached.seats) (unmated context partners) ++ context.lower))
-        (not (ends_round kind) || leaves_one may (unmated context partners)) ≡ true
-        → (not t || completable context.facts (downfloaters context.facts context.reached lists ++ context.lower)) ≡ true
-    chosen_by true e can =
-        ap (λ (left : List ℕ). completable context.facts (map (seat_of context.reached.seats) left ++ context.lower)) left_is ∙ can
-    chosen_by false e can = refl
-
-    module _ (can : may_leave context (unmated context partners) ≡ true) where
-      member : IsIn lists (candidates_of context.facts context.reached (mates_shape frame mate inside mates))
-      unfolding candidates_of
-      member = legal_member frame mate inside mates (numbers_meet context.facts context.reached) may met (legal_by (is_penultimate kind) refl can)
-
-      chosen : can_be_chosen context.facts context.reached context.lower lists ≡ true
-      chosen = chosen_by (is_penultimate kind) refl can
-
-      pub matched_eligible : has_member (eligible_here context shape) ≡ true
-      matched_eligible =
-          ap (λ (s : Shape). has_member (eligible context.facts context.reached context.lower s)) (sym same_shape)
-          ∙ ap has_member (eligible_is context.facts context.reached context.lower (mates_shape frame mate inside mates))
-          ∙ has_in lists _
-          (filter-IsIn (can_be_chosen context.facts context.reached context.lower) lists
-          (candidates_of context.facts context.reached (mates_shape frame mate inside mates)) member chosen)
+    pub matched_eligible : may_leave context (unmated context partners) ≡ true → has_member (eligible_here context (matched_shape context partners)) ≡ true
+    matched_eligible = mates_eligible context mate are back within
 
 -- what a matching tells whose pairs cost as little as a floor allows
 pub told : (context : Context) (partners : List (Option ℕ)) → IsMatching (vertices context) (joined context) partners

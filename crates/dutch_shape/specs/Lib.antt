@@ -2,3 +2,4 @@
 pub mod ShapeCosts
 pub mod Mates
 pub mod AlwaysShapes
+pub mod GreatestMatchings
