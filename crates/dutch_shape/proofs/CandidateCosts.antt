@@ -505,20 +505,6 @@ module _ (context : Context) where
         (record { others = all.pairs_all; whole = λ f. omega arith }) (record { others = all.out; whole = λ f. omega arith }) in
         omega (arith, bound, all.no_more)
 
-    least_at : (least : ℕ) → ((ps : List (ℕ × ℕ)) (out : List ℕ) → IsMatching (shape_costs context) (numbers_from 1 (count_all context)) ps out → least ≤ cost (shape_costs context) ps out)
-        → Whole → least ≤ cost_of context shape
-    least_at least is all = omega (arith, is all.pairs_all all.out all.matching, all.no_more)
-
-  -- what every matching costs at least tells of every shape with a candidate that can be chosen
-  pub least_of_shapes : IsOf context.facts context.reached → (least : ℕ)
-      → ((ps : List (ℕ × ℕ)) (out : List ℕ) → IsMatching (shape_costs context) (numbers_from 1 (count_all context)) ps out → least ≤ cost (shape_costs context) ps out)
-      → (shape : Shape) → FitsHere context shape → has_member (eligible_here context shape) ≡ true → least ≤ cost_of context shape
-  least_of_shapes of' least is shape room some =
-      let one = member_of (eligible_here context shape) some in
-      let kept = IsIn-filter (can_be_chosen context.facts context.reached context.lower) one.0 (candidates_of context.facts context.reached shape)
-      (subst (IsIn one.0) (eligible_is context.facts context.reached context.lower shape) one.1) in
-      least_at of' shape one.0 room kept.0 least is (whole_of of' shape one.0 room kept.0 (is_penultimate context.reached.kind) refl kept.1)
-
   -- what a certificate that is confirmed tells of every shape with a candidate that can be chosen
   pub floor_of_shapes : IsOf context.facts context.reached → (floor : FloorTable)
       → ((count' : ℕ) → IsFloor (shape_costs context) (numbers_from 1 (count_all context)) count' floor)

@@ -14,8 +14,7 @@ use Rattle.dutch_bracket.proofs.AllLemmas.{all_filter}
 use Rattle.dutch_bracket.proofs.ArrangementParts.{numbers_within}
 use Rattle.dutch_shape.specs.Mates.{mate_at, mate_of, matched_shape, may_leave, unmated}
 use Rattle.dutch_shape.specs.declared.certified.ShapeFloor.{ShapeFloor}
-use Rattle.dutch_shape.specs.ShapeCosts.{CostsLeast, IsShapeFloor, are_pair, cost_of, joined, vertices}
-use Rattle.dutch_shape.proofs.CandidateCosts.{least_of_shapes}
+use Rattle.dutch_shape.specs.ShapeCosts.{IsShapeFloor, are_pair, cost_of, joined, vertices}
 use Rattle.dutch_shape.proofs.CheapShapes.{shape_reached}
 use Rattle.dutch_shape.proofs.MateCandidates.{mates_eligible, mates_fit_here, pair_sym}
 
@@ -79,12 +78,3 @@ told context partners matching of' small floor bound shape is reached can =
     shape_reached context of' small floor bound here (matched_fits context partners matching within)
     (subst (λ (s : Shape). floor.debt + cost_of context s ≤ floor.base) is reached) (matched_eligible context partners matching within can)
     ∙ ap (λ (s : Shape). Some s) (sym is)
-
--- a matching than whose pairs none costs less has the bracket's shape
-pub cheapest_told : (context : Context) (partners : List (Option ℕ)) → IsMatching (vertices context) (joined context) partners
-    → IsOf context.facts context.reached → length context.reached.seats ≤ LIMIT → CostsLeast context (matched_shape context partners)
-    → may_leave context (unmated context partners) ≡ true → shape_here context ≡ Some (matched_shape context partners)
-cheapest_told context partners matching of' small least can =
-    let here : Shape = matched_shape context partners in
-    told context partners matching of' small (record { base = cost_of context here; debt = 0 })
-    (λ shape room some. omega (arith, least_of_shapes context of' (cost_of context here) least shape room some)) here refl (omega arith) can

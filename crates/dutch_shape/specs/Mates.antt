@@ -24,7 +24,7 @@ has_mate context partners a = not (mate_of context partners a == a)
 abbrev pub goes_first : Context → List (Option ℕ) → ℕ → Bool
 goes_first context partners a = nat_lt a (mate_of context partners a)
 
--- the shape of the pairs of mates: the moved-down players with mates, and the residents whose mates stand behind them [B.1, B.2]
+-- the shape of the pairs of mates (B.1, B.2): the moved-down players with mates, and the residents whose mates stand behind them
 abbrev pub matched_shape : Context → List (Option ℕ) → Shape
 matched_shape context partners = record {
   pairs = length (filter (has_mate context partners) (numbers_from 1 context.reached.mdps))
@@ -32,11 +32,11 @@ matched_shape context partners = record {
   mdps = length (filter (has_mate context partners) (numbers_from 1 context.reached.mdps));
 }
 
--- those who are in no pair [with matched_shape]
+-- those who are in no pair
 abbrev pub unmated : Context → List (Option ℕ) → List ℕ
 unmated context partners = filter (λ a. mate_of context partners a == a) (numbers_from 1 (length context.reached.seats))
 
--- C.2, C.4: a candidate that can be chosen may leave these numbers over [C.2, C.4]
+-- C.2, C.4: a candidate that can be chosen may leave these numbers over
 abbrev pub may_leave : Context → List ℕ → Bool
 may_leave context alone =
     if is_penultimate context.reached.kind then completable context.facts (map (seat_of context.reached.seats) alone ++ context.lower)
