@@ -20,9 +20,9 @@ loop-preserved c =
       frame = c.draw_once-step.ensures.frame ∙ before.frame;
       shape = c.draw_once-step.ensures.shape ∙ before.shape;
       rule = c.draw_once-step.ensures.rule ∙ before.rule;
-      context = c.go_on.ensures.context ∙ before.context;
-      of_shape = c.go_on.ensures.shape ∙ before.of_shape;
-      counts = c.go_on.ensures.counts ∙ before.counts;
-      weights = c.go_on.ensures.weights ∙ before.weights;
+      context = c.go_on.ensures.context ∙ (c.draw_once-step.ensures.context ∙ before.context);
+      of_shape = c.go_on.ensures.shape ∙ (c.draw_once-step.ensures.of_shape ∙ before.of_shape);
+      counts = c.go_on.ensures.counts ∙ (c.draw_once-step.ensures.counts ∙ before.counts);
+      weights = c.go_on.ensures.weights ∙ (c.draw_once-step.ensures.weights ∙ before.weights);
       spends = spends-more before.spends (spends-more c.count.ensures.spends c.go_on.ensures.spends);
     }
