@@ -5,8 +5,8 @@
 // looked at.
 //
 // Most shapes are found at once by listing candidates. But a listing that must rule out one pair more, or that looks
-// for its first candidate where few players may still meet, may be very long. So after few steps matchings are asked,
-// which soon tell the shape; and where all S1 of it give one PSD, no candidate is looked for.
+// for its first candidate where few players may still meet, may be very long. So after few steps a matching of least
+// cost is asked, which soon tells the shape; and where all S1 of it give one PSD, no candidate is looked for.
 ghost use Rattle.std.specs.Prelude.{◌≡◌, map, ℕ, slice_index, ◌≤◌, IfSome, MatchOption};
 ghost use Rattle.std.specs.Result.{MatchResult};
 ghost use Rattle.dutch_bracket.specs.Seated.{seat_of};
@@ -75,7 +75,7 @@ fn value_by_shape(rule: ByNumber<'_>, shape: Shape) -> Option<NextValue>
     })
 }
 
-/// The greatest shape of a bracket, the first arrangement of which is drawn: the shape by matchings, or else that of
+/// The greatest shape of a bracket, the first arrangement of which is drawn: the shape by a matching, or else that of
 /// the whole listing, which may take very many steps.
 fn greatest_drawn<'b>(
     matched: Option<Shape>,
@@ -128,7 +128,7 @@ fn value_drawn(
     }
 }
 
-/// What a bracket can be (C.7): by a listing of few steps, then by matchings if they can be had, and where they do not
+/// What a bracket can be (C.7): by a listing of few steps, then by a matching if it can be had, and where that does not
 /// tell it, by a longer listing. (Apart from its caller, as a lister is large.)
 #[inline(never)]
 fn value_of(

@@ -89,19 +89,19 @@ fn found_shape<'b>(
         (λ _. budget.new.used ≡ budget.new.limit) }
     ensures spends { Spends budget.old budget.new }
 {
-    let mut asked = ShapesAboveFloor {
+    let mut shapes = ShapesAboveFloor {
         context,
         floor: ShapeFloor::none(),
     };
-    if let Some(shape) = decided_in_few_steps(&asked, lister, budget)? {
+    if let Some(shape) = decided_in_few_steps(&shapes, lister, budget)? {
         return Ok(shape);
     }
     let told = told_by_cost(&Players::of(context), budget)?;
     if let Some(shape) = told.shape {
         return Ok(Some(shape));
     }
-    asked.floor = told.floor;
-    greatest_shape(&asked, lister, budget)
+    shapes.floor = told.floor;
+    greatest_shape(&shapes, lister, budget)
 }
 
 /// The shape of a bracket of a field above all lower seats by rank: of the shapes that have a candidate, the one with
