@@ -13,6 +13,7 @@ use crate::colours::{Decision, decided, with_colour};
 use crate::fault::FieldFault;
 use crate::float::Float;
 use crate::meetings::{are_apart, clash, have_met};
+use crate::nobody::nobody;
 use crate::preference::{Pref, difference, last_two};
 use crate::present::seats_of;
 use crate::refusals::total_for;
@@ -30,11 +31,13 @@ pub struct Field {
     pub(crate) round: u8,
     pub(crate) total: u8,
     pub(crate) initial: Colour,
+    // who stands behind the last seat
+    pub(crate) nobody: Seat,
 }
 
 impl Model for Field {
-    ghost use Rattle.std.specs.Prelude.{map, vec_len, ◌≤◌, ◌<◌};
-    ghost use Rattle.dutch_player.specs.Facts.{Facts, IsRanked};
+    ghost use Rattle.std.specs.Prelude.{map, vec_len, ◌≡◌, ◌≤◌, ◌<◌};
+    ghost use Rattle.dutch_player.specs.Facts.{Facts, IsRanked, no_seat};
     ghost use Rattle.dutch_player.specs.SeatOf.{facts_in};
     ghost use Rattle.trf16.specs.declared.limits.TheConstants.{MOST_PLAYERS};
 
@@ -47,7 +50,8 @@ impl Model for Field {
       initial = f.initial;
     } };
 
-    ghost invariant = { λ f. (vec_len f.seats ≤ MOST_PLAYERS) × (0 < f.round) × IsRanked (map facts_in f.seats.items) };
+    ghost invariant = { λ f. (vec_len f.seats ≤ MOST_PLAYERS) × (0 < f.round) × IsRanked (map facts_in f.seats.items)
+        × (facts_in f.nobody ≡ no_seat) };
 }
 
 impl Field {
@@ -72,6 +76,7 @@ impl Field {
             round: report.rounds_played() + 1,
             total,
             initial: initial.or(report.initial()).unwrap_or(Colour::White),
+            nobody: nobody(alloc),
         })
     }
 
@@ -97,16 +102,18 @@ impl Field {
         self.total
     }
 
+    // Who has a seat; nobody behind the last one.
     fn seat(&self, seat: u16) -> &Seat
-        requires { seat < length self.now.seats }
         ensures { facts_in result.now ≡ seat_at self.now seat }
     {
-        &self.seats[usize::from(seat)]
+        match self.seats.get(usize::from(seat)) {
+            Some(found) => found,
+            None => &self.nobody,
+        }
     }
 
     /// The start rank, 1 to 9999.
     pub fn start_rank(&self, seat: u16) -> u16
-        requires { seat < length self.now.seats }
         ensures { result ≡ (seat_at self.now seat).start }
     {
         self.seat(seat).start
@@ -114,7 +121,6 @@ impl Field {
 
     /// The score in half points (A.2): at most two for each of `MOST_ROUNDS`.
     pub fn score(&self, seat: u16) -> u16
-        requires { seat < length self.now.seats }
         ensures value { result ≡ (seat_at self.now seat).score }
         ensures few { result ≤ 2 * MOST_ROUNDS }
     {
@@ -123,7 +129,6 @@ impl Field {
 
     /// The start ranks of those with whom the player has played a game (C.1), round by round.
     pub fn opponents(&self, seat: u16) -> &[u16]
-        requires { seat < length self.now.seats }
         ensures { result.now ≡ (seat_at self.now seat).opponents }
     {
         &self.seat(seat).opponents
@@ -131,7 +136,6 @@ impl Field {
 
     /// The float (A.4) in the last round that was paired (1) or in the one before it (2).
     pub fn float(&self, seat: u16, back: u8) -> Option<Float>
-        requires inside { seat < length self.now.seats }
         requires one { 1 ≤ back }
         requires two { back ≤ 2 }
         ensures { result ≡ (if back == 1 then (seat_at self.now seat).latest else (seat_at self.now seat).earlier) }
@@ -142,7 +146,6 @@ impl Field {
 
     /// The colour difference (A.6): games with white minus games with black, each at most `MOST_ROUNDS`.
     pub fn difference(&self, seat: u16) -> i16
-        requires { seat < length self.now.seats }
         ensures value { result ≡ difference (seat_at self.now seat).played }
         ensures low { (pos 0 -ℤ pos MOST_ROUNDS) ≤ℤ result }
         ensures high { result ≤ℤ pos MOST_ROUNDS }
@@ -152,7 +155,6 @@ impl Field {
 
     /// The colour of the last two games, if there are two and both have it (A.6).
     pub fn last_two(&self, seat: u16) -> Option<Colour>
-        requires { seat < length self.now.seats }
         ensures { result ≡ last_two (seat_at self.now seat).played }
     {
         last_two(&self.seat(seat).played)
@@ -160,7 +162,6 @@ impl Field {
 
     /// The colour preference (A.6); none for a player without games.
     pub fn preference(&self, seat: u16) -> Option<Pref>
-        requires { seat < length self.now.seats }
         ensures { result ≡ preference (seat_at self.now seat).played }
     {
         self.seat(seat).preference
@@ -169,7 +170,6 @@ impl Field {
     /// Whether the player is a topscorer (A.7): they have more than half of the points that could be had, and only the
     /// last round is left.
     pub fn topscorer(&self, seat: u16) -> bool
-        requires { seat < length self.now.seats }
         ensures { result ≡ is_topscorer self.now (seat_at self.now seat) }
     {
         self.round == self.total && u16::from(self.round) - 1 < self.seat(seat).score
@@ -177,8 +177,6 @@ impl Field {
 
     /// Whether two players may meet (C.1, C.3): they have not, no line `XXP` names both, and their colours allow it.
     pub fn may_meet(&self, a: u16, b: u16) -> bool
-        requires first { a < length self.now.seats }
-        requires second { b < length self.now.seats }
         ensures { result ≡ may_meet self.now a b }
     {
         let (first, second) = (self.seat(a), self.seat(b));
@@ -191,8 +189,6 @@ impl Field {
     /// Whether the colours of two players let them meet (C.3): one of them is a topscorer, or they do not both have an
     /// absolute preference for the same colour.
     pub fn colours_allow(&self, a: u16, b: u16) -> bool
-        requires first { a < length self.now.seats }
-        requires second { b < length self.now.seats }
         ensures { result ≡ colours_allow self.now (seat_at self.now a) (seat_at self.now b) }
     {
         self.topscorer(a) || self.topscorer(b) || !clash(self.preference(a), self.preference(b))
@@ -200,7 +196,6 @@ impl Field {
 
     /// Whether the player may have the pairing-allocated bye (C.2).
     pub fn may_bye(&self, seat: u16) -> bool
-        requires { seat < length self.now.seats }
         ensures { result ≡ (seat_at self.now seat).may_bye }
     {
         self.seat(seat).may_bye
@@ -208,8 +203,6 @@ impl Field {
 
     // How the colours of two are decided; the first of them ranks higher.
     fn decision_of(&self, high: u16, low: u16) -> Decision
-        requires first { high < length self.now.seats }
-        requires second { low < length self.now.seats }
         ensures { result ≡ decision_of self.now high low }
     {
         decided(self.initial, self.seat(high), self.seat(low))
@@ -217,8 +210,6 @@ impl Field {
 
     /// The seat that has white and the seat that has black (E), of two players in any order.
     pub fn colours(&self, a: u16, b: u16) -> (u16, u16)
-        requires first { a < length self.now.seats }
-        requires second { b < length self.now.seats }
         ensures { result ≡ colours self.now a b }
     {
         if a < b {
@@ -230,8 +221,6 @@ impl Field {
 
     /// The first rule that decides who of two players, in any order, gets which colour (E).
     pub fn colour_rule(&self, a: u16, b: u16) -> ColourRule
-        requires first { a < length self.now.seats }
-        requires second { b < length self.now.seats }
         ensures { result ≡ colour_rule self.now a b }
     {
         if a < b {

@@ -22,6 +22,7 @@ mod float;
 mod history;
 pub mod laws;
 mod meetings;
+mod nobody;
 mod preference;
 mod present;
 mod ranking;

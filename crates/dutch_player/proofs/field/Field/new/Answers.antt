@@ -8,4 +8,5 @@ invariant_of-result c = (
   c.in_ok-seats.ensures.few,
   omega arith,
   ranked_IsRanked (seats_of c.args.report.now c.args.report.now.players) (map facts_in c.in_ok-seats.seats.items) c.in_ok-seats.ensures.value,
+  c.nobody.ensures,
 )
