@@ -134,10 +134,8 @@ impl Field {
         &self.seat(seat).opponents
     }
 
-    /// The float (A.4) in the last round that was paired (1) or in the one before it (2).
+    /// The float (A.4) in the last round that was paired (1), or else in the one before it.
     pub fn float(&self, seat: u16, back: u8) -> Option<Float>
-        requires one { 1 ≤ back }
-        requires two { back ≤ 2 }
         ensures { result ≡ (if back == 1 then (seat_at self.now seat).latest else (seat_at self.now seat).earlier) }
     {
         let seat = self.seat(seat);
