@@ -1,13 +1,9 @@
 -- The lists of a beginning: the fronts of S1 and of S1R that have opponents.
-use Rattle.std.proofs.Common.{◌≡◌, ◌<◌, ◌≤◌, ℕ, List, [], ◌∷◌, length, take, refl, ap, sym, subst, inl, inr}
+use Rattle.std.proofs.Common.{◌≡◌, List, ℕ, [], ◌∷◌, length, take, refl, ap, inl, inr}
 use Rattle.dutch_order.specs.Prelude.{Arrangement, BeginsAt, GoesOn}
 use Rattle.dutch_order.specs.declared.prefix.Filling.{Filling}
 use Rattle.dutch_order.specs.declared.prefix.Filling.TheVariants.{S1, S2, S2r}
-use Rattle.dutch_sequence.proofs.Moves.{AllByRecursion-take}
-use Rattle.dutch_player.specs.Prelude.{Facts}
-use Rattle.dutch_bracket.specs.Prelude.{IsPair, seat_of, pairs_of, all_pairs, AreSeats, AllNumbers, AllPairs, Reached, HasPairsOf, LacksEndOfS2r, lists_by}
-use Rattle.dutch_bracket.proofs.AllLemmas.{all_join}
-use Rattle.dutch_bracket.proofs.CandidateSeats.{pairs_within}
+use Rattle.dutch_bracket.specs.Prelude.{seat_of, pairs_of, HasPairsOf, LacksEndOfS2r, lists_by}
 use Rattle.dutch_bracket.proofs.FixedPairs.{has_pairs}
 
 pub front_pairs : (seats firsts seconds : List ℕ) → pairs_of seats (take (length seconds) firsts) seconds ≡ pairs_of seats firsts seconds
@@ -15,16 +11,6 @@ front_pairs seats [] [] = refl
 front_pairs seats [] (b ∷ seconds) = refl
 front_pairs seats (a ∷ firsts) [] = refl
 front_pairs seats (a ∷ firsts) (b ∷ seconds) = ap (λ pairs. (seat_of seats a, seat_of seats b) ∷ pairs) (front_pairs seats firsts seconds)
-
-pub front_numbers : (seats numbers : List ℕ) (count : ℕ) → AllNumbers seats numbers → AllNumbers seats (take count numbers)
-front_numbers seats numbers count h = AllByRecursion-take (λ i. (0 < i) × (i ≤ length seats)) count numbers h
-
-pub fixed_within : (facts : Facts) (reached : Reached) (lists : Arrangement) (pairs : List (ℕ × ℕ)) → AreSeats facts reached.seats
-    → AllNumbers reached.seats lists.s1 → AllNumbers reached.seats lists.s2 → AllNumbers reached.seats lists.s1r → AllNumbers reached.seats lists.s2r
-    → pairs ≡ all_pairs reached.seats lists → AllPairs facts pairs
-fixed_within facts reached lists pairs inside s1 s2 s1r s2r e =
-    subst (AllPairs facts) (sym e) (all_join (IsPair facts) (pairs_of reached.seats lists.s1 lists.s2) (pairs_of reached.seats lists.s1r lists.s2r)
-    (pairs_within facts reached.seats lists.s1 lists.s2 inside s1 s2) (pairs_within facts reached.seats lists.s1r lists.s2r inside s1r s2r))
 
 -- a list goes on from nothing
 from_nothing : (xs : List ℕ) → GoesOn [] xs

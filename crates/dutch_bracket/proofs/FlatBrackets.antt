@@ -17,29 +17,19 @@ use Rattle.dutch_bracket.proofs.LeastPsd.{Descends, all_climb, first_is_least, i
 seat_score : (facts : Facts) (reached : Reached) (i : ℕ) → i < length reached.seats → slice_index (frame_of facts reached).scores i ≡ score_at facts (get_or reached.seats i 0)
 seat_score facts reached i h = get_or-map (score_at facts) reached.seats i 0 0 h
 
-resident_numbers : (seats : List ℕ) (q n : ℕ) (xs : List ℕ) → n ≤ length seats → Residents q n xs → AllNumbers seats xs
-resident_numbers seats q n [] h residents = tt
-resident_numbers seats q n (x ∷ xs) h residents = ((omega (arith, residents.0.0), omega (arith, residents.0.1)), resident_numbers seats q n xs h residents.1)
-
 -- an arrangement of a bracket and those whom it leaves over
 pub candidate_of : (facts : Facts) (reached : Reached) (shape : Shape) (candidate : Candidate) → IsOf facts reached → IsIn candidate.lists (arrangements (frame_of facts reached) shape)
-    → candidate.down ≡ down (frame_of facts reached) candidate.lists → IsCandidate reached.seats candidate
+    → candidate.down ≡ down (frame_of facts reached) candidate.lists → IsCandidate candidate
 candidate_of facts reached shape candidate of' m e =
     let frame = frame_of facts reached in
     let q = reached.mdps in
     let n = length frame.scores in
-    let same : n ≡ length reached.seats = players facts reached in
     let inside : q ≤ n = of'.sound.within in
     let parts = parts_of frame shape candidate.lists inside m in
     let a : Arrangement = candidate.lists in
     record {
       moved_down = parts.s1_count ∙ sym parts.s2_count;
       residents = parts.s1r_count ∙ sym parts.s2r_count;
-      s1 = all_climb (λ i. (0 < i) × (i ≤ length reached.seats)) q 1 a.s1 (omega arith) (λ i first last. (first, omega (arith, last, inside, same))) parts.s1;
-      s2 = resident_numbers reached.seats q n a.s2 (omega arith) parts.s2;
-      s1r = resident_numbers reached.seats q n a.s1r (omega arith) parts.s1r;
-      s2r = resident_numbers reached.seats q n a.s2r (omega arith) parts.s2r;
-      down = subst (AllNumbers reached.seats) (sym e) (down_numbers facts reached a);
       few = omega (arith, how_many frame shape a inside m, of'.sound.few, parts.s1_count, parts.s2_count, ap length e);
     }
 

@@ -9,7 +9,7 @@ use Rattle.dutch_order.specs.declared.prefix.Filling.TheVariants.{S1, S2, S2r}
 use Rattle.dutch_sequence.specs.declared.numbers.TheConstants.{LIMIT}
 use Rattle.dutch_player.specs.Prelude.{Facts}
 use Rattle.dutch_bracket.specs.Reached.{Reached, is_number}
-use Rattle.dutch_bracket.specs.Seated.{Seated, all_pairs, lowest, AllNumbers}
+use Rattle.dutch_bracket.specs.Seated.{Seated, all_pairs, lowest}
 
 -- an arrangement begins with the pairs of another; if S2 or S2R has begun, with the same S1 or S1R
 pub record HasPairsOf (b a : Arrangement) : Type 0 where
@@ -72,12 +72,8 @@ has_s1 S1 = false
 has_s1 S2 = true
 has_s1 S2r = true
 
--- lists of numbers of a bracket that make at most 1,024 pairs, where of those who meet the second is not the longer one [with is_of_shape]
-pub record HasNumbers (reached : Reached) (lists : Arrangement) : Type 0 where
-  pub s1 : AllNumbers reached.seats lists.s1
-  pub s2 : AllNumbers reached.seats lists.s2
-  pub s1r : AllNumbers reached.seats lists.s1r
-  pub s2r : AllNumbers reached.seats lists.s2r
+-- lists that make at most 1,024 pairs, where of those who meet the second is not the longer one [with is_of_shape]
+pub record HasFewPairs (lists : Arrangement) : Type 0 where
   pub moved_down : length lists.s2 ≤ length lists.s1
   pub residents : length lists.s2r ≤ length lists.s1r
   pub few : length lists.s2 + length lists.s2r ≤ LIMIT

@@ -1,5 +1,5 @@
 -- The words of dutch_bracket by one name: for its proofs, and for the crates above.
-pub use Rattle.dutch_bracket.specs.Seated.{AllNumbers, AllPairs, AreSeats, HasSeats, IsCandidate, IsPair, Seated, all_pairs, by_seats, difference, difference_down, floats_down, goes, goes_down, goes_up, is_uneven, lowest, lowest_upto, pairs_of, score_at, seat_of}
+pub use Rattle.dutch_bracket.specs.Seated.{AllNumbers, AreSeats, IsCandidate, IsPair, Seated, all_pairs, by_seats, difference, difference_down, floats_down, goes, goes_down, goes_up, is_uneven, lowest, lowest_upto, pairs_of, score_at, seat_of}
 unfoldable pub use Rattle.dutch_bracket.specs.Seated.{going_down, going_up}
 pub use Rattle.dutch_bracket.specs.Shapes.{IsFirst, IsFound, IsGreater, down_from, first_with, fits, greatest_shape, has_member, shapes, shapes_upto, shapes_with}
 pub use Rattle.dutch_bracket.specs.Quality.{NextValue, Quality, again, all_items, by_list, by_number, compared_in, count_in_pairs, count_of_both, count_with_topscorers, differences, differs, first_difference, first_that_differs, float_of, has_topscorer, highest_first, is_down, is_float, is_missed, is_strong, is_strong_missed, is_third, is_up, is_wide, misses, one_if, placed, placed_all}
@@ -28,7 +28,7 @@ unfoldable pub use Rattle.dutch_bracket.specs.Brackets.{best_of_shape, candidate
 pub use Rattle.dutch_bracket.specs.Groups.{IsScoregroup, NeighboursDiffer, front_with, group_score}
 pub use Rattle.dutch_bracket.specs.SeatLaws.{equal_sym, numbers_meet_sym, seats_meet_sym}
 pub use Rattle.dutch_bracket.specs.Eligible.{HasCandidate, Lists}
-pub use Rattle.dutch_bracket.specs.Beginnings.{HasNumbers, HasPairsOf, LacksEndOfS2r, are_numbers, fixed, fixed_lists, free, has_s1, in_both, is_of_shape, lists_by, room, seated_so}
+pub use Rattle.dutch_bracket.specs.Beginnings.{HasFewPairs, HasPairsOf, LacksEndOfS2r, are_numbers, fixed, fixed_lists, free, has_s1, in_both, is_of_shape, lists_by, room, seated_so}
 pub use Rattle.dutch_bracket.specs.ColourFloors.{adds_top, beyond, collide, is_firm, more_missed, more_missed_strong, pool, residents_down, surplus, surplus_firm, waiting, wants, wants_firmly}
 unfoldable pub use Rattle.dutch_bracket.specs.ColourFloors.{lonely, lonely_first, lonely_second, suits}
 pub use Rattle.dutch_bracket.specs.PsdFloors.{IsUniform, floor_psd, is_uniform, repeated}

@@ -99,28 +99,12 @@ AreSeats facts seats = (i : ℕ) → i < length seats → slice_index seats i < 
 abbrev pub IsPair : Facts → ℕ × ℕ → Type 0
 IsPair facts pair = (pair.0 < length facts.seats) × (pair.1 < length facts.seats)
 
--- pairs of such seats
-abbrev pub AllPairs : Facts → List (ℕ × ℕ) → Type 0
-AllPairs facts pairs = AllByRecursion (λ pair. (pair.0 < length facts.seats) × (pair.1 < length facts.seats)) pairs
-
--- a candidate of seats of a field, with at most 1,024 pairs and at most 1,024 downfloaters [with AreSeats]
-pub record HasSeats (facts : Facts) (candidate : Seated) : Type 0 where
-  pub pairs : AllPairs facts candidate.pairs
-  pub down : AreSeats facts candidate.down
-  pub few : length candidate.pairs + length candidate.down ≤ LIMIT
-
--- numbers that a bracket with these seats has [with IsCandidate]
+-- numbers that a bracket with these seats has [with AreLeft]
 abbrev pub AllNumbers : List ℕ → List ℕ → Type 0
 AllNumbers seats numbers = AllByRecursion (λ number. (0 < number) × (number ≤ length seats)) numbers
 
--- a candidate of a bracket with these seats: its numbers are the bracket's, the lists of those who meet have one length, and pairs and
--- downfloaters are at most LIMIT [B.2, B.3]
-pub record IsCandidate (seats : List ℕ) (candidate : Candidate) : Type 0 where
+-- a candidate: the lists of those who meet have one length, and pairs and downfloaters are at most LIMIT [B.2, B.3]
+pub record IsCandidate (candidate : Candidate) : Type 0 where
   pub moved_down : length candidate.lists.s1 ≡ length candidate.lists.s2
   pub residents : length candidate.lists.s1r ≡ length candidate.lists.s2r
-  pub s1 : AllNumbers seats candidate.lists.s1
-  pub s2 : AllNumbers seats candidate.lists.s2
-  pub s1r : AllNumbers seats candidate.lists.s1r
-  pub s2r : AllNumbers seats candidate.lists.s2r
-  pub down : AllNumbers seats candidate.down
   pub few : (length candidate.lists.s1 + length candidate.lists.s1r) + length candidate.down ≤ LIMIT

@@ -6,21 +6,24 @@ ghost use Rattle.dutch_bracket.specs.BitTables.{has_bit};
 /// The bits of a word.
 pub const WORD: usize = 64;
 
-/// Whether the bit at a place is set.
+/// Whether the bit at a place is set; it is not behind the last word.
 #[tactic(auto, unfolding(crate::specs::BitTables::has_bit))]
 pub fn has_bit(words: &[u64], place: usize) -> bool
-    requires { place < 64 * length words.now }
     ensures { result ≡ has_bit words.now place }
 {
-    (words[place / WORD] >> (place % WORD)) & 1 == 1
+    match words.get(place / WORD) {
+        Some(word) => (word >> (place % WORD)) & 1 == 1,
+        None => false,
+    }
 }
 
-/// Sets the bit at a place.
+/// Sets the bit at a place, unless that is behind the last word.
 pub fn set_bit(words: &mut [u64], place: usize)
-    requires { place < 64 * length words.old }
-    ensures set { has_bit words.new place ≡ true }
+    ensures set { place < 64 * length words.old → has_bit words.new place ≡ true }
     ensures others { (i : ℕ) → ¬ (i ≡ place) → has_bit words.new i ≡ has_bit words.old i }
     ensures room { length words.new ≡ length words.old }
 {
-    words[place / WORD] |= 1u64 << (place % WORD);
+    if place / WORD < words.len() {
+        words[place / WORD] |= 1u64 << (place % WORD);
+    }
 }

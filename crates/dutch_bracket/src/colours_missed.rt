@@ -1,7 +1,6 @@
 // Players who get a colour that is not for them (C.04.3 C.8 to C.11).
-ghost use Rattle.std.specs.Prelude.{◌≡◌, ◌+◌, ◌<◌, ◌≤◌, length};
+ghost use Rattle.std.specs.Prelude.{◌≡◌, ◌≤◌, length};
 ghost use Rattle.dutch_player.specs.Prelude.{seat_at, is_same};
-ghost use Rattle.dutch_bracket.specs.Seated.{AllPairs};
 ghost use Rattle.dutch_bracket.specs.Quality.{is_wide, is_third, is_missed, is_strong, is_strong_missed, misses};
 ghost use Rattle.dutch_bracket.specs.Quality.{count_in, has_topscorer, count_in_pairs, count_with_topscorers};
 
@@ -43,7 +42,6 @@ fn is_strong(strength: Strength) -> bool
 
 /// The colour difference after one more game is over +2 or under -2.
 fn is_wide(field: &Field, seat: u16, colour: Colour) -> bool
-    requires { seat < length field.now.seats }
     ensures { result ≡ is_wide (seat_at field.now seat) colour }
 {
     let games = field.difference(seat);
@@ -55,7 +53,6 @@ fn is_wide(field: &Field, seat: u16, colour: Colour) -> bool
 
 /// The colour is that of the last two games.
 fn is_third(field: &Field, seat: u16, colour: Colour) -> bool
-    requires { seat < length field.now.seats }
     ensures { result ≡ is_third (seat_at field.now seat) colour }
 {
     match field.last_two(seat) {
@@ -66,7 +63,6 @@ fn is_third(field: &Field, seat: u16, colour: Colour) -> bool
 
 /// The colour is not that of the preference.
 fn is_missed(field: &Field, seat: u16, colour: Colour) -> bool
-    requires { seat < length field.now.seats }
     ensures { result ≡ is_missed (seat_at field.now seat) colour }
 {
     match field.preference(seat) {
@@ -77,7 +73,6 @@ fn is_missed(field: &Field, seat: u16, colour: Colour) -> bool
 
 /// The colour is not that of a strong preference.
 fn is_strong_missed(field: &Field, seat: u16, colour: Colour) -> bool
-    requires { seat < length field.now.seats }
     ensures { result ≡ is_strong_missed (seat_at field.now seat) colour }
 {
     match field.preference(seat) {
@@ -87,7 +82,6 @@ fn is_strong_missed(field: &Field, seat: u16, colour: Colour) -> bool
 }
 
 pub fn misses(field: &Field, miss: Miss, seat: u16, colour: Colour) -> bool
-    requires { seat < length field.now.seats }
     ensures { result ≡ misses miss (seat_at field.now seat) colour }
 {
     match miss {
@@ -101,8 +95,6 @@ pub fn misses(field: &Field, miss: Miss, seat: u16, colour: Colour) -> bool
 /// How many of the two players of a pair miss so.
 #[tactic(auto, unfolding(crate::specs::Quality::count_in))]
 pub fn count_in(field: &Field, miss: Miss, pair: Pair) -> u16
-    requires first { pair.0 < length field.now.seats }
-    requires second { pair.1 < length field.now.seats }
     ensures value { result ≡ count_in field.now (misses miss) pair }
     ensures few { result ≤ 2 }
 {
@@ -113,8 +105,6 @@ pub fn count_in(field: &Field, miss: Miss, pair: Pair) -> u16
 
 /// One of a pair is a topscorer.
 pub fn has_topscorer(field: &Field, pair: Pair) -> bool
-    requires first { pair.0 < length field.now.seats }
-    requires second { pair.1 < length field.now.seats }
     ensures { result ≡ has_topscorer field.now pair }
 {
     field.topscorer(pair.0) || field.topscorer(pair.1)
@@ -122,8 +112,7 @@ pub fn has_topscorer(field: &Field, pair: Pair) -> bool
 
 /// How many players in pairs miss so.
 pub(crate) fn count_in_pairs(field: &Field, miss: Miss, pairs: &[Pair]) -> u16
-    requires inside { AllPairs field.now pairs.now }
-    requires few { length pairs.now ≤ LIMIT }
+    requires { length pairs.now ≤ LIMIT }
     ensures { result ≡ count_in_pairs field.now (misses miss) pairs.now }
 {
     let mut count = 0;
@@ -135,8 +124,7 @@ pub(crate) fn count_in_pairs(field: &Field, miss: Miss, pairs: &[Pair]) -> u16
 
 /// How many players in pairs with a topscorer miss so.
 pub(crate) fn count_with_topscorers(field: &Field, miss: Miss, pairs: &[Pair]) -> u16
-    requires inside { AllPairs field.now pairs.now }
-    requires few { length pairs.now ≤ LIMIT }
+    requires { length pairs.now ≤ LIMIT }
     ensures { result ≡ count_with_topscorers field.now (misses miss) pairs.now }
 {
     let mut count = 0;

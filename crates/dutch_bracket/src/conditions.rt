@@ -1,7 +1,6 @@
 // The conditions of the calls on the next bracket (C.04.3 C.7), as tests that a caller can make.
 ghost use Rattle.std.specs.Prelude.{◌≡◌, ℕ, ◌<◌, ◌↔◌, true, length, slice_index};
 ghost use Rattle.dutch_bracket.specs.Seated.{score_at, AreSeats};
-ghost use Rattle.dutch_bracket.specs.Reached.{IsOf};
 ghost use Rattle.dutch_bracket.specs.NextBracket.{IsNext, AreLeft};
 
 use crate::reached::{BracketKind, Reached};
@@ -31,7 +30,6 @@ fn are_seats(field: &Field, seats: &[u16]) -> bool
 
 /// Whether all seats have a score.
 fn have_score(field: &Field, seats: &[u16], score: u16) -> bool
-    requires { AreSeats field.now seats.now }
     ensures { (result ≡ true) ↔
         ((i : ℕ) → i < length seats.now → score_at field.now (slice_index seats.now i) ≡ score) }
 {
@@ -45,7 +43,6 @@ fn have_score(field: &Field, seats: &[u16], score: u16) -> bool
 
 /// Whether the scores of all seats are above one.
 fn are_above(field: &Field, seats: &[u16], score: u16) -> bool
-    requires { AreSeats field.now seats.now }
     ensures { (result ≡ true) ↔
         ((i : ℕ) → i < length seats.now → score < score_at field.now (slice_index seats.now i)) }
 {
@@ -60,7 +57,6 @@ fn are_above(field: &Field, seats: &[u16], score: u16) -> bool
 /// Whether seats are a next lower scoregroup of a bracket: of one score, below the bracket's, with which there are at
 /// most `LIMIT`; below an ordinary bracket there is one.
 pub fn is_next(field: &Field, reached: &Reached, next: &[u16]) -> bool
-    requires { IsOf field.now reached.now }
     ensures { (result ≡ true) ↔ IsNext field.now reached.now next.now }
 {
     if !are_seats(field, next) || reached.seats().len() + next.len() > LIMIT {

@@ -5,10 +5,8 @@ ghost use Rattle.trf16.specs.declared.limits.TheConstants.{MOST_ROUNDS};
 ghost use Rattle.dutch_bracket.specs.declared.colours_missed.Miss.TheVariants.{Preference};
 ghost use Rattle.dutch_bracket.specs.declared.reached.BracketKind.TheVariants.{Ordinary};
 ghost use Rattle.dutch_bracket.specs.Quality.{one_if, misses, count_in};
-ghost use Rattle.arrayvec.specs.ArrayVec.{array_vec_len};
-ghost use Rattle.dutch_order.specs.Prelude.{numbers_from};
 ghost use Rattle.dutch_bracket.specs.Reached.{IsAbove, IsOf, frame_of, numbers_meet, number_may_be_left};
-ghost use Rattle.dutch_bracket.specs.Seated.{seat_of, score_at, lowest, AllNumbers};
+ghost use Rattle.dutch_bracket.specs.Seated.{seat_of, score_at, lowest};
 ghost use Rattle.dutch_bracket.specs.ColourFloors.{collide, is_firm, wants, wants_firmly, suits, residents_down};
 ghost use Rattle.dutch_bracket.specs.Brackets.{first_group, scoregroups};
 ghost use Rattle.dutch_bracket.specs.NextBracket.{IsNext};
@@ -18,7 +16,7 @@ use crate::colours_missed::is_same;
 use crate::group::split_first_group;
 use crate::reached::{ByNumber, Reached};
 use crate::seated::{Pair, lowest};
-use dutch_order::{Bracket, LIMIT, Numbers, Rule, Shape, numbered_from};
+use dutch_order::{Bracket, LIMIT, Rule, Shape};
 use dutch_player::{Field, Pref, Strength};
 use std::alloc::Global;
 use std::marker::Model;
@@ -140,18 +138,18 @@ impl<'a> Context<'a> {
         }
     }
 
-    /// The seat of a number; behind those of the bracket come those of the next lower scoregroup.
+    /// The seat of a number; behind those of the bracket come those of the next lower scoregroup, and then 0.
     pub fn seat_below(&self, number: u16) -> u16
-        requires { (0 < number) × (number ≤ count_below self.now.facts self.now.reached self.now.lower) }
-        ensures value { result ≡ seat_below self.now.facts self.now.reached self.now.lower number }
-        ensures inside { result < length self.now.facts.seats }
+        ensures { result ≡ seat_below self.now.facts self.now.reached self.now.lower number }
     {
-        let place = usize::from(number) - 1;
+        let place = usize::from(number).saturating_sub(1);
         let seats = self.reached().seats();
         if place < seats.len() {
-            seats[place]
-        } else {
-            self.next()[place - seats.len()]
+            return seats[place];
+        }
+        match self.next().get(place - seats.len()) {
+            Some(seat) => *seat,
+            None => 0,
         }
     }
 
@@ -199,7 +197,6 @@ impl<'a> Context<'a> {
 
     /// The score of a number of the bracket, in half points.
     pub fn score(&self, number: u16) -> u16
-        requires { (0 < number) × (number ≤ length self.now.reached.seats) }
         ensures value { result ≡ score_at self.now.facts (seat_of self.now.reached.seats number) }
         ensures few { result ≤ 2 * MOST_ROUNDS }
     {
@@ -208,24 +205,13 @@ impl<'a> Context<'a> {
 
     /// How many residents go down with a shape.
     pub fn residents_down(&self, shape: Shape) -> usize
-        requires { shape.pairs ≤ LIMIT }
         ensures { result ≡ residents_down self.now.reached shape }
     {
         self.rule().residents_down(shape)
     }
 
-    /// The numbers of the moved-down players.
-    pub(crate) fn moved_down(&self) -> Numbers
-        ensures items { result.items ≡ numbers_from 1 self.now.reached.mdps }
-        ensures len { array_vec_len result ≡ self.now.reached.mdps }
-        ensures numbers { AllNumbers self.now.reached.seats result.items }
-    {
-        numbered_from(1, self.reached().mdps())
-    }
-
     /// 1 for a seat whose preference is this colour.
     pub fn wants(&self, colour: Colour, seat: u16) -> u16
-        requires { seat < length self.now.facts.seats }
         ensures value { result ≡ wants self.now.facts colour seat }
         ensures one { result ≤ 1 }
     {
@@ -237,7 +223,6 @@ impl<'a> Context<'a> {
 
     /// 1 for a seat whose preference is this colour, and firm.
     pub fn wants_firmly(&self, colour: Colour, seat: u16) -> u16
-        requires { seat < length self.now.facts.seats }
         ensures value { result ≡ wants_firmly self.now.facts colour seat }
         ensures one { result ≤ 1 }
     {
@@ -250,8 +235,6 @@ impl<'a> Context<'a> {
     /// Whether one of a pair misses their preference (C.10): both never do.
     #[tactic(auto, unfolding(crate::specs::Quality::count_in))]
     pub fn has_miss(&self, pair: Pair) -> bool
-        requires first { pair.0 < length self.now.facts.seats }
-        requires second { pair.1 < length self.now.facts.seats }
         ensures { count_in self.now.facts (misses Preference) pair ≡ one_if result }
     {
         collide(self.field.preference(pair.0), self.field.preference(pair.1))
@@ -261,8 +244,6 @@ impl<'a> Context<'a> {
     /// (Colours come first, as to look for a game of the two takes longest.)
     #[tactic(auto, unfolding(crate::specs::Reached::numbers_meet, crate::specs::ColourFloors::suits))]
     pub fn suits(&self, x: u16, y: u16) -> bool
-        requires first { (0 < x) × (x ≤ length self.now.reached.seats) }
-        requires second { (0 < y) × (y ≤ length self.now.reached.seats) }
         ensures { result ≡ suits self.now.facts self.now.reached x y }
     {
         let pair = (self.reached.seat(x), self.reached.seat(y));

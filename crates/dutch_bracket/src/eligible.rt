@@ -3,7 +3,7 @@
 ghost use Rattle.std.specs.Prelude.{◌≡◌, ◌+◌, ◌≤◌, ◌++◌, false, length, map, min};
 ghost use Rattle.dutch_sequence.specs.declared.numbers.TheConstants.{LIMIT};
 ghost use Rattle.dutch_order.specs.Prelude.{down, MatchDrawn, MatchFound, Spends};
-ghost use Rattle.dutch_bracket.specs.Seated.{seat_of, AllNumbers};
+ghost use Rattle.dutch_bracket.specs.Seated.{seat_of};
 ghost use Rattle.dutch_bracket.specs.Shapes.{IsFirst, has_member};
 ghost use Rattle.dutch_bracket.specs.Brackets.{is_penultimate, completable};
 ghost use Rattle.dutch_bracket.specs.InContext.{ListsHere, can_be_chosen_here, frame_here};
@@ -33,8 +33,7 @@ impl BracketKind {
 
 /// Fills a list with the seats of numbers of a bracket, and then lower ones.
 pub fn fill_with_lower(reached: &Reached, numbers: &[u16], lower: &[u16], seats: &mut Seats)
-    requires numbers { AllNumbers reached.now.seats numbers.now }
-    requires few { length numbers.now + length lower.now ≤ LIMIT }
+    requires { length numbers.now + length lower.now ≤ LIMIT }
     ensures { seats.new.items ≡ map (seat_of reached.now.seats) numbers.now ++ lower.now }
 {
     seats.clear();
@@ -115,8 +114,7 @@ pub fn leaves_completable(
     left: &mut Seats,
     budget: &mut Budget,
 ) -> Result<bool, Stopped>
-    requires numbers { AllNumbers context.now.reached.seats candidate.now.down }
-    requires few { length candidate.now.down ≤ length context.now.reached.seats }
+    requires { length candidate.now.down ≤ length context.now.reached.seats }
     ensures answer { Decides result
         (completable context.now.facts
         (map (seat_of context.now.reached.seats) candidate.now.down ++ context.now.lower))
@@ -129,7 +127,7 @@ pub fn leaves_completable(
 
 /// Whether a candidate can be chosen: in the penultimate bracket only if those whom it leaves over can be paired
 /// out with all lower players, for whom a list is lent.
-#[tactic(auto, using(crate::proofs::DownLemmas::down_numbers, crate::proofs::DownLemmas::down_few))]
+#[tactic(auto, using(crate::proofs::DownLemmas::down_few))]
 pub fn can_be_chosen(
     context: &Context<'_>,
     candidate: &Candidate,

@@ -2,8 +2,8 @@
 ghost use Rattle.std.specs.Prelude.{◌≡◌, ◌≤◌, ◌&&◌, true, length};
 ghost use Rattle.arrayvec.specs.ArrayVec.{array_vec_len};
 ghost use Rattle.dutch_sequence.specs.declared.numbers.TheConstants.{LIMIT};
-ghost use Rattle.dutch_bracket.specs.Seated.{AllPairs, HasSeats, all_pairs};
-ghost use Rattle.dutch_bracket.specs.Beginnings.{HasNumbers, are_numbers, fixed, fixed_lists, has_s1, is_of_shape};
+ghost use Rattle.dutch_bracket.specs.Seated.{all_pairs};
+ghost use Rattle.dutch_bracket.specs.Beginnings.{HasFewPairs, are_numbers, fixed, fixed_lists, has_s1, is_of_shape};
 
 use crate::context::Context;
 use crate::reached::Reached;
@@ -93,12 +93,11 @@ pub fn is_of_shape(reached: &Reached, shape: Shape, lists: &FixedLists<'_>) -> b
 }
 
 /// Fills a list with the pairs that lists make, by seats.
-#[tactic(auto, using(crate::proofs::FixedListsLemmas::front_pairs, crate::proofs::FixedListsLemmas::front_numbers, crate::proofs::FixedListsLemmas::fixed_within))]
+#[tactic(auto, using(crate::proofs::FixedListsLemmas::front_pairs))]
 fn fill_pairs(context: &Context<'_>, lists: &FixedLists<'_>, pairs: &mut ArrayVec<Pair, LIMIT>)
-    requires { HasNumbers context.now.reached lists.now }
+    requires { HasFewPairs lists.now }
     ensures items { pairs.new.items ≡ all_pairs context.now.reached.seats lists.now }
-    ensures inside { AllPairs context.now.facts pairs.new.items }
-    ensures few { length pairs.new.items ≤ LIMIT }
+    ensures few { array_vec_len pairs.new ≤ LIMIT }
 {
     let seats = context.reached().seats();
     pairs.clear();
@@ -108,9 +107,8 @@ fn fill_pairs(context: &Context<'_>, lists: &FixedLists<'_>, pairs: &mut ArrayVe
 
 /// Fills in lists by seats: their pairs, and nobody who goes down.
 pub fn fill_fixed(context: &Context<'_>, lists: &FixedLists<'_>, seated: &mut Seated)
-    requires { HasNumbers context.now.reached lists.now }
-    ensures value { seated.new ≡ fixed context.now.facts context.now.reached lists.now }
-    ensures inside { HasSeats context.now.facts seated.new }
+    requires { HasFewPairs lists.now }
+    ensures { seated.new ≡ fixed context.now.facts context.now.reached lists.now }
 {
     fill_pairs(context, lists, &mut seated.pairs);
     seated.down.clear();

@@ -1,9 +1,8 @@
 // Players who go down or up again, as in one of the last two rounds (C.04.3 C.12 to C.19).
-ghost use Rattle.std.specs.Prelude.{◌≡◌, ◌+◌, ◌<◌, ◌≤◌, length, map, filter};
+ghost use Rattle.std.specs.Prelude.{◌≡◌, ◌+◌, ◌≤◌, length, map, filter};
 ghost use Rattle.arrayvec.specs.ArrayVec.{array_vec_len};
 ghost use Rattle.dutch_player.specs.declared.float.Float.TheVariants.{Up, Down};
-ghost use Rattle.dutch_bracket.specs.Seated.{is_uneven, goes, floats_down, going_down, going_up, AreSeats, AllPairs};
-ghost use Rattle.dutch_bracket.specs.Seated.{HasSeats};
+ghost use Rattle.dutch_bracket.specs.Seated.{is_uneven, goes, floats_down, going_down, going_up};
 ghost use Rattle.dutch_bracket.specs.Quality.{again, differences, float_of, is_float, placed_all};
 
 use crate::differences::put;
@@ -20,21 +19,17 @@ pub fn is_float(float: Float, had: Option<Float>) -> bool
     }
 }
 
-/// A float in the last round of a field (1) or in the one before it (2).
+/// A float in the last round of a field (1), or else in the one before it.
 #[derive(Clone, Copy)]
 pub struct FloatRound<'a> {
     pub field: &'a Field,
     pub float: Float,
     pub back: u8,
-    ghost one: { 1 ≤ back },
-    ghost two: { back ≤ 2 },
 }
 
 impl<'a> FloatRound<'a> {
     /// A float so many rounds ago.
     pub fn new(field: &'a Field, float: Float, back: u8) -> FloatRound<'a>
-        requires one { 1 ≤ back }
-        requires two { back ≤ 2 }
         ensures field { result.field.now ≡ field.now }
         ensures float { result.float ≡ float }
         ensures back { result.back ≡ back }
@@ -44,7 +39,6 @@ impl<'a> FloatRound<'a> {
 
     /// Whether a seat had it.
     pub fn was_of(&self, seat: u16) -> bool
-        requires { seat < length self.now.field.now.seats }
         ensures { result ≡ is_float self.now.float (float_of self.now.field.now self.now.back seat) }
     {
         is_float(self.float, self.field.float(seat, self.back))
@@ -53,8 +47,7 @@ impl<'a> FloatRound<'a> {
 
 /// Puts the differences of the players of pairs who float as in a round before to their places.
 fn put_pairs(past: FloatRound<'_>, pairs: &[Pair], by: &mut Numbers)
-    requires inside { AllPairs past.field.now pairs.now }
-    requires room { array_vec_len by.old + length pairs.now ≤ LIMIT }
+    requires { array_vec_len by.old + length pairs.now ≤ LIMIT }
     ensures items { by.new.items ≡ placed_all by.old.items
         (map (λ floater. floater.by) (again past.entry.field.now past.entry.float past.entry.back
         (map (goes past.entry.field.now past.entry.float) (filter (is_uneven past.entry.field.now) pairs.now)))) }
@@ -72,8 +65,7 @@ fn put_pairs(past: FloatRound<'_>, pairs: &[Pair], by: &mut Numbers)
 
 /// The same of downfloaters.
 fn put_down(past: FloatRound<'_>, least: u16, down: &[u16], by: &mut Numbers)
-    requires inside { AreSeats past.field.now down.now }
-    requires room { array_vec_len by.old + length down.now ≤ LIMIT }
+    requires { array_vec_len by.old + length down.now ≤ LIMIT }
     ensures items { by.new.items ≡ placed_all by.old.items
         (map (λ floater. floater.by) (again past.entry.field.now past.entry.float past.entry.back
         (map (floats_down past.entry.field.now least) down.now))) }
@@ -85,13 +77,10 @@ fn put_down(past: FloatRound<'_>, least: u16, down: &[u16], by: &mut Numbers)
     }
 }
 
-/// Fills a list with the differences of those who go down and had a downfloat in the last round (1) or in the one
-/// before it (2), the highest first.
+/// Fills a list with the differences of those who go down and had a downfloat in the last round (1), or else in the
+/// one before it, the highest first.
 #[tactic(auto, using(crate::proofs::Places::placed_again), unfolding(crate::specs::Seated::going_down))]
 pub(crate) fn fill_down_again(field: &Field, candidate: &Seated, back: u8, by: &mut Numbers)
-    requires inside { HasSeats field.now candidate.now }
-    requires one { 1 ≤ back }
-    requires two { back ≤ 2 }
     ensures { by.new.items ≡ differences (again field.now Down back (going_down field.now candidate.now)) }
 {
     by.clear();
@@ -103,9 +92,6 @@ pub(crate) fn fill_down_again(field: &Field, candidate: &Seated, back: u8, by: &
 /// The same of those who go up and had an upfloat.
 #[tactic(auto, unfolding(crate::specs::Seated::going_up))]
 pub(crate) fn fill_up_again(field: &Field, candidate: &Seated, back: u8, by: &mut Numbers)
-    requires inside { HasSeats field.now candidate.now }
-    requires one { 1 ≤ back }
-    requires two { back ≤ 2 }
     ensures { by.new.items ≡ differences (again field.now Up back (going_up field.now candidate.now)) }
 {
     by.clear();

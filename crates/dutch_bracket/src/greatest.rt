@@ -1,7 +1,7 @@
 // The greatest shape of a bracket (C.04.3 C.5, B.1): the most pairs that some arrangement has, and then the most
 // moved-down players in them; and the first of its arrangements, which is found with it. One search serves a bracket by
 // any rule, where each legal arrangement counts, and a bracket of the round, where those count that can be chosen.
-ghost use Rattle.std.specs.Prelude.{◌≡◌, ◌≤◌, ◌*◌, ◌&&◌, List, Some, None, true, false, length, filter};
+ghost use Rattle.std.specs.Prelude.{◌≡◌, ◌&&◌, List, Some, None, true, false, filter};
 ghost use Rattle.dutch_order.specs.declared.bracket.Shape.{Shape};
 ghost use Rattle.dutch_order.specs.Prelude.{Arrangement, Fits, Frame, candidates, Listing, MatchDrawn, MatchFound};
 ghost use Rattle.dutch_order.specs.Prelude.{MatchStep, Spends};
@@ -105,14 +105,13 @@ impl<'a, R: Rule> Shapes<R> for Legal<'a, R> {
 
 /// Whether a bracket has room for a shape.
 pub fn has_room(bracket: &Bracket, shape: Shape) -> bool
-    requires small { shape.pairs ≤ length bracket.now.scores }
     ensures { result ≡ fits bracket.now shape }
 {
     let residents = bracket.scores().len() - bracket.mdps();
-    if shape.pairs < shape.mdps || bracket.mdps() < shape.mdps {
+    if shape.pairs < shape.mdps || bracket.mdps() < shape.mdps || residents < shape.mdps {
         return false;
     }
-    shape.mdps + 2 * (shape.pairs - shape.mdps) <= residents
+    shape.pairs - shape.mdps <= (residents - shape.mdps) / 2
 }
 
 /// Draws the first arrangement of a shape that counts, if the bracket has room for that shape. No says that there is
@@ -124,7 +123,6 @@ fn first_of<R: Rule, S: Shapes<R>>(
     shape: Shape,
     budget: &mut Budget,
 ) -> Result<bool, Stopped>
-    requires small { shape.pairs ≤ length (S.frame asked.now).scores }
     requires lists { S.lists asked.now lister.old.listing }
     ensures answer { MatchDrawn result
         (IsFirst (S.counting asked.now shape) (S.frame asked.now) lister.new.drawn
@@ -149,7 +147,6 @@ fn shape_with<R: Rule, S: Shapes<R>>(
     pairs: usize,
     budget: &mut Budget,
 ) -> Result<Option<Shape>, Stopped>
-    requires small { 2 * pairs ≤ length (S.frame asked.now).scores }
     requires lists { S.lists asked.now lister.old.listing }
     ensures answer { MatchFound result
         (λ shape. (first_with (S.counting asked.now) (filter (fits (S.frame asked.now)) (shapes_with pairs))

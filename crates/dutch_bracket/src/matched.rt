@@ -3,7 +3,7 @@
 //
 // Whoever finds the matching is not trusted: what it tells is taken only if the check of its pairs, or of its groups,
 // confirms it.
-ghost use Rattle.std.specs.Prelude.{◌≡◌, ◌<◌, ◌≤◌, length, IfOk, IfSome};
+ghost use Rattle.std.specs.Prelude.{◌≡◌, ◌≤◌, length, IfOk, IfSome};
 ghost use Rattle.dutch_sequence.specs.declared.numbers.TheConstants.{LIMIT};
 ghost use Rattle.dutch_order.specs.Prelude.{MatchFound, Spends};
 ghost use Rattle.dutch_bracket.specs.Brackets.{completable};
@@ -26,14 +26,11 @@ struct Pairing {
 
 impl Pairing {
     /// Takes in what a matching says of the seat at a place: each pair once, by the one of the two who stands first.
-    fn put(&mut self, players: &[u16], place: usize, partner: usize) -> Result<(), AllocError>
-        requires { place < length players.now }
-    {
-        let seat = players[place];
-        match players.get(partner) {
-            Some(other) if place < partner => self.pairs.push((seat, *other))?,
-            Some(_) => {}
-            None => self.bye = Some(seat),
+    fn put(&mut self, players: &[u16], place: usize, partner: usize) -> Result<(), AllocError> {
+        match (players.get(place), players.get(partner)) {
+            (Some(seat), Some(other)) if place < partner => self.pairs.push((*seat, *other))?,
+            (Some(seat), None) => self.bye = Some(*seat),
+            _ => {}
         }
         Ok(())
     }
@@ -50,9 +47,7 @@ fn made_pairs(
         bye: None,
     };
     for (place, partner) in partners.iter().enumerate() {
-        if let Some(partner) = partner
-            && place < players.len()
-        {
+        if let Some(partner) = partner {
             made.put(players, place, usize::from(*partner))?;
         }
     }

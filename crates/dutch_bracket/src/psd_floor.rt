@@ -1,13 +1,12 @@
 // The PSD that S1 gives in a bracket whose residents have one score (C.04.3 C.6).
-ghost use Rattle.std.specs.Prelude.{◌≡◌, ◌+◌, ◌-◌, ◌<◌, ◌≤◌, length, map};
+ghost use Rattle.std.specs.Prelude.{◌≡◌, ◌+◌, ◌-◌, ◌≤◌, length, map};
 ghost use Rattle.arrayvec.specs.ArrayVec.{array_vec_len};
 ghost use Rattle.dutch_sequence.specs.declared.numbers.TheConstants.{LIMIT};
-ghost use Rattle.dutch_order.specs.Prelude.{Fits, left_of, remainder_pairs, numbers_from};
-ghost use Rattle.dutch_bracket.specs.Seated.{seat_of, score_at, AllNumbers};
+ghost use Rattle.dutch_order.specs.Prelude.{left_of, remainder_pairs, numbers_from};
+ghost use Rattle.dutch_bracket.specs.Seated.{seat_of, score_at};
 ghost use Rattle.dutch_bracket.specs.Quality.{placed_all};
 ghost use Rattle.dutch_bracket.specs.ColourFloors.{residents_down};
 ghost use Rattle.dutch_bracket.specs.PsdFloors.{is_uniform, repeated, psd_with};
-ghost use Rattle.dutch_bracket.specs.Reached.{frame_of};
 
 use crate::differences::{put, put_times};
 use crate::reached::ByNumber;
@@ -15,7 +14,6 @@ use dutch_order::{Numbers, Shape};
 
 /// Whether all S1 of a shape leave moved-down players with the same scores.
 pub fn is_uniform(rule: ByNumber<'_>, shape: Shape) -> bool
-    requires { Fits (frame_of rule.field.now rule.reached.now) shape }
     ensures { result ≡ is_uniform rule.entry.field.now rule.entry.reached.now shape }
 {
     let mdps = rule.reached.mdps();
@@ -36,8 +34,7 @@ pub struct FlatShape<'a> {
 impl<'a> FlatShape<'a> {
     /// Puts the differences of moved-down players who are paired with residents.
     fn put_paired(&self, s1: &[u16], psd: &mut Numbers)
-        requires numbers { AllNumbers self.now.rule.reached.now.seats s1.now }
-        requires room { array_vec_len psd.old + length s1.now ≤ LIMIT }
+        requires { array_vec_len psd.old + length s1.now ≤ LIMIT }
         ensures items { psd.new.items ≡ placed_all psd.old.items
             (map (λ i. score_at self.now.rule.field.now (seat_of self.now.rule.reached.now.seats i) - self.now.score)
             s1.now) }
@@ -51,7 +48,7 @@ impl<'a> FlatShape<'a> {
     /// Puts the differences of the moved-down players who are not in S1, and so are not paired.
     #[tactic(auto, using(crate::proofs::ArrangementParts::next_number))]
     fn put_limbo(&self, s1: &[u16], psd: &mut Numbers)
-        requires room { array_vec_len psd.old + self.now.rule.reached.now.mdps ≤ LIMIT }
+        requires { array_vec_len psd.old + self.now.rule.reached.now.mdps ≤ LIMIT }
         ensures items { psd.new.items ≡ placed_all psd.old.items
             (map (λ i. (score_at self.now.rule.field.now (seat_of self.now.rule.reached.now.seats i)
             - self.now.score) + 2)
@@ -69,10 +66,8 @@ impl<'a> FlatShape<'a> {
     /// Fills a list with the PSD of each arrangement with an S1.
     #[tactic(auto, using(crate::proofs::Places::placed_all_append), unfolding(crate::specs::PsdFloors::psd_with))]
     pub fn fill_psd(&self, s1: &[u16], psd: &mut Numbers)
-        requires numbers { AllNumbers self.now.rule.reached.now.seats s1.now }
-        requires room { (length s1.now + self.now.rule.reached.now.mdps)
+        requires { (length s1.now + self.now.rule.reached.now.mdps)
             + (remainder_pairs self.now.shape + residents_down self.now.rule.reached.now self.now.shape) ≤ LIMIT }
-        requires small { self.now.shape.pairs ≤ LIMIT }
         ensures { psd.new.items
             ≡ psd_with self.now.rule.field.now self.now.rule.reached.now self.now.shape self.now.score s1.now }
     {

@@ -1,7 +1,7 @@
 // The quality of a candidate, by which candidates of one shape are compared (C.04.3 C.6 to C.19), specified item by
 // item.
 ghost use Rattle.std.specs.Prelude.{◌≡◌, ◌≤◌, true, length};
-ghost use Rattle.dutch_bracket.specs.Seated.{by_seats, AreSeats, HasSeats, IsCandidate};
+ghost use Rattle.dutch_bracket.specs.Seated.{by_seats, IsCandidate};
 ghost use Rattle.dutch_bracket.specs.Quality.{quality_with, is_better};
 ghost use Rattle.dutch_bracket.specs.NextBracket.{no_value};
 ghost use Rattle.dutch_bracket.specs.QualityIn.{quality_in, next_in, with_next, with_others};
@@ -246,7 +246,6 @@ pub struct Room {
 /// Fills a quality with the items of a candidate by seats, except those of C.6, C.7, C.10 and C.11, which stay.
 #[tactic(auto, using(crate::proofs::Places::length_differences), unfolding(crate::specs::Quality::quality_with, crate::specs::QualityIn::with_others))]
 pub fn fill_others(field: &Field, candidate: &Seated, quality: &mut Quality)
-    requires { HasSeats field.now candidate.now }
     ensures { quality_in quality.new ≡ with_others field.now candidate.now (quality_in quality.old) }
 {
     quality.wide_differences = count_with_topscorers(field, Miss::Wide, &candidate.pairs);
@@ -264,7 +263,6 @@ pub fn fill_others(field: &Field, candidate: &Seated, quality: &mut Quality)
 /// Fills a quality with the items of a candidate by seats, except that of C.7, which stays.
 #[tactic(auto, unfolding(crate::specs::Quality::quality_with, crate::specs::QualityIn::with_others))]
 pub fn fill_seated(field: &Field, candidate: &Seated, quality: &mut Quality)
-    requires { HasSeats field.now candidate.now }
     ensures { quality_in quality.new ≡ quality_with field.now candidate.now (next_in (quality_in quality.old)) }
 {
     fill_psd(field, candidate, &mut quality.psd);
@@ -275,8 +273,7 @@ pub fn fill_seated(field: &Field, candidate: &Seated, quality: &mut Quality)
 
 /// Fills the quality of a candidate of a bracket with these seats, for the value of the next bracket that it has.
 pub fn fill_quality(field: &Field, seats: &[u16], candidate: &Candidate, room: &mut Room)
-    requires bracket { AreSeats field.now seats.now }
-    requires candidate { IsCandidate seats.now candidate.now }
+    requires { IsCandidate candidate.now }
     ensures { quality_in room.new.quality
         ≡ quality_with field.now (by_seats field.now seats.now candidate.now) (next_in (quality_in room.old.quality)) }
 {

@@ -1,16 +1,17 @@
 // A bracket that a round reaches, by the seats of its players (C.04.3 A.3, A.9). It has a bracket of `dutch_order`,
 // and a rule by number. `Reached::seat` leads from a number in the bracket to a seat of the field; only `boards` turns
 // seats into start ranks.
-ghost use Rattle.std.specs.Prelude.{◌≡◌, ◌+◌, ◌*◌, ◌<◌, ◌≤◌, ◌++◌, ℕ, true, length, map, slice_index};
+ghost use Rattle.std.specs.Prelude.{◌≡◌, ◌+◌, ◌*◌, ◌≤◌, ◌++◌, ℕ, length, map, slice_index};
 ghost use Rattle.arrayvec.specs.ArrayVec.{array_vec_len};
 ghost use Rattle.dutch_order.specs.Prelude.{IsBracket};
 ghost use Rattle.dutch_sequence.specs.declared.numbers.TheConstants.{LIMIT};
-ghost use Rattle.dutch_bracket.specs.Seated.{seat_of, score_at, AreSeats};
+ghost use Rattle.dutch_bracket.specs.Seated.{seat_of, score_at};
 ghost use Rattle.dutch_bracket.specs.Brackets.{bracket};
 ghost use Rattle.trf16.specs.declared.limits.TheConstants.{MOST_ROUNDS};
 ghost use Rattle.dutch_bracket.specs.ColourFloors.{residents_down};
 ghost use Rattle.dutch_bracket.specs.Reached.{IsOf, ends_round, frame_of, is_number, numbers_meet, number_may_be_left};
 
+use crate::seated::seat_of;
 use arrayvec::ArrayVec;
 use dutch_order::{Bracket, LIMIT, Numbers, Rule, Shape};
 use dutch_player::Field;
@@ -110,12 +111,11 @@ impl Reached {
         1 <= number && usize::from(number) <= self.seats.len()
     }
 
-    /// The seat of a number that is one of the bracket's.
+    /// The seat of a number of the bracket; 0 behind its last number.
     pub fn seat(&self, number: u16) -> u16
-        requires { is_number self.now number ≡ true }
         ensures { result ≡ seat_of self.now.seats number }
     {
-        self.seats[usize::from(number) - 1]
+        seat_of(&self.seats, number)
     }
 
     /// The bracket by scores, for the field that it comes from.
@@ -191,8 +191,7 @@ fn by_scores(scores: &[u16], mdps: usize, last: bool) -> Bracket
 
 /// Adds the scores of seats, in half points.
 pub fn push_scores(field: &Field, seats: &[u16], scores: &mut Numbers)
-    requires inside { AreSeats field.now seats.now }
-    requires room { array_vec_len scores.old + length seats.now ≤ LIMIT }
+    requires { array_vec_len scores.old + length seats.now ≤ LIMIT }
     ensures { scores.new.items ≡ scores.old.items ++ map (score_at field.now) seats.now }
 {
     for seat in seats {
@@ -244,7 +243,6 @@ impl<'a> ByNumber<'a> {
 
     /// The score of a number, in half points.
     pub fn score(&self, number: u16) -> u16
-        requires { (0 < number) × (number ≤ length self.now.reached.now.seats) }
         ensures value { result ≡ score_at self.now.field.now (seat_of self.now.reached.now.seats number) }
         ensures few { result ≤ 2 * MOST_ROUNDS }
     {
@@ -253,13 +251,12 @@ impl<'a> ByNumber<'a> {
 
     /// How many residents go down with a shape.
     pub fn residents_down(&self, shape: Shape) -> usize
-        requires { shape.pairs ≤ LIMIT }
         ensures { result ≡ residents_down self.now.reached.now shape }
     {
         let residents = self.len().saturating_sub(self.reached.mdps());
         let pairs = shape.pairs.saturating_sub(shape.mdps);
         residents
             .saturating_sub(shape.mdps)
-            .saturating_sub(2 * pairs)
+            .saturating_sub(pairs.saturating_mul(2))
     }
 }

@@ -1,9 +1,8 @@
 // A candidate by the seats of its players: its pairs, and who goes down or up in them (C.04.3 A.8).
-ghost use Rattle.std.specs.Prelude.{◌≡◌, ◌+◌, ◌<◌, ◌≤◌, ◌++◌, length, map};
+ghost use Rattle.std.specs.Prelude.{◌≡◌, ◌+◌, ◌≤◌, ◌++◌, length, map};
 ghost use Rattle.arrayvec.specs.ArrayVec.{array_vec_len};
 ghost use Rattle.dutch_bracket.specs.Seated.{seat_of, pairs_of, lowest, lowest_upto, by_seats, difference};
-ghost use Rattle.dutch_bracket.specs.Seated.{difference_down, is_uneven, goes, AreSeats, AllNumbers, HasSeats};
-ghost use Rattle.dutch_bracket.specs.Seated.{IsCandidate};
+ghost use Rattle.dutch_bracket.specs.Seated.{difference_down, is_uneven, goes, IsCandidate};
 
 use arrayvec::ArrayVec;
 use dutch_order::{Candidate, LIMIT, Numbers};
@@ -20,7 +19,7 @@ pub struct Floater {
 /// Two players who meet, by their seats.
 pub type Pair = (u16, u16);
 
-/// A candidate by seats.
+/// A candidate by seats, with at most as many pairs and downfloaters as a list has room for.
 #[derive(Default, Drop)]
 pub struct Seated {
     pub pairs: ArrayVec<Pair, LIMIT>,
@@ -30,25 +29,30 @@ pub struct Seated {
 }
 
 impl Model for Seated {
+    ghost use Rattle.std.specs.Prelude.{◌+◌, ◌≤◌};
+    ghost use Rattle.arrayvec.specs.ArrayVec.{array_vec_len};
+    ghost use Rattle.dutch_sequence.specs.declared.numbers.TheConstants.{LIMIT};
     ghost use Rattle.dutch_bracket.specs.Seated.{Seated};
 
     ghost Value = { Seated };
 
     ghost view = { λ s. record { pairs = s.pairs.items; down = s.down.items; lowest = s.lowest } };
+
+    ghost invariant = { λ s. array_vec_len s.pairs + array_vec_len s.down ≤ LIMIT };
 }
 
-/// The seat of a number in a bracket.
-fn seat_of(seats: &[u16], number: u16) -> u16
-    requires first { 0 < number }
-    requires last { number ≤ length seats.now }
+/// The seat of a number in a bracket; 0 behind its last number.
+pub(crate) fn seat_of(seats: &[u16], number: u16) -> u16
     ensures { result ≡ seat_of seats.now number }
 {
-    seats[usize::from(number) - 1]
+    match seats.get(usize::from(number).saturating_sub(1)) {
+        Some(seat) => *seat,
+        None => 0,
+    }
 }
 
 /// The lowest of a score and those of some seats.
 fn lowest_upto(field: &Field, least: u16, seats: &[u16]) -> u16
-    requires { AreSeats field.now seats.now }
     ensures { result ≡ lowest_upto field.now least seats.now }
 {
     let mut least = least;
@@ -60,7 +64,6 @@ fn lowest_upto(field: &Field, least: u16, seats: &[u16]) -> u16
 
 /// The lowest score of some seats.
 pub fn lowest(field: &Field, seats: &[u16]) -> u16
-    requires { AreSeats field.now seats.now }
     ensures { result ≡ lowest field.now seats.now }
 {
     match seats {
@@ -71,16 +74,13 @@ pub fn lowest(field: &Field, seats: &[u16]) -> u16
 
 /// The difference of a pair.
 pub fn difference(field: &Field, pair: Pair) -> u16
-    requires first { pair.0 < length field.now.seats }
-    requires second { pair.1 < length field.now.seats }
-    ensures value { result ≡ difference field.now pair }
+    ensures { result ≡ difference field.now pair }
 {
     field.score(pair.0).abs_diff(field.score(pair.1))
 }
 
 /// The difference of a downfloater.
 pub fn difference_down(field: &Field, least: u16, seat: u16) -> u16
-    requires { seat < length field.now.seats }
     ensures { result ≡ difference_down field.now least seat }
 {
     field.score(seat).saturating_sub(least) + 2
@@ -88,8 +88,6 @@ pub fn difference_down(field: &Field, least: u16, seat: u16) -> u16
 
 /// The players of a pair have different scores.
 pub fn is_uneven(field: &Field, pair: Pair) -> bool
-    requires first { pair.0 < length field.now.seats }
-    requires second { pair.1 < length field.now.seats }
     ensures { result ≡ is_uneven field.now pair }
 {
     field.score(pair.0) != field.score(pair.1)
@@ -97,10 +95,7 @@ pub fn is_uneven(field: &Field, pair: Pair) -> bool
 
 /// The player of a pair with different scores who floats so.
 pub fn goes(field: &Field, float: Float, pair: Pair) -> Floater
-    requires first { pair.0 < length field.now.seats }
-    requires second { pair.1 < length field.now.seats }
-    ensures value { result ≡ goes field.now float pair }
-    ensures inside { result.seat < length field.now.seats }
+    ensures { result ≡ goes field.now float pair }
 {
     let by = difference(field, pair);
     let first_is_lower = field.score(pair.0) < field.score(pair.1);
@@ -117,8 +112,6 @@ pub(crate) fn push_pairs(
     seconds: &[u16],
     pairs: &mut ArrayVec<Pair, LIMIT>,
 )
-    requires first { AllNumbers seats.now firsts.now }
-    requires second { AllNumbers seats.now seconds.now }
     requires equal { length firsts.now ≡ length seconds.now }
     requires room { array_vec_len pairs.old + length firsts.now ≤ LIMIT }
     ensures items { pairs.new.items ≡ pairs.old.items ++ pairs_of seats.now firsts.now seconds.now }
@@ -131,8 +124,7 @@ pub(crate) fn push_pairs(
 
 /// Adds the seats of numbers.
 pub(crate) fn push_seats(seats: &[u16], numbers: &[u16], own: &mut Numbers)
-    requires inside { AllNumbers seats.now numbers.now }
-    requires room { array_vec_len own.old + length numbers.now ≤ LIMIT }
+    requires { array_vec_len own.old + length numbers.now ≤ LIMIT }
     ensures { own.new.items ≡ own.old.items ++ map (seat_of seats.now) numbers.now }
 {
     for number in numbers {
@@ -142,8 +134,7 @@ pub(crate) fn push_seats(seats: &[u16], numbers: &[u16], own: &mut Numbers)
 
 /// The seats of numbers.
 pub fn seats_of(seats: &[u16], numbers: &[u16]) -> Numbers
-    requires inside { AllNumbers seats.now numbers.now }
-    requires few { length numbers.now ≤ LIMIT }
+    requires { length numbers.now ≤ LIMIT }
     ensures { result.items ≡ map (seat_of seats.now) numbers.now }
 {
     let mut own = Numbers::new();
@@ -154,10 +145,8 @@ pub fn seats_of(seats: &[u16], numbers: &[u16]) -> Numbers
 impl Seated {
     /// Fills it with a candidate of a bracket with these seats.
     pub(crate) fn fill(&mut self, field: &Field, seats: &[u16], candidate: &Candidate)
-        requires bracket { AreSeats field.now seats.now }
-        requires candidate { IsCandidate seats.now candidate.now }
-        ensures value { self.new ≡ by_seats field.now seats.now candidate.now }
-        ensures inside { HasSeats field.now self.new }
+        requires { IsCandidate candidate.now }
+        ensures { self.new ≡ by_seats field.now seats.now candidate.now }
     {
         self.pairs.clear();
         push_pairs(seats, candidate.s1(), candidate.s2(), &mut self.pairs);
@@ -170,10 +159,8 @@ impl Seated {
 
 /// A candidate of a bracket with these seats, by seats.
 pub fn by_seats(field: &Field, seats: &[u16], candidate: &Candidate) -> Seated
-    requires bracket { AreSeats field.now seats.now }
-    requires candidate { IsCandidate seats.now candidate.now }
-    ensures value { result ≡ by_seats field.now seats.now candidate.now }
-    ensures inside { HasSeats field.now result }
+    requires { IsCandidate candidate.now }
+    ensures { result ≡ by_seats field.now seats.now candidate.now }
 {
     let mut seated = Seated::default();
     seated.fill(field, seats, candidate);

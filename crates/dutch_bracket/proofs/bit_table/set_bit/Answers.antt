@@ -3,8 +3,8 @@ use Rattle.std.proofs.Common.{arith}
 use Rattle.dutch_bracket.proofs.BitLemmas.{bit_set, bit_kept}
 use Rattle.dutch_bracket.proofs.bit_table.set_bit.Goals as goal
 
-pub returns-clause-set : goal.returns-clause-set
-returns-clause-set c = bit_set c.args.words.now c.args.place (omega arith)
+pub returns-then-place-words-clause-set : goal.returns-then-place-words-clause-set
+returns-then-place-words-clause-set c = λ there. bit_set c.args.words.now c.args.place (omega (arith, there))
 
-pub returns-clause-others : goal.returns-clause-others
-returns-clause-others c = λ i other. bit_kept c.args.words.now c.args.place i (omega arith) other
+pub returns-then-place-words-clause-others : goal.returns-then-place-words-clause-others
+returns-then-place-words-clause-others c = λ i other. bit_kept c.args.words.now c.args.place i (omega arith) other

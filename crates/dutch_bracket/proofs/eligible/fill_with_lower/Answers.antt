@@ -7,4 +7,4 @@ use Rattle.dutch_bracket.proofs.eligible.fill_with_lower.Goals as goal
 pub push_all-requires : goal.push_all-requires
 push_all-requires c =
     let seats = c.push_seats.ensures ∙ ap (λ none. none ++ map (seat_of c.seats.result.now) c.args.numbers.now) c.clear.ensures in
-    omega (arith, c.requires.few, ap length seats, length-map c.args.numbers.now (seat_of c.seats.result.now))
+    omega (arith, c.requires, ap length seats, length-map c.args.numbers.now (seat_of c.seats.result.now))
