@@ -1,18 +1,18 @@
 -- Brackets whose residents have one score, and the candidates of a bracket.
-use Rattle.std.proofs.Common.{◌≡◌, ℕ, zero, suc, ◌+◌, ◌-◌, ◌<◌, ◌≤◌, List, [], ◌∷◌, length, get_or, inl, inr, refl, sym, ap, ◌∙◌, subst, arith}
+use Rattle.std.proofs.Common.{◌≡◌, ℕ, zero, suc, ◌+◌, ◌-◌, ◌<◌, ◌≤◌, List, ◌∷◌, length, get_or, inl, inr, refl, sym, ap, ◌∙◌, subst, arith}
 use Rattle.std.specs.Prelude.{slice_index, Some}
 use Rattle.std.proofs.lemmas.List.{get_or-map}
 use Rattle.std.proofs.lemmas.Bool.{cases_lt}
 use Rattle.dutch_order.specs.declared.bracket.Shape.{Shape}
 use Rattle.dutch_order.specs.Prelude.{IsIn, IsNonAscending, Candidate, Frame, Arrangement, candidates, arrangements, is_legal, down}
 use Rattle.dutch_player.specs.Prelude.{Facts}
-use Rattle.dutch_bracket.specs.Prelude.{seat_of, score_at, lowest, by_seats, AllNumbers, IsCandidate, Reached, frame_of, numbers_meet, number_may_be_left, IsOf, NextValue, psd, IsFirst, greatest_shape, legal_in, psd_in, value_of_shape, IsFlat}
-use Rattle.dutch_bracket.proofs.ArrangementParts.{parts_of, Residents}
+use Rattle.dutch_bracket.specs.Prelude.{seat_of, score_at, lowest, by_seats, IsCandidate, Reached, frame_of, numbers_meet, number_may_be_left, IsOf, NextValue, psd, IsFirst, greatest_shape, legal_in, psd_in, value_of_shape, IsFlat}
+use Rattle.dutch_bracket.proofs.ArrangementParts.{parts_of}
 use Rattle.dutch_bracket.proofs.Everybody.{how_many}
 use Rattle.dutch_bracket.proofs.PsdParts.{OneScore}
 use Rattle.dutch_bracket.proofs.Descents.{lowest_is_one, none_lower}
-use Rattle.dutch_bracket.proofs.DownLemmas.{players, down_numbers}
-use Rattle.dutch_bracket.proofs.LeastPsd.{Descends, all_climb, first_is_least, in_filter}
+use Rattle.dutch_bracket.proofs.DownLemmas.{players}
+use Rattle.dutch_bracket.proofs.LeastPsd.{Descends, first_is_least, in_filter}
 
 seat_score : (facts : Facts) (reached : Reached) (i : ℕ) → i < length reached.seats → slice_index (frame_of facts reached).scores i ≡ score_at facts (get_or reached.seats i 0)
 seat_score facts reached i h = get_or-map (score_at facts) reached.seats i 0 0 h

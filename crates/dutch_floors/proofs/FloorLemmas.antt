@@ -5,18 +5,18 @@ use Rattle.dutch_order.specs.declared.bracket.Shape.{Shape}
 use Rattle.dutch_order.specs.declared.prefix.Filling.{Filling}
 use Rattle.dutch_order.specs.declared.prefix.Filling.TheVariants.{S1, S2, S2r}
 use Rattle.dutch_order.specs.Prelude.{Fits, numbers_from, Beginning}
-use Rattle.dutch_bracket.specs.Prelude.{IsOf, frame_of, AllNumbers, HasNumbers, fixed_lists, is_of_shape}
+use Rattle.dutch_bracket.specs.Prelude.{IsOf, frame_of, HasFewPairs, fixed_lists, is_of_shape}
 use Rattle.dutch_floors.specs.Behind.{Basis}
 use Rattle.dutch_floors.specs.FloorOf.{is_known, s1_by, s1_of}
-use Rattle.dutch_bracket.proofs.ShapeNumbers.{first_few, first_length, first_numbers, numbers_fit}
+use Rattle.dutch_bracket.proofs.ShapeNumbers.{first_few, first_length, numbers_fit}
 
 -- where a floor is known, its lists are of the bracket and the shape
 of_shape : (basis : Basis) (b : Beginning) → is_known basis b ≡ true → is_of_shape basis.reached basis.shape (fixed_lists b) ≡ true
 of_shape basis b h = (and_parts (is_of_shape basis.reached basis.shape (fixed_lists b)) _ h).0
 
-pub known_numbers : (basis : Basis) (b : Beginning) → Fits (frame_of basis.facts basis.reached) basis.shape → IsOf basis.facts basis.reached → is_known basis b ≡ true
-    → HasNumbers basis.reached (fixed_lists b)
-known_numbers basis b fits of' h = numbers_fit basis.facts basis.reached basis.shape (fixed_lists b) fits of' (of_shape basis b h)
+pub known_pairs : (basis : Basis) (b : Beginning) → Fits (frame_of basis.facts basis.reached) basis.shape → IsOf basis.facts basis.reached → is_known basis b ≡ true
+    → HasFewPairs (fixed_lists b)
+known_pairs basis b fits of' h = numbers_fit basis.facts basis.reached basis.shape (fixed_lists b) fits of' (of_shape basis b h)
 
 known_few : (basis : Basis) (b : Beginning) → is_known basis b ≡ true → length (fixed_lists b).s1 ≤ basis.shape.mdps
 known_few basis b h = first_few basis.reached basis.shape (fixed_lists b) (of_shape basis b h)
@@ -26,12 +26,6 @@ first_or : (P : List ℕ → Type 0) (filling : Filling) (shape : Shape) (s1 : L
 first_or P S1 shape s1 first chosen = first
 first_or P S2 shape s1 first chosen = chosen
 first_or P S2r shape s1 first chosen = chosen
-
-pub s1_numbers : (basis : Basis) (b : Beginning) → Fits (frame_of basis.facts basis.reached) basis.shape → IsOf basis.facts basis.reached → is_known basis b ≡ true
-    → AllNumbers basis.reached.seats (s1_of basis b)
-s1_numbers basis b fits of' h =
-    first_or (AllNumbers basis.reached.seats) b.filling basis.shape (fixed_lists b).s1 (first_numbers basis.facts basis.reached basis.shape fits of')
-    (known_numbers basis b fits of' h).s1
 
 pub s1_few : (basis : Basis) (b : Beginning) → is_known basis b ≡ true → length (s1_of basis b) ≤ basis.shape.mdps
 s1_few basis b h =

@@ -1,6 +1,6 @@
 -- A premise, what is taken as given of an arrangement beside how it begins, by seats (C.04.3 B.3). What bounds the choice by beginnings
 -- stands on these; a reader of its promise may pass them by.
-use Rattle.std.specs.Prelude.{ℕ, ◌<◌, ◌&&◌, ◌==◌, if◌then◌else◌, List, [], ◌∷◌, ◌++◌, length}
+use Rattle.std.specs.Prelude.{ℕ, ◌&&◌, ◌==◌, if◌then◌else◌, List, [], ◌∷◌, ◌++◌}
 use Rattle.std.specs.List.{list_any}
 use Rattle.dutch_order.specs.Prelude.{Arrangement, IsIn}
 use Rattle.dutch_player.specs.Prelude.{Facts}
@@ -21,11 +21,6 @@ with_pair pair pairs = if list_any (λ other. (other.0 == pair.0) && (other.1 ==
 abbrev pub seated_given : Facts → Reached → Premise → List (ℕ × ℕ) → Seated
 seated_given facts reached (Meet p q) pairs = seated_so facts reached (with_pair (p, q) pairs) []
 seated_given facts reached (Down p) pairs = seated_so facts reached pairs (p ∷ [])
-
--- a premise names seats of the field [with Holds]
-abbrev pub IsPremise : Facts → Premise → Type 0
-IsPremise facts (Meet p q) = (p < length facts.seats) × (q < length facts.seats)
-IsPremise facts (Down p) = p < length facts.seats
 
 -- what a wish gives holds in an arrangement: two are one of its pairs, or one goes down [own]
 abbrev pub Holds : Facts → Reached → Premise → Arrangement → Type 0

@@ -1,8 +1,8 @@
 // How many players miss their colour preference at least, by the pairs that are fixed (C.04.3 C.10, C.11).
-ghost use Rattle.std.specs.Prelude.{◌≡◌, ◌+◌, ◌-◌, ◌*◌, ◌<◌, ◌≤◌, length, sum_by};
+ghost use Rattle.std.specs.Prelude.{◌≡◌, ◌+◌, ◌-◌, ◌*◌, ◌≤◌, length, sum_by};
 ghost use Rattle.dutch_sequence.specs.declared.numbers.TheConstants.{LIMIT};
 ghost use Rattle.dutch_bracket.specs.declared.colours_missed.Miss.TheVariants.{Preference, StrongPreference};
-ghost use Rattle.dutch_bracket.specs.Prelude.{misses, count_in, count_in_pairs, AllPairs, AreSeats, HasSeats, in_both};
+ghost use Rattle.dutch_bracket.specs.Prelude.{misses, count_in, count_in_pairs, in_both};
 ghost use Rattle.dutch_floors.specs.FloorOf.{AreWants, more_in, served_in, wanting};
 
 use dutch_bracket::colours_missed::{Miss, count_in};
@@ -36,7 +36,6 @@ pub(crate) struct Wants {
 
 /// 1 for a seat whose preference is counted.
 fn weight(context: &Context<'_>, want: Want, seat: u16) -> usize
-    requires { seat < length context.now.facts.seats }
     ensures value { result ≡ wanting want.firm context.now.facts want.colour seat }
     ensures one { result ≤ 1 }
 {
@@ -49,7 +48,6 @@ fn weight(context: &Context<'_>, want: Want, seat: u16) -> usize
 
 /// How many players are counted.
 fn in_seats(context: &Context<'_>, want: Want, seats: &[u16]) -> usize
-    requires inside { AreSeats context.now.facts seats.now }
     requires few { length seats.now ≤ LIMIT }
     ensures value { result ≡ sum_by (wanting want.firm context.now.facts want.colour) seats.now }
     ensures few { result ≤ LIMIT }
@@ -63,7 +61,6 @@ fn in_seats(context: &Context<'_>, want: Want, seats: &[u16]) -> usize
 
 /// How many players of pairs are counted.
 fn in_pairs(context: &Context<'_>, want: Want, pairs: &[Pair]) -> usize
-    requires inside { AllPairs context.now.facts pairs.now }
     requires few { length pairs.now ≤ LIMIT }
     ensures value { result ≡ sum_by (in_both (wanting want.firm context.now.facts want.colour)) pairs.now }
     ensures few { result ≤ 2 * LIMIT }
@@ -98,7 +95,6 @@ pub(crate) fn wants_in(context: &Context<'_>, firm: bool) -> Wants
 
 /// How many are counted of those who are in known pairs, or are known to go down.
 fn in_seated(context: &Context<'_>, seated: &Seated, want: Want) -> usize
-    requires { HasSeats context.now.facts seated.now }
     ensures { result ≡ sum_by (in_both (wanting want.firm context.now.facts want.colour)) seated.now.pairs
         + sum_by (wanting want.firm context.now.facts want.colour) seated.now.down }
 {
@@ -107,7 +103,6 @@ fn in_seated(context: &Context<'_>, seated: &Seated, want: Want) -> usize
 
 /// How many of a bracket's players can be served who are in no known pair and are not known to go down.
 fn served(context: &Context<'_>, shape: Shape, seated: &Seated) -> usize
-    requires inside { HasSeats context.now.facts seated.now }
     requires small { shape.pairs ≤ LIMIT }
     ensures { result ≡ served_in context.now.reached shape seated.now }
 {
@@ -119,7 +114,6 @@ fn served(context: &Context<'_>, shape: Shape, seated: &Seated) -> usize
 /// How many of so many players who are counted can be served neither in known pairs nor beside them. (Where all could
 /// be served beside them, nobody is looked at.)
 fn surplus(context: &Context<'_>, shape: Shape, seated: &Seated, wanted: Wanted) -> usize
-    requires inside { HasSeats context.now.facts seated.now }
     requires small { shape.pairs ≤ LIMIT }
     ensures { let w = wanting wanted.want.firm context.now.facts wanted.want.colour in result
         ≡ ((wanted.count - sum_by (in_both w) seated.now.pairs) - sum_by w seated.now.down)
@@ -144,7 +138,6 @@ pub(crate) fn more_missed(
     wants: Wants,
 ) -> usize
     requires counted { AreWants context.now.facts context.now.reached wants }
-    requires inside { HasSeats context.now.facts seated.now }
     requires small { shape.pairs ≤ LIMIT }
     ensures value { result ≡ more_in wants.firm context.now.facts context.now.reached shape seated.now }
     ensures few { result ≤ LIMIT }
@@ -168,7 +161,6 @@ pub(crate) fn more_missed(
 
 /// How many players of pairs miss their preference (C.10).
 pub(crate) fn missed(context: &Context<'_>, pairs: &[Pair]) -> u16
-    requires inside { AllPairs context.now.facts pairs.now }
     requires few { length pairs.now ≤ LIMIT }
     ensures value { result ≡ count_in_pairs context.now.facts (misses Preference) pairs.now }
     ensures few { result ≤ LIMIT }
@@ -183,8 +175,6 @@ pub(crate) fn missed(context: &Context<'_>, pairs: &[Pair]) -> u16
 /// How many players of a pair miss a strong preference.
 #[tactic(auto, using(dutch_bracket::proofs::PairMisses::no_strong_miss))]
 fn strong_misses(context: &Context<'_>, pair: Pair) -> u16
-    requires first { pair.0 < length context.now.facts.seats }
-    requires second { pair.1 < length context.now.facts.seats }
     ensures value { result ≡ count_in context.now.facts (misses StrongPreference) pair }
     ensures few { result ≤ 2 }
 {
@@ -196,7 +186,6 @@ fn strong_misses(context: &Context<'_>, pair: Pair) -> u16
 
 /// How many players of pairs miss a strong preference (C.11).
 pub(crate) fn missed_strong(context: &Context<'_>, pairs: &[Pair]) -> u16
-    requires inside { AllPairs context.now.facts pairs.now }
     requires few { length pairs.now ≤ LIMIT }
     ensures value { result ≡ count_in_pairs context.now.facts (misses StrongPreference) pairs.now }
     ensures few { result ≤ 2 * LIMIT }

@@ -1,17 +1,16 @@
 // The floor of a beginning: a quality that no candidate with this beginning is better than (C.04.3 C.6 to C.19). It is
 // asked for at each beginning that a choice comes to, so it takes no memory and looks at each player only a few times.
-ghost use Rattle.std.specs.Prelude.{◌≡◌, ◌<◌, ◌≤◌, ◌||◌, ◌&&◌, IfSome, true, length};
+ghost use Rattle.std.specs.Prelude.{◌≡◌, ◌≤◌, ◌||◌, ◌&&◌, true, length};
 ghost use Rattle.std.specs.Result.{MatchResult};
 ghost use Rattle.dutch_order.specs.Prelude.{Fits, Spends};
 ghost use Rattle.dutch_sequence.specs.declared.numbers.TheConstants.{LIMIT};
-ghost use Rattle.dutch_bracket.specs.Prelude.{next_in, quality_in, fixed, HasNumbers, fixed_lists, psd_with};
-ghost use Rattle.dutch_bracket.specs.Prelude.{IsOf, frame_of, AllNumbers, HasSeats, floor_over, has_s1, is_uniform};
+ghost use Rattle.dutch_bracket.specs.Prelude.{next_in, quality_in, fixed, HasFewPairs, fixed_lists, psd_with};
+ghost use Rattle.dutch_bracket.specs.Prelude.{IsOf, frame_of, floor_over, has_s1, is_uniform};
 ghost use Rattle.dutch_bracket.specs.Prelude.{IsNoBetter};
 ghost use Rattle.dutch_floors.specs.Outlooks.{IsOutlook, IsOutlookFrom, awaited};
 ghost use Rattle.dutch_floors.specs.FloorOf.{AreWants, is_flat, is_known, residents_score, psd_over, more_by, s1_of};
 ghost use Rattle.dutch_floors.specs.FloorOf.{floor_by, floor_by_seats, floor_given, floor_of};
 ghost use Rattle.dutch_floors.specs.Behind.{IsBasisFor, NoneBeats, NoneGivenBeats, NoneHasBetterNext};
-ghost use Rattle.dutch_floors.specs.Premises.{IsPremise};
 
 use crate::colour_floor::{Wants, missed, missed_strong, more_missed, wants_in};
 use crate::lonely::lonely;
@@ -123,8 +122,6 @@ impl<'a> Floors<'a> {
     /// Fills a list with the PSD that S1 gives if all residents have one score.
     #[tactic(auto, using(dutch_bracket::proofs::ShapeNumbers::has_room))]
     fn fill_psd_with(&self, s1: &[u16], psd: &mut Numbers)
-        requires resident { self.now.reached.mdps < length self.now.reached.seats }
-        requires numbers { AllNumbers self.now.reached.seats s1.now }
         requires few { length s1.now ≤ self.now.shape.mdps }
         ensures { psd.new.items ≡ psd_with self.now.facts self.now.reached self.now.shape
             (residents_score self.now.facts self.now.reached) s1.now }
@@ -193,9 +190,8 @@ impl<'a> Floors<'a> {
 
     /// How many more miss than in the pairs that are fixed (C.10).
     fn more_by(&self, prefix: &Prefix<'_>, room: &mut Room) -> usize
-        requires numbers { HasNumbers self.now.reached (fixed_lists prefix.now) }
+        requires pairs { HasFewPairs (fixed_lists prefix.now) }
         requires seated { room.old.seated ≡ fixed self.now.facts self.now.reached (fixed_lists prefix.now) }
-        requires inside { HasSeats self.now.facts room.old.seated }
         ensures value { result ≡ more_by prefix.now.filling self.now (fixed_lists prefix.now) }
         ensures few { result ≤ LIMIT }
         ensures seated { room.new.seated ≡ room.old.seated }
@@ -214,8 +210,6 @@ impl<'a> Floors<'a> {
     /// Fills a list with the PSD (C.6).
     #[tactic(auto, unfolding(crate::specs::FloorOf::psd_over))]
     fn fill_psd(&self, s1: &[u16], seated: &Seated, psd: &mut Numbers)
-        requires inside { HasSeats self.now.facts seated.now }
-        requires numbers { AllNumbers self.now.reached.seats s1.now }
         requires few { length s1.now ≤ self.now.shape.mdps }
         ensures { psd.new.items ≡ psd_over self.now s1.now seated.now }
     {
@@ -229,8 +223,6 @@ impl<'a> Floors<'a> {
     /// Fills the floor by S1 and by what is known by seats, where so many more miss (C.10).
     #[tactic(auto, unfolding(dutch_bracket::specs::Floors::floor_over, dutch_bracket::specs::Quality::quality_with, dutch_bracket::specs::QualityIn::with_others))]
     fn fill_over(&self, s1: &[u16], more: usize, room: &mut Room)
-        requires inside { HasSeats self.now.facts room.old.seated }
-        requires numbers { AllNumbers self.now.reached.seats s1.now }
         requires few { length s1.now ≤ self.now.shape.mdps }
         requires more { more ≤ LIMIT }
         ensures { quality_in room.new.quality ≡ floor_by self.now s1.now more room.old.seated }
@@ -250,8 +242,6 @@ impl<'a> Floors<'a> {
     /// Fills the floor by S1 and by what is known by seats alone.
     #[tactic(auto, unfolding(crate::specs::FloorOf::floor_by_seats))]
     fn fill_by_seats(&self, s1: &[u16], room: &mut Room)
-        requires inside { HasSeats self.now.facts room.old.seated }
-        requires numbers { AllNumbers self.now.reached.seats s1.now }
         requires few { length s1.now ≤ self.now.shape.mdps }
         ensures { quality_in room.new.quality ≡ floor_by_seats self.now s1.now room.old.seated }
     {
@@ -266,14 +256,12 @@ impl<'a> Floors<'a> {
 
     /// Whether a floor of a beginning is known. None is if its lists are not of the bracket and the shape, or if S1 is
     /// not chosen and it matters which one is.
-    #[tactic(auto, using(crate::proofs::FloorLemmas::known_numbers, crate::proofs::FloorLemmas::s1_numbers, crate::proofs::FloorLemmas::s1_few))]
+    #[tactic(auto, using(crate::proofs::FloorLemmas::known_pairs, crate::proofs::FloorLemmas::s1_few))]
     fn is_known(&self, prefix: &Prefix<'_>) -> bool
         ensures known { result ≡ is_known self.now prefix.now }
         ensures of { IsOf self.now.facts self.now.reached }
         ensures outlook { IsOutlook self.now.facts self.now.reached self.now.lower self.now.shape self.now.outlook }
-        ensures numbers { is_known self.now prefix.now ≡ true → HasNumbers self.now.reached (fixed_lists prefix.now) }
-        ensures s1 { is_known self.now prefix.now ≡ true
-            → AllNumbers self.now.reached.seats (s1_of self.now prefix.now) }
+        ensures pairs { is_known self.now prefix.now ≡ true → HasFewPairs (fixed_lists prefix.now) }
         ensures few { is_known self.now prefix.now ≡ true → length (s1_of self.now prefix.now) ≤ self.now.shape.mdps }
     {
         let lists = fixed_lists(prefix);
@@ -308,7 +296,6 @@ impl<'a> Floors<'a> {
     /// Fills what is known by counts behind a beginning under a premise, if something is.
     #[tactic(auto, unfolding(crate::specs::FloorOf::floor_given))]
     fn fill_known_given(&self, premise: Premise, prefix: &Prefix<'_>, room: &mut Room) -> bool
-        requires { IsPremise self.now.facts premise }
         ensures known { result ≡ true → is_known self.now prefix.now ≡ true }
         ensures of { IsOf self.now.facts self.now.reached }
         ensures outlook { IsOutlook self.now.facts self.now.reached self.now.lower self.now.shape self.now.outlook }
@@ -328,7 +315,6 @@ impl<'a> Floors<'a> {
     /// Fills a quality that no candidate with a beginning is better than for which a premise holds. A no says that none
     /// is known.
     pub fn floor_given(&self, premise: Premise, prefix: &Prefix<'_>, room: &mut Room) -> bool
-        requires { IsPremise self.now.facts premise }
         ensures { result ≡ true → NoneGivenBeats self.now prefix.now premise (quality_in room.new.quality) }
     {
         self.fill_known_given(premise, prefix, room)
@@ -337,10 +323,8 @@ impl<'a> Floors<'a> {
     /// The quality that a first pass aims at, if all residents have one score: what a beginning with the first S1, and
     /// what a premise gives beside it, promises up to C.11. Any aim serves: the choice among the candidates that it is
     /// not better than is the choice of all.
-    #[tactic(auto, using(dutch_bracket::proofs::ShapeNumbers::first_length, dutch_bracket::proofs::ShapeNumbers::first_numbers))]
-    pub fn aim(&self, premise: Option<Premise>) -> Option<Quality>
-        requires { IfSome premise (IsPremise self.now.facts) }
-    {
+    #[tactic(auto, using(dutch_bracket::proofs::ShapeNumbers::first_length))]
+    pub fn aim(&self, premise: Option<Premise>) -> Option<Quality> {
         if !self.flat {
             return None;
         }

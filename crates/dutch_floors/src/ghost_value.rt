@@ -7,7 +7,7 @@ ghost use Rattle.arrayvec.specs.ArrayVec.{array_vec_len};
 ghost use Rattle.dutch_order.specs.Prelude.{IsBracket, left_of, Spends};
 ghost use Rattle.dutch_bracket.specs.declared.reached.BracketKind.TheVariants.{Ordinary};
 ghost use Rattle.dutch_bracket.specs.Prelude.{ghost_frame, group_here, IsFlat, repeated, placed_all, seat_of};
-ghost use Rattle.dutch_bracket.specs.Prelude.{score_at, AllNumbers};
+ghost use Rattle.dutch_bracket.specs.Prelude.{score_at};
 ghost use Rattle.dutch_floors.specs.GhostValues.{first_limbo, first_ghosts, floor_held, ghost_value};
 
 use crate::ghosts::Ghosts;
@@ -22,8 +22,7 @@ use dutch_order::{Bracket, Budget, LIMIT, Numbers, Stopped, numbered_from};
 
 /// Adds the scores of those of some numbers who are not in S1.
 pub(crate) fn push_left(context: &Context<'_>, numbers: &[u16], s1: &[u16], scores: &mut Numbers)
-    requires numbers { AllNumbers context.now.reached.seats numbers.now }
-    requires room { array_vec_len scores.old + length numbers.now ≤ LIMIT }
+    requires { array_vec_len scores.old + length numbers.now ≤ LIMIT }
     ensures items { scores.new.items ≡ scores.old.items
         ++ map (λ i. score_at context.now.facts (seat_of context.now.reached.seats i)) (left_of numbers.now s1.now) }
 {

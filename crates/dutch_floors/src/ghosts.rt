@@ -5,7 +5,7 @@ ghost use Rattle.std.specs.List.{list_any};
 ghost use Rattle.std.specs.Result.{MatchResult};
 ghost use Rattle.dutch_sequence.specs.declared.numbers.TheConstants.{LIMIT};
 ghost use Rattle.dutch_player.specs.Prelude.{may_meet};
-ghost use Rattle.dutch_bracket.specs.Prelude.{AreSeats, is_upto, some_meets, may_bye, ghosts_meet, ghost_may_be_left};
+ghost use Rattle.dutch_bracket.specs.Prelude.{is_upto, some_meets, may_bye, ghosts_meet, ghost_may_be_left};
 ghost use Rattle.dutch_bracket.specs.Prelude.{group_here};
 ghost use Rattle.dutch_floors.specs.GhostRules.{IsRead};
 ghost use Rattle.dutch_order.specs.Prelude.{Spends};
@@ -41,8 +41,6 @@ impl<'a> Model for Ghosts<'a> {
 
 /// Whether some player of a bracket may meet a lower one.
 fn some_meets(field: &Field, seats: &[u16], lower: u16) -> bool
-    requires seats { AreSeats field.now seats.now }
-    requires lower { lower < length field.now.seats }
     ensures { result ≡ some_meets field.now seats.now lower }
 {
     for seat in seats {
@@ -55,7 +53,6 @@ fn some_meets(field: &Field, seats: &[u16], lower: u16) -> bool
 
 /// Whether some player of a bracket may have the bye.
 fn some_may_bye(field: &Field, seats: &[u16]) -> bool
-    requires { AreSeats field.now seats.now }
     ensures { result ≡ list_any (may_bye field.now) seats.now }
 {
     for seat in seats {
@@ -68,9 +65,7 @@ fn some_may_bye(field: &Field, seats: &[u16]) -> bool
 
 /// Of each lower player whether some player of a bracket may meet them.
 fn read_met(field: &Field, seats: &[u16], lower: &[u16]) -> ArrayVec<bool, LIMIT>
-    requires seats { AreSeats field.now seats.now }
-    requires lower { AreSeats field.now lower.now }
-    requires few { length lower.now ≤ LIMIT }
+    requires { length lower.now ≤ LIMIT }
     ensures { result.items ≡ map (some_meets field.now seats.now) lower.now }
 {
     let mut met = ArrayVec::new();
@@ -138,13 +133,22 @@ impl<'a> Ghosts<'a> {
         self.met[place]
     }
 
+    /// The lower player at a place; seat 0 behind the last one.
+    fn lower_at(&self, place: usize) -> u16
+        ensures { result ≡ slice_index self.now.lower place }
+    {
+        match self.lower.get(place) {
+            Some(seat) => *seat,
+            None => 0,
+        }
+    }
+
     /// Whether the lower players at two places may meet.
     fn lower_meet(&self, one: usize, other: usize) -> bool
-        requires one { one < length self.now.lower }
-        requires other { other < length self.now.lower }
         ensures { result ≡ may_meet self.now.facts (slice_index self.now.lower one) (slice_index self.now.lower other) }
     {
-        self.field.may_meet(self.lower[one], self.lower[other])
+        self.field
+            .may_meet(self.lower_at(one), self.lower_at(other))
     }
 
     /// Whether a ghost may have the bye.
@@ -156,10 +160,9 @@ impl<'a> Ghosts<'a> {
 
     /// Whether the lower player at a place may have the bye.
     fn lower_may_bye(&self, place: usize) -> bool
-        requires { place < length self.now.lower }
         ensures { result ≡ may_bye self.now.facts (slice_index self.now.lower place) }
     {
-        self.field.may_bye(self.lower[place])
+        self.field.may_bye(self.lower_at(place))
     }
 }
 

@@ -1,10 +1,10 @@
 // Once S1R is chosen: players who miss their preference, whoever of those left becomes their opponent (C.04.3 C.10).
-ghost use Rattle.std.specs.Prelude.{◌≡◌, ◌+◌, ◌-◌, ◌<◌, ◌≤◌, ◌||◌, ◌++◌, ℕ, not, length, filter, max};
-ghost use Rattle.std.specs.List.{list_any, AllByRecursion};
+ghost use Rattle.std.specs.Prelude.{◌≡◌, ◌+◌, ◌-◌, ◌≤◌, ◌||◌, ℕ, not, length, filter, max};
+ghost use Rattle.std.specs.List.{list_any};
 ghost use Rattle.arrayvec.specs.ArrayVec.{array_vec_len};
 ghost use Rattle.dutch_sequence.specs.declared.numbers.TheConstants.{LIMIT};
 ghost use Rattle.dutch_order.specs.Prelude.{is_member, numbers_from};
-ghost use Rattle.dutch_bracket.specs.Prelude.{AllNumbers, has_bit, suits, waiting, pool, lonely, HasNumbers};
+ghost use Rattle.dutch_bracket.specs.Prelude.{has_bit, suits, waiting, pool, lonely, HasFewPairs};
 
 use dutch_bracket::bit_table::{WORD, has_bit, set_bit};
 use dutch_bracket::context::Context;
@@ -14,10 +14,9 @@ use dutch_order::{LIMIT, Numbers, Shape};
 /// A mark for each number of a bracket.
 type Marks = [u64; LIMIT / WORD + 1];
 
-/// Marks numbers.
+/// Marks numbers, as far as there are marks for them.
 fn mark(numbers: &[u16], marks: &mut Marks)
-    requires { AllByRecursion (λ number. number ≤ LIMIT) numbers.now }
-    ensures { (i : ℕ) → has_bit marks.new i ≡ (has_bit marks.old i || is_member i numbers.now) }
+    ensures { (i : ℕ) → i ≤ LIMIT → has_bit marks.new i ≡ (has_bit marks.old i || is_member i numbers.now) }
 {
     for number in numbers {
         set_bit(marks, usize::from(*number));
@@ -41,11 +40,9 @@ fn put_unmarked(first: usize, count: usize, marks: &Marks, left: &mut Numbers)
 }
 
 /// Fills a list with the residents with whom S1R can still be paired.
-#[tactic(auto, using(crate::proofs::LonelyLemmas::pool_is, crate::proofs::LonelyLemmas::pool_numbers))]
+#[tactic(auto, using(crate::proofs::LonelyLemmas::pool_is))]
 fn put_pool(context: &Context<'_>, lists: &FixedLists<'_>, left: &mut Numbers)
-    requires { HasNumbers context.now.reached lists.now }
     ensures items { left.new.items ≡ pool context.now.facts context.now.reached lists.now }
-    ensures numbers { AllNumbers context.now.reached.seats left.new.items }
     ensures few { length left.new.items ≤ LIMIT }
 {
     let mdps = context.reached().mdps();
@@ -70,8 +67,6 @@ fn waiting<'a>(lists: &FixedLists<'a>) -> &'a [u16]
 
 /// Whether a number suits one of some.
 fn suits_one(context: &Context<'_>, x: u16, others: &[u16]) -> bool
-    requires number { (0 < x) × (x ≤ length context.now.reached.seats) }
-    requires others { AllNumbers context.now.reached.seats others.now }
     ensures { result ≡ list_any (suits context.now.facts context.now.reached x) others.now }
 {
     for other in others {
@@ -84,8 +79,6 @@ fn suits_one(context: &Context<'_>, x: u16, others: &[u16]) -> bool
 
 /// Whether one of some suits a number.
 fn is_suited(context: &Context<'_>, y: u16, others: &[u16]) -> bool
-    requires number { (0 < y) × (y ≤ length context.now.reached.seats) }
-    requires others { AllNumbers context.now.reached.seats others.now }
     ensures { result ≡ list_any (λ x. suits context.now.facts context.now.reached x y) others.now }
 {
     for other in others {
@@ -99,8 +92,6 @@ fn is_suited(context: &Context<'_>, y: u16, others: &[u16]) -> bool
 /// How many of those who wait suit nobody of the pool.
 #[tactic(auto, unfolding(dutch_bracket::specs::ColourFloors::lonely_first))]
 fn lonely_first(context: &Context<'_>, waiting: &[u16], pool: &[u16]) -> usize
-    requires waiting { AllNumbers context.now.reached.seats waiting.now }
-    requires pool { AllNumbers context.now.reached.seats pool.now }
     ensures value { result ≡ length
         (filter (λ x. not (list_any (suits context.now.facts context.now.reached x) pool.now)) waiting.now) }
     ensures few { result ≤ length waiting.now }
@@ -117,8 +108,6 @@ fn lonely_first(context: &Context<'_>, waiting: &[u16], pool: &[u16]) -> usize
 /// How many of the pool suit nobody who waits.
 #[tactic(auto, unfolding(dutch_bracket::specs::ColourFloors::lonely_second))]
 fn lonely_second(context: &Context<'_>, waiting: &[u16], pool: &[u16]) -> usize
-    requires waiting { AllNumbers context.now.reached.seats waiting.now }
-    requires pool { AllNumbers context.now.reached.seats pool.now }
     ensures value { result ≡ length
         (filter (λ y. not (list_any (λ x. suits context.now.facts context.now.reached x y) waiting.now)) pool.now) }
     ensures few { result ≤ length pool.now }
@@ -135,25 +124,21 @@ fn lonely_second(context: &Context<'_>, waiting: &[u16], pool: &[u16]) -> usize
 /// The greater of two counts of lonely players, of which so many of the second may go down: a pair may have one of
 /// each.
 fn more_lonely(first: usize, second: usize, down: usize) -> usize
-    requires first { first ≤ LIMIT }
-    requires second { second ≤ LIMIT }
-    ensures value { result ≡ max first (second - down) }
-    ensures few { result ≤ LIMIT }
+    ensures { result ≡ max first (second - down) }
 {
     first.max(second.saturating_sub(down))
 }
 
 /// How many miss at least for want of an opponent who suits. The list is filled anew with those with whom S1R can still
 /// be paired.
-#[tactic(auto, using(crate::proofs::LonelyLemmas::beyond_numbers), unfolding(dutch_bracket::specs::ColourFloors::lonely, dutch_bracket::specs::ColourFloors::lonely_first, dutch_bracket::specs::ColourFloors::lonely_second))]
+#[tactic(auto, unfolding(dutch_bracket::specs::ColourFloors::lonely, dutch_bracket::specs::ColourFloors::lonely_first, dutch_bracket::specs::ColourFloors::lonely_second))]
 pub(crate) fn lonely(
     context: &Context<'_>,
     shape: Shape,
     lists: &FixedLists<'_>,
     pool: &mut Numbers,
 ) -> usize
-    requires numbers { HasNumbers context.now.reached lists.now }
-    requires small { shape.pairs ≤ LIMIT }
+    requires { HasFewPairs lists.now }
     ensures value { result ≡ lonely context.now.facts context.now.reached shape lists.now }
     ensures few { result ≤ LIMIT }
 {

@@ -2,12 +2,12 @@
 // their seats (C.04.3 B.3).
 //
 // A wish gives it of each candidate that grants it, from the first question on.
-ghost use Rattle.std.specs.Prelude.{◌≡◌, ◌<◌, ◌&&◌, ◌==◌, true, length};
+ghost use Rattle.std.specs.Prelude.{◌≡◌, ◌<◌, ◌&&◌, ◌==◌, true};
 ghost use Rattle.std.specs.List.{list_any};
 ghost use Rattle.arrayvec.specs.ArrayVec.{array_vec_len};
 ghost use Rattle.dutch_sequence.specs.declared.numbers.TheConstants.{LIMIT};
-ghost use Rattle.dutch_bracket.specs.Prelude.{HasNumbers, HasSeats, all_pairs};
-ghost use Rattle.dutch_floors.specs.Premises.{IsPremise, seated_given, turned, with_pair};
+ghost use Rattle.dutch_bracket.specs.Prelude.{HasFewPairs, all_pairs};
+ghost use Rattle.dutch_floors.specs.Premises.{seated_given, turned, with_pair};
 
 use arrayvec::ArrayVec;
 use dutch_bracket::context::Context;
@@ -63,12 +63,10 @@ pub(crate) fn fill_given(
     premise: Premise,
     seated: &mut Seated,
 ) -> bool
-    requires numbers { HasNumbers context.now.reached lists.now }
-    requires seats { IsPremise context.now.facts premise }
-    ensures value { result ≡ true
+    requires { HasFewPairs lists.now }
+    ensures { result ≡ true
         → seated.new ≡ seated_given context.now.facts context.now.reached premise
         (all_pairs context.now.reached.seats lists.now) }
-    ensures inside { result ≡ true → HasSeats context.now.facts seated.new }
 {
     fill_fixed(context, lists, seated);
     if seated.pairs.len() == LIMIT {

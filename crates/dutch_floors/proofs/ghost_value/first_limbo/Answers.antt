@@ -1,25 +1,11 @@
--- The Limbo's numbers are the bracket's, and none of them is in an S1 of nobody.
-use Rattle.std.proofs.Common.{◌≡◌, ℕ, ◌+◌, ◌-◌, ◌≤◌, List, [], ◌++◌, length, map, sym, ap, ◌∙◌, subst, arith}
+-- None of the Limbo's numbers is in an S1 of nobody.
+use Rattle.std.proofs.Common.{◌≡◌, ℕ, ◌+◌, ◌-◌, List, [], ◌++◌, length, map, ap, ◌∙◌}
 use Rattle.std.proofs.lemmas.List.{length-map}
 use Rattle.dutch_order.specs.Prelude.{left_of, numbers_from}
 use Rattle.dutch_sequence.proofs.Members.{length-numbers}
-use Rattle.dutch_player.specs.Prelude.{Facts}
-use Rattle.dutch_bracket.specs.Prelude.{Reached, IsOf, frame_of, seat_of, score_at, AllNumbers}
-use Rattle.dutch_bracket.proofs.ArrangementParts.{left_none, numbers_within}
+use Rattle.dutch_bracket.specs.Prelude.{Reached, seat_of, score_at}
+use Rattle.dutch_bracket.proofs.ArrangementParts.{left_none}
 use Rattle.dutch_floors.proofs.ghost_value.first_limbo.Goals as goal
-
-limbo_numbers : (facts : Facts) (reached : Reached) (m : ℕ) → IsOf facts reached → m ≤ reached.mdps → AllNumbers reached.seats (numbers_from (m + 1) (reached.mdps - m))
-limbo_numbers facts reached m of' h =
-    let count : length (frame_of facts reached).scores ≡ length reached.seats = length-map reached.seats (score_at facts) in
-    numbers_within 0 (m + 1) (reached.mdps - m) (length reached.seats) (omega arith) (omega (arith, h, of'.sound.within, count))
-
-pub push_left-requires-clause-numbers : goal.push_left-requires-clause-numbers
-push_left-requires-clause-numbers c =
-    let reached = c.args.shaped.now.context.now.reached in
-    let m : ℕ = c.args.shaped.now.shape.mdps in
-    let same : c.deref.result.now ≡ numbers_from (m + 1) (reached.mdps - m) =
-    c.deref.ensures.0 ∙ c.numbered_from-limbo.ensures.items ∙ ap (λ q. numbers_from (m + 1) (q - m)) (c.mdps.ensures ∙ ap (λ (s : Reached). s.mdps) c.reached.ensures.value) in
-    subst (AllNumbers reached.seats) (sym same) (limbo_numbers c.args.shaped.now.context.now.facts reached m c.reached.ensures.sound c.args.shaped.now.fits.within_moved_down)
 
 pub returns-clause-items : goal.returns-clause-items
 returns-clause-items c =
