@@ -4,7 +4,7 @@ ghost use Rattle.std.specs.Prelude.{◌≡◌, ◌+◌, ◌*◌, ◌<◌, ◌≤
 ghost use Rattle.std.specs.Prelude.{length};
 ghost use Rattle.std.specs.Option.{ForSome, SomeIff};
 ghost use Rattle.dutch_bracket.specs.declared.reached.BracketKind.TheVariants.{Ordinary};
-ghost use Rattle.dutch_bracket.specs.Prelude.{seated_so, no_value, numbers_meet, quality_with, HasSeats, seat_of};
+ghost use Rattle.dutch_bracket.specs.Prelude.{seated_so, no_value, numbers_meet, quality_with, seat_of};
 ghost use Rattle.dutch_bracket.specs.Prelude.{count_below, weight_with};
 ghost use Rattle.dutch_weights.specs.WeightTables.{HasAll, HasBelow, HasPairs, IsHeavy, IsNumber, IsNumberBelow};
 ghost use Rattle.dutch_weights.specs.WeightTables.{TellsBelow, TellsDown, TellsEachBelow, TellsPairs, TellsPairsUpto};
@@ -95,11 +95,8 @@ fn place_of(n: usize, x: u16, y: u16) -> usize
 
 /// Fills in two players who meet, by number.
 fn seat_pair(context: &Context<'_>, a: u16, b: u16, seated: &mut Seated)
-    requires first { (0 < a) × (a ≤ length context.now.reached.seats) }
-    requires second { (0 < b) × (b ≤ length context.now.reached.seats) }
-    ensures value { let seats = context.now.reached.seats
+    ensures { let seats = context.now.reached.seats
         in seated.new ≡ seated_so context.now.facts context.now.reached ((seat_of seats a, seat_of seats b) ∷ []) [] }
-    ensures inside { HasSeats context.now.facts seated.new }
 {
     let reached = context.reached();
     seated.pairs.clear();
@@ -110,10 +107,8 @@ fn seat_pair(context: &Context<'_>, a: u16, b: u16, seated: &mut Seated)
 
 /// Fills in a downfloater, by number.
 fn seat_one_down(context: &Context<'_>, a: u16, seated: &mut Seated)
-    requires { (0 < a) × (a ≤ length context.now.reached.seats) }
-    ensures value { seated.new
+    ensures { seated.new
         ≡ seated_so context.now.facts context.now.reached [] (seat_of context.now.reached.seats a ∷ []) }
-    ensures inside { HasSeats context.now.facts seated.new }
 {
     seated.pairs.clear();
     seated.down.clear();
@@ -123,7 +118,6 @@ fn seat_one_down(context: &Context<'_>, a: u16, seated: &mut Seated)
 
 /// What some pairs and downfloaters by seats weigh, whatever the next bracket is; none if it is 2^512 or more.
 fn weigh(field: &Field, scale: &Scale, seated: &Seated, quality: &mut Quality) -> Option<Wide>
-    requires { HasSeats field.now seated.now }
     ensures { let weight = weight_with scale.now 0 [] (quality_with field.now seated.now no_value) in SomeIff result
         (weight < 2 ^ 512) weight }
 {
@@ -134,8 +128,6 @@ fn weigh(field: &Field, scale: &Scale, seated: &Seated, quality: &mut Quality) -
 impl Weigher<'_> {
     /// What a pair weighs alone; none if it is 2^512 or more.
     fn pair(&self, a: u16, b: u16, room: &mut Room) -> Option<Wide>
-        requires first { IsNumber self.now.reached a }
-        requires second { IsNumber self.now.reached b }
         ensures { SomeIff result (pair_weight self.now a b < 2 ^ 512) (pair_weight self.now a b) }
     {
         seat_pair(self.context, a, b, &mut room.seated);
@@ -145,7 +137,6 @@ impl Weigher<'_> {
 
     /// What a downfloater weighs alone; none if it is 2^512 or more.
     fn one_down(&self, a: u16, room: &mut Room) -> Option<Wide>
-        requires { IsNumber self.now.reached a }
         ensures { SomeIff result (down_weight self.now a < 2 ^ 512) (down_weight self.now a) }
     {
         seat_one_down(self.context, a, &mut room.seated);
