@@ -1,6 +1,6 @@
 -- A matching of a bracket's graph is the pairs of a candidate (C.04.3 B.1 to B.3, C.1 to C.4), which can be chosen if those whom it leaves
 -- over may be.
-use Rattle.std.proofs.Common.{◌≡◌, ℕ, ◌+◌, ◌<◌, ◌≤◌, Bool, true, cond, ◌==◌, List, length, Option, Some, None, inl, inr, refl, sym, ap, subst, ◌∙◌, arith}
+use Rattle.std.proofs.Common.{◌≡◌, ℕ, ◌+◌, ◌≤◌, Bool, true, cond, ◌==◌, List, length, Option, Some, None, inl, inr, refl, sym, ap, subst, ◌∙◌, arith}
 use Rattle.std.specs.List.{slice_get}
 use Rattle.std.proofs.lemmas.Bool.{cases_Bool, cases_eq}
 use Rattle.std.proofs.lemmas.List.{length-map}
@@ -9,19 +9,12 @@ use Rattle.dutch_order.specs.declared.bracket.Shape.{Shape}
 use Rattle.dutch_sequence.specs.declared.numbers.TheConstants.{LIMIT}
 use Rattle.dutch_order.specs.Prelude.{numbers_from}
 use Rattle.dutch_sequence.proofs.Members.{filter-length, length-numbers}
-use Rattle.dutch_bracket.specs.Prelude.{AllNumbers, Context, FitsHere, IsOf, eligible_here, frame_of, has_member, score_at, shape_here}
-use Rattle.dutch_bracket.proofs.AllLemmas.{all_filter}
-use Rattle.dutch_bracket.proofs.ArrangementParts.{numbers_within}
+use Rattle.dutch_bracket.specs.Prelude.{Context, FitsHere, IsOf, eligible_here, frame_of, has_member, score_at, shape_here}
 use Rattle.dutch_shape.specs.Mates.{mate_at, mate_of, matched_shape, may_leave, unmated}
 use Rattle.dutch_shape.specs.declared.certified.ShapeFloor.{ShapeFloor}
 use Rattle.dutch_shape.specs.ShapeCosts.{IsShapeFloor, are_pair, cost_of, joined, vertices}
 use Rattle.dutch_shape.proofs.CheapShapes.{shape_reached}
 use Rattle.dutch_shape.proofs.MateCandidates.{mates_eligible, mates_fit_here, pair_sym}
-
-pub unmated_numbers : (context : Context) (partners : List (Option ℕ)) → AllNumbers context.reached.seats (unmated context partners)
-unmated_numbers context partners =
-    let n = length context.reached.seats in
-    all_filter (λ i. (0 < i) × (i ≤ length context.reached.seats)) _ (numbers_from 1 n) (numbers_within 0 1 n n (omega arith) (omega arith))
 
 pub unmated_few : (context : Context) (partners : List (Option ℕ)) → length (unmated context partners) ≤ length context.reached.seats
 unmated_few context partners =

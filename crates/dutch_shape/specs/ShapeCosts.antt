@@ -1,6 +1,6 @@
 -- The players of a bracket, in the penultimate one with all lower players, as a graph with costs (C.04.3 B.1, B.2, C.1 to C.5). What costs
 -- least is the bracket's shape.
-use Rattle.std.specs.Prelude.{◌≡◌, ℕ, ◌+◌, ◌-◌, ◌*◌, ◌%◌, ◌==◌, ◌≤◌, Bool, true, false, not, ◌&&◌, ◌||◌, ◌++◌, nat_le, if◌then◌else◌, List, length}
+use Rattle.std.specs.Prelude.{◌≡◌, ℕ, ◌+◌, ◌-◌, ◌*◌, ◌%◌, ◌==◌, ◌≤◌, Bool, true, false, not, ◌&&◌, ◌||◌, ◌++◌, nat_le, if◌then◌else◌, length}
 use Rattle.dual.specs.Prelude.{Costs}
 use Rattle.dutch_order.specs.declared.bracket.Shape.{Shape}
 use Rattle.dutch_bracket.specs.Prelude.{Context, FitsHere, eligible_here, ends_round, has_member, is_penultimate, number_may_be_left, numbers_meet, seat_of, seats_may_be_left, seats_meet}

@@ -3,7 +3,7 @@
 ghost use Rattle.std.specs.Prelude.{◌≡◌, ◌≤◌, IfOk, filter, length, true};
 ghost use Rattle.dutch_order.specs.Prelude.{MatchDrawn, Spends, leaves_one};
 ghost use Rattle.dutch_sequence.specs.declared.numbers.TheConstants.{LIMIT};
-ghost use Rattle.dutch_bracket.specs.Prelude.{AllNumbers, Decides, IsOf, number_may_be_left};
+ghost use Rattle.dutch_bracket.specs.Prelude.{Decides, IsOf, number_may_be_left};
 ghost use Rattle.dutch_shape.specs.Mates.{goes_first, has_mate, mate_of, matched_shape, may_leave, unmated};
 
 use crate::players::Players;
@@ -84,8 +84,7 @@ fn leaves_one(rule: ByNumber<'_>, alone: &[u16]) -> bool
 
 /// Whether a candidate that can be chosen may leave these numbers over (C.2, C.4).
 fn may_leave(players: &Players<'_>, alone: &[u16], budget: &mut Budget) -> Result<bool, Stopped>
-    requires numbers { AllNumbers players.now.reached.seats alone.now }
-    requires few { length alone.now ≤ length players.now.reached.seats }
+    requires { length alone.now ≤ length players.now.reached.seats }
     ensures answer { Decides result (may_leave players.now alone.now) (budget.new.used ≡ budget.new.limit) }
     ensures spends { Spends budget.old budget.new }
 {
@@ -99,7 +98,7 @@ fn may_leave(players: &Players<'_>, alone: &[u16], budget: &mut Budget) -> Resul
 
 /// Whether the pairs of a matching are those of a candidate that can be chosen. A no may also say that memory was
 /// refused.
-#[tactic(auto, using(crate::proofs::MatchedCandidates::unmated_numbers, crate::proofs::MatchedCandidates::unmated_few))]
+#[tactic(auto, using(crate::proofs::MatchedCandidates::unmated_few))]
 pub(crate) fn can_be_chosen(
     players: &Players<'_>,
     partners: &[Option<u16>],

@@ -1,15 +1,11 @@
 -- The shape has room in the bracket, and all its arrangements have one PSD.
-use Rattle.std.proofs.Common.{◌≡◌, ℕ, ◌+◌, List, refl, sym, ap, ◌∙◌, subst}
+use Rattle.std.proofs.Common.{◌≡◌, ℕ, ◌+◌, List, refl, sym, ap, ◌∙◌}
 use Rattle.dutch_order.specs.Prelude.{numbers_from}
-use Rattle.dutch_bracket.specs.Prelude.{psd_with, NextValue, frame_of, AllNumbers, score_at, seat_of}
+use Rattle.dutch_bracket.specs.Prelude.{psd_with, NextValue, frame_of, score_at, seat_of}
 use Rattle.dutch_shape.proofs.AlwaysShapes.{always_fits}
-use Rattle.dutch_bracket.proofs.ShapeNumbers.{first_length, first_numbers, has_room, small_mdps, small_pairs}
+use Rattle.dutch_bracket.proofs.ShapeNumbers.{first_length, has_room, small_mdps}
 use Rattle.dutch_shape.proofs.UniformShapes.{value_of_uniform}
 use Rattle.dutch_shape.proofs.lookahead.value_by_shape.Goals as goal
-
-pub is_uniform-requires : goal.is_uniform-requires
-is_uniform-requires c =
-    always_fits c.args.rule.field.now c.args.rule.reached.now c.args.shape c.requires.shape (frame_of c.args.rule.field.now c.args.rule.reached.now) refl
 
 pub numbered_from-requires-clause-few : goal.numbered_from-requires-clause-few
 numbered_from-requires-clause-few c =
@@ -17,25 +13,12 @@ numbered_from-requires-clause-few c =
     let reached = c.args.rule.reached.now in
     small_mdps facts reached c.args.shape (always_fits facts reached c.args.shape c.requires.shape (frame_of facts reached) refl) c.args.rule.sound
 
-pub fill_psd-requires-clause-numbers : goal.fill_psd-requires-clause-numbers
-fill_psd-requires-clause-numbers c =
-    let facts = c.args.rule.field.now in
-    let reached = c.args.rule.reached.now in
-    let fits = always_fits facts reached c.args.shape c.requires.shape (frame_of facts reached) refl in
-    subst (AllNumbers reached.seats) (sym (c.deref.ensures.0 ∙ c.numbered_from.ensures.items)) (first_numbers facts reached c.args.shape fits c.args.rule.sound)
-
-pub fill_psd-requires-clause-room : goal.fill_psd-requires-clause-room
-fill_psd-requires-clause-room c =
+pub fill_psd-requires : goal.fill_psd-requires
+fill_psd-requires c =
     let facts = c.args.rule.field.now in
     let reached = c.args.rule.reached.now in
     let fits = always_fits facts reached c.args.shape c.requires.shape (frame_of facts reached) refl in
     has_room facts reached c.args.shape _ fits c.args.rule.sound (first_length c.args.shape c.deref.result.now (c.deref.ensures.0 ∙ c.numbered_from.ensures.items))
-
-pub fill_psd-requires-clause-small : goal.fill_psd-requires-clause-small
-fill_psd-requires-clause-small c =
-    let facts = c.args.rule.field.now in
-    let reached = c.args.rule.reached.now in
-    small_pairs facts reached c.args.shape (always_fits facts reached c.args.shape c.requires.shape (frame_of facts reached) refl) c.args.rule.sound
 
 pub returns : goal.returns
 returns c =
