@@ -1,14 +1,13 @@
 -- In the penultimate bracket those whom a candidate leaves over can be paired out with all lower players, if it can be chosen (C.04.3 C.4). So
 -- its pairs and those of the rest are a matching of all these players, which costs no more than the candidate weighs.
-use Rattle.std.proofs.Common.{◌≡◌, ℕ, ◌+◌, ◌-◌, ◌*◌, ◌<◌, ◌≤◌, Bool, true, false, not, cond, ◌||◌, nat_lt, nat_le, List, [], ◌∷◌, ◌++◌, All, map, length, get_or, sum_by, refl, sym, ap, subst, ◌∙◌, arith}
+use Rattle.std.proofs.Common.{◌≡◌, ℕ, ◌+◌, ◌-◌, ◌<◌, ◌≤◌, Bool, true, false, not, cond, ◌||◌, nat_lt, nat_le, List, [], ◌∷◌, ◌++◌, map, length, get_or, sum_by, refl, ap, ◌∙◌, arith}
 use Rattle.std.specs.Prelude.{◌%◌, ◌^◌}
 use Rattle.std.specs.List.{AllByRecursion}
 use Rattle.std.proofs.lemmas.Bool.{and_from, and_parts, or_left, or_right}
 use Rattle.std.proofs.lemmas.Bool.Decides.{nat_tests}
 use Rattle.std.proofs.lemmas.List.{get_or_append_left, get_or-append-add, map-append}
-use Rattle.std.proofs.lemmas.List.Elements.{All-head, All-tail}
-use Rattle.std.proofs.lemmas.List.Sums.{sum_by-cons, sum_by-append}
-use Rattle.dual.specs.Prelude.{FloorTable, IsFloor, extra_in, IsMatching, IsPartOf, MakeUp, cost, in_both}
+use Rattle.std.proofs.lemmas.List.Sums.{sum_by-append}
+use Rattle.dual.specs.Prelude.{FloorTable, IsFloor, extra_in, IsMatching, IsPartOf, cost, in_both}
 use Rattle.dual.proofs.Sums.{sum_none}
 use Rattle.dual.proofs.WeakDuality.{counted}
 use Rattle.dutch_order.specs.declared.bracket.Shape.{Shape}
@@ -17,7 +16,7 @@ use Rattle.dutch_sequence.proofs.Lists.{map-numbers_from}
 use Rattle.dutch_sequence.proofs.Members.{length-numbers, numbers-append}
 use Rattle.dutch_player.specs.Prelude.{Facts}
 use Rattle.dutch_weights.specs.declared.scoped.Reach.TheVariants.{Lower}
-use Rattle.dutch_bracket.specs.Completion.{Completable, Covers as Covering, MayBeLeftOut}
+use Rattle.dutch_bracket.specs.Completion.{Completable, MayBeLeftOut}
 use Rattle.dutch_bracket.specs.Prelude.{fixed_lists, IsOf, Reached, frame_of, candidates_of, completable, downfloaters, quality_of, Covers, Scope, may_stay, AllNumbers, seat_of, seats_may_be_left, seats_meet, Scale, number_pairs, weight_of, weighing}
 use Rattle.dutch_weights.specs.Prelude.{Order, Scoped, any_seat, both_go, both_weigh, bracket_costs, costs_in, goes_down, going_weight, is_inside, least_of, lower_costs, may_pair_out, side_in, added_in}
 use Rattle.dutch_bracket.proofs.AllLemmas.{all_join}
