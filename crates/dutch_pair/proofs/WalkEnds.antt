@@ -1,20 +1,16 @@
 -- How the walk over the brackets ends, told from behind: a bracket more in front of a round that ends so.
-use Rattle.std.proofs.Common.{◌≡◌, ℕ, ◌+◌, ◌≤◌, List, [], ◌∷◌, ◌++◌, length, map, Some, sym, ap, ◌∙◌, subst, arith, append-nil}
-use Rattle.std.specs.List.{AllByRecursion}
+use Rattle.std.proofs.Common.{◌≡◌, ℕ, ◌+◌, ◌≤◌, List, [], ◌∷◌, length, map, Some, sym, ap, ◌∙◌, subst, arith}
 use Rattle.std.proofs.lemmas.List.{length-map}
 use Rattle.dutch_order.specs.declared.bracket.Shape.{Shape}
 use Rattle.dutch_order.specs.Prelude.{Arrangement, arrangements, down, is_legal, Candidate, IsIn}
 use Rattle.dutch_player.specs.Prelude.{Facts}
-use Rattle.dutch_bracket.specs.declared.reached.BracketKind.TheVariants.{Ordinary, Penultimate, Collapsed}
-use Rattle.dutch_bracket.specs.Prelude.{IsPair, seat_of, AreSeats, AllNumbers, IsCandidate, Reached, IsOf, IsAbove, frame_of, numbers_meet, number_may_be_left, IsOfBracket, bracket, can_be_chosen, downfloaters, candidates_of, eligible, choice}
-use Rattle.dutch_pair.specs.Prelude.{AreAbove, Goes, paired_again}
+use Rattle.dutch_bracket.specs.Prelude.{seat_of, AreSeats, IsCandidate, Reached, IsOf, frame_of, numbers_meet, number_may_be_left, IsOfBracket, can_be_chosen, downfloaters, candidates_of, eligible, choice}
+use Rattle.dutch_pair.specs.Prelude.{AreAbove}
 use Rattle.dutch_bracket.proofs.LeastPsd.{in_filter}
 use Rattle.dutch_choice.proofs.BestLemmas.{chosen_is}
 use Rattle.dutch_bracket.proofs.FlatBrackets.{candidate_of}
-use Rattle.dutch_bracket.proofs.AllLemmas.{all_join}
 use Rattle.dutch_bracket.proofs.CandidateSeats.{all_within}
 use Rattle.dutch_bracket.proofs.DownLemmas.{down_numbers, down_few}
-use Rattle.dutch_pair.proofs.WalkLemmas.{Descends, is_above}
 use Rattle.dutch_sequence.specs.declared.numbers.TheConstants.{LIMIT}
 
 -- ---- what is chosen is an arrangement
@@ -41,11 +37,8 @@ module _ (facts : Facts) where
     down = left;
   }
 
-  pub candidate_is : (reached : Reached) (candidate : Candidate) → IsOf facts reached → IsOfBracket facts reached candidate → IsCandidate reached.seats candidate
+  pub candidate_is : (reached : Reached) (candidate : Candidate) → IsOf facts reached → IsOfBracket facts reached candidate → IsCandidate candidate
   candidate_is reached candidate of' of_bracket' = candidate_of facts reached of_bracket'.lists.0 candidate of' of_bracket'.lists.1 of_bracket'.down
-
-  pub pairs_join : (front more : List (ℕ × ℕ)) → AllByRecursion (IsPair facts) front → AllByRecursion (IsPair facts) more → AllByRecursion (IsPair facts) (front ++ more)
-  pairs_join front more h g = all_join (IsPair facts) front more h g
 
 pub above_none : (facts : Facts) (tops : List ℕ) → AreAbove facts tops []
 above_none facts [] = tt
@@ -61,10 +54,6 @@ module _ (facts : Facts) where
 -- ---- what the calls of a bracket leave over
 
 module _ (facts : Facts) (reached : Reached) (lists : Arrangement) where
-  pub numbers_left : (seats left : List ℕ) → seats ≡ reached.seats → left ≡ down (frame_of facts reached) lists → AllNumbers seats left
-  numbers_left seats left s e =
-      subst (λ (xs : List ℕ). AllNumbers xs left) (sym s) (subst (AllNumbers reached.seats) (sym e) (down_numbers facts reached lists))
-
   pub few_left : (left : List ℕ) → left ≡ down (frame_of facts reached) lists → length left ≤ length reached.seats
   few_left left e = let few = down_few facts reached lists in omega (arith, few, ap length e)
 

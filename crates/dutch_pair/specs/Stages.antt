@@ -1,6 +1,5 @@
 -- A walk over the brackets of a round, as the round from where it stands on: a model that carries the round's proof.
-use Rattle.std.specs.Prelude.{◌≡◌, ℕ, ◌+◌, ◌≤◌, Bool, true, false, not, if◌then◌else◌, List, [], ◌∷◌, ◌++◌, length, map, Option, Some, None}
-use Rattle.std.specs.List.{AllByRecursion}
+use Rattle.std.specs.Prelude.{◌≡◌, ℕ, ◌+◌, Bool, true, false, not, if◌then◌else◌, List, [], ◌∷◌, ◌++◌, length, map, Option, Some, None}
 use Rattle.dutch_order.specs.declared.bracket.Shape.{Shape}
 use Rattle.dutch_order.specs.Prelude.{Fits, down}
 use Rattle.dutch_player.specs.Prelude.{Facts}
@@ -11,7 +10,7 @@ use Rattle.dutch_pair.specs.declared.walk.Next.{Next}
 use Rattle.dutch_pair.specs.declared.walk.Next.TheVariants.{Bracket, Bye}
 use Rattle.dutch_pair.specs.declared.walk.Halt.{Halt}
 use Rattle.dutch_pair.specs.declared.walk.Halt.TheVariants.{NoPairing, Undecided, Fault}
-use Rattle.dutch_bracket.specs.Prelude.{quality_in, Reached, IsOf, frame_of, Choice, choice, completable, quality_of, scoregroups, AreSeats, IsPair, all_pairs, seat_of}
+use Rattle.dutch_bracket.specs.Prelude.{quality_in, Reached, IsOf, frame_of, Choice, choice, completable, quality_of, scoregroups, AreSeats, all_pairs, seat_of}
 use Rattle.dutch_pair.specs.Round.{Round, Pairing, Visit, brackets, everybody, round, ending, final_bracket, ordinary_bracket, passing, pairing_in, penultimate_bracket}
 use Rattle.dutch_pair.specs.Outcomes.{IsStage, IsStoppedIn, shown, visit_of}
 use Rattle.dutch_pair.specs.WaysOut.{StandsBefore}
@@ -122,8 +121,7 @@ GoesOn old new None = (new ≡ old) × HasEnded old
 
 -- the pairs of a round by seat, and the seat that has the bye, if one has
 abbrev pub ArePairs : Facts → List (ℕ × ℕ) → List ℕ → Type 0
-ArePairs facts pairs bye =
-    ((round facts).pairing ≡ Some (record { pairs = pairs; bye = bye })) × AllByRecursion (IsPair facts) pairs × AreSeats facts bye
+ArePairs facts pairs bye = (round facts).pairing ≡ Some (record { pairs = pairs; bye = bye })
 
 -- the bracket of a number, which it bears, with its shape, if the round reaches it
 abbrev pub IsFound : Facts → ℕ → Option (Reached × Shape) → Type 0

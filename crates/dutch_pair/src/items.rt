@@ -4,7 +4,7 @@ ghost use Rattle.arrayvec.specs.ArrayVec.{array_vec_len};
 ghost use Rattle.dutch_player.specs.declared.float.Float.TheVariants.{Up, Down};
 ghost use Rattle.dutch_bracket.specs.Prelude.{counted, only_if, seats_of, those_in, those_in_pairs};
 ghost use Rattle.dutch_bracket.specs.Prelude.{those_with_topscorers, who_counts, again, has_topscorer, highest_first};
-ghost use Rattle.dutch_bracket.specs.Prelude.{misses, placed_all, quality_in, AllPairs, AreSeats, HasSeats};
+ghost use Rattle.dutch_bracket.specs.Prelude.{misses, placed_all, quality_in};
 ghost use Rattle.dutch_bracket.specs.Prelude.{floats_down, goes, going_down, going_up, is_uneven};
 ghost use Rattle.dutch_pair.specs.Outcomes.{IsStage};
 
@@ -33,9 +33,7 @@ fn put_if(holds: bool, seat: u16, seats: &mut Seats)
 /// Puts those of the players of a pair who miss so to their places.
 #[tactic(auto, using(dutch_bracket::proofs::Places::placed_all_append), unfolding(dutch_bracket::specs::Items::those_in))]
 fn put_pair(field: &Field, miss: Miss, pair: Pair, seats: &mut Seats)
-    requires first { pair.0 < length field.now.seats }
-    requires second { pair.1 < length field.now.seats }
-    requires room { array_vec_len seats.old + 2 ≤ LIMIT }
+    requires { array_vec_len seats.old + 2 ≤ LIMIT }
     ensures items { seats.new.items ≡ placed_all seats.old.items (those_in field.now (misses miss) pair) }
     ensures len { array_vec_len seats.new ≤ array_vec_len seats.old + 2 }
 {
@@ -46,9 +44,7 @@ fn put_pair(field: &Field, miss: Miss, pair: Pair, seats: &mut Seats)
 
 /// The same, if one of the pair is a topscorer.
 fn put_if_topscorer(field: &Field, miss: Miss, pair: Pair, seats: &mut Seats)
-    requires first { pair.0 < length field.now.seats }
-    requires second { pair.1 < length field.now.seats }
-    requires room { array_vec_len seats.old + 2 ≤ LIMIT }
+    requires { array_vec_len seats.old + 2 ≤ LIMIT }
     ensures items { seats.new.items
         ≡ placed_all seats.old.items
         (if has_topscorer field.now pair then those_in field.now (misses miss) pair else []) }
@@ -62,8 +58,7 @@ fn put_if_topscorer(field: &Field, miss: Miss, pair: Pair, seats: &mut Seats)
 /// The same of the players in pairs.
 #[tactic(auto, using(crate::proofs::ItemSeats::pair_put))]
 fn put_pairs(field: &Field, miss: Miss, pairs: &[Pair], seats: &mut Seats)
-    requires inside { AllPairs field.now pairs.now }
-    requires room { array_vec_len seats.old + 2 * length pairs.now ≤ LIMIT }
+    requires { array_vec_len seats.old + 2 * length pairs.now ≤ LIMIT }
     ensures { seats.new.items ≡ placed_all seats.old.items (those_in_pairs field.now (misses miss) pairs.now) }
 {
     for pair in pairs {
@@ -73,8 +68,7 @@ fn put_pairs(field: &Field, miss: Miss, pairs: &[Pair], seats: &mut Seats)
 
 /// The same of the players in pairs with a topscorer.
 fn put_with_topscorers(field: &Field, miss: Miss, pairs: &[Pair], seats: &mut Seats)
-    requires inside { AllPairs field.now pairs.now }
-    requires room { array_vec_len seats.old + 2 * length pairs.now ≤ LIMIT }
+    requires { array_vec_len seats.old + 2 * length pairs.now ≤ LIMIT }
     ensures { seats.new.items ≡ placed_all seats.old.items (those_with_topscorers field.now (misses miss) pairs.now) }
 {
     for pair in pairs {
@@ -84,8 +78,7 @@ fn put_with_topscorers(field: &Field, miss: Miss, pairs: &[Pair], seats: &mut Se
 
 /// Puts the players of pairs who float as in a round before to their places.
 fn put_again(past: FloatRound<'_>, pairs: &[Pair], seats: &mut Seats)
-    requires inside { AllPairs past.field.now pairs.now }
-    requires room { array_vec_len seats.old + length pairs.now ≤ LIMIT }
+    requires { array_vec_len seats.old + length pairs.now ≤ LIMIT }
     ensures items { seats.new.items ≡ placed_all seats.old.items
         (seats_of (again past.entry.field.now past.entry.float past.entry.back
         (map (goes past.entry.field.now past.entry.float) (filter (is_uneven past.entry.field.now) pairs.now)))) }
@@ -103,8 +96,7 @@ fn put_again(past: FloatRound<'_>, pairs: &[Pair], seats: &mut Seats)
 
 /// The same of downfloaters.
 fn put_down_again(past: FloatRound<'_>, least: u16, down: &[u16], seats: &mut Seats)
-    requires inside { AreSeats past.field.now down.now }
-    requires room { array_vec_len seats.old + length down.now ≤ LIMIT }
+    requires { array_vec_len seats.old + length down.now ≤ LIMIT }
     ensures { seats.new.items ≡ placed_all seats.old.items
         (seats_of (again past.entry.field.now past.entry.float past.entry.back
         (map (floats_down past.entry.field.now least) down.now))) }
@@ -116,12 +108,9 @@ fn put_down_again(past: FloatRound<'_>, least: u16, down: &[u16], seats: &mut Se
     }
 }
 
-/// Fills a list with those who go down and had a downfloat in the last round (1) or in the one before it (2).
+/// Fills a list with those who go down and had a downfloat in the last round (1), or else in the one before it.
 #[tactic(auto, using(crate::proofs::ItemSeats::seats_again), unfolding(dutch_bracket::specs::Seated::going_down))]
 fn fill_going_down(field: &Field, back: u8, candidate: &Seated, seats: &mut Seats)
-    requires inside { HasSeats field.now candidate.now }
-    requires one { 1 ≤ back }
-    requires two { back ≤ 2 }
     ensures { seats.new.items
         ≡ highest_first (seats_of (again field.now Down back (going_down field.now candidate.now))) }
 {
@@ -134,8 +123,7 @@ fn fill_going_down(field: &Field, back: u8, candidate: &Seated, seats: &mut Seat
 /// Fills a list with those of a candidate whom an item counts, the highest number first.
 #[tactic(auto, unfolding(dutch_bracket::specs::Seated::going_up, dutch_bracket::specs::Seated::going_down))]
 fn fill_counted(field: &Field, candidate: &Seated, item: Item, seats: &mut Seats)
-    requires inside { HasSeats field.now candidate.now }
-    requires few { 2 * length candidate.now.pairs ≤ LIMIT }
+    requires { 2 * length candidate.now.pairs ≤ LIMIT }
     ensures { seats.new.items ≡ highest_first (counted field.now candidate.now item) }
 {
     seats.clear();

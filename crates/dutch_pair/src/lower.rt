@@ -1,7 +1,6 @@
 // The players below a bracket that a round reaches (C.04.3 A.3).
-ghost use Rattle.std.specs.Prelude.{◌≡◌, ◌<◌, ◌≤◌, filter, length};
+ghost use Rattle.std.specs.Prelude.{◌≡◌, ◌≤◌, filter, length};
 ghost use Rattle.dutch_sequence.specs.declared.numbers.TheConstants.{LIMIT};
-ghost use Rattle.dutch_bracket.specs.Prelude.{AreSeats, IsOf};
 ghost use Rattle.dutch_pair.specs.Lower.{is_below, lower_of};
 
 use crate::walk::everybody;
@@ -11,8 +10,6 @@ use dutch_player::Field;
 /// Whether a seat's score is lower than each of some seats.
 #[tactic(auto, using(crate::proofs::LowerLemmas::below_more, crate::proofs::LowerLemmas::below_not, crate::proofs::LowerLemmas::below_end))]
 fn is_below(field: &Field, seats: &[u16], seat: u16) -> bool
-    requires all { AreSeats field.now seats.now }
-    requires one { seat < length field.now.seats }
     ensures { result ≡ is_below field.now seats.now seat }
 {
     for other in seats {
@@ -26,9 +23,7 @@ fn is_below(field: &Field, seats: &[u16], seat: u16) -> bool
 /// Of some seats those whose score is lower than each of others.
 #[tactic(auto, using(crate::proofs::LowerLemmas::kept_more, crate::proofs::LowerLemmas::passed_over, crate::proofs::LowerLemmas::kept_end))]
 fn those_below(field: &Field, seats: &[u16], all: &[u16]) -> Seats
-    requires seats { AreSeats field.now seats.now }
-    requires all { AreSeats field.now all.now }
-    requires few { length all.now ≤ LIMIT }
+    requires { length all.now ≤ LIMIT }
     ensures { result.items ≡ filter (is_below field.now seats.now) all.now }
 {
     let mut lower = Seats::new();
@@ -42,9 +37,8 @@ fn those_below(field: &Field, seats: &[u16], all: &[u16]) -> Seats
 
 /// The seats of the present players with a lower score than all of a bracket, by rank, for the field that it comes
 /// from. There may be none.
-#[tactic(auto, using(crate::proofs::LowerLemmas::everybody_inside, crate::proofs::GroupWalk::everybody_few))]
+#[tactic(auto, using(crate::proofs::GroupWalk::everybody_few))]
 pub fn lower_of(field: &Field, reached: &Reached) -> Seats
-    requires { IsOf field.now reached.now }
     ensures { result.items ≡ lower_of field.now reached.now }
 {
     those_below(field, reached.seats(), &everybody(field))

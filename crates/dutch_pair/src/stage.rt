@@ -1,9 +1,8 @@
 // A bracket that a round reaches, as it is settled: its choice, and whether it is paired again (C.04.3 B.8, A.9).
 ghost use Rattle.std.specs.Prelude.{◌≡◌, ◌≤◌, ◌++◌, false, length, map, IfOk, OnOk};
-ghost use Rattle.std.specs.List.{AllByRecursion};
 ghost use Rattle.std.specs.Option.{MatchOption};
 ghost use Rattle.dutch_order.specs.Prelude.{Spends};
-ghost use Rattle.dutch_bracket.specs.Prelude.{IsPair, AllNumbers, seat_of, HasCandidate, completable, Decides};
+ghost use Rattle.dutch_bracket.specs.Prelude.{seat_of, HasCandidate, completable, Decides};
 ghost use Rattle.dutch_pair.specs.Outcomes.{IsStage};
 ghost use Rattle.dutch_pair.specs.Stages.{IsSettled, is_again, own_pairs};
 
@@ -36,8 +35,7 @@ fn is_again(
     candidate: &Candidate,
     budget: &mut Budget,
 ) -> Result<bool, Stopped>
-    requires numbers { AllNumbers context.now.reached.seats candidate.now.down }
-    requires few { length candidate.now.down ≤ length context.now.reached.seats }
+    requires { length candidate.now.down ≤ length context.now.reached.seats }
     ensures answer { Decides result (is_again context.now.reached.kind
         (completable context.now.facts
         (map (seat_of context.now.reached.seats) candidate.now.down ++ context.now.lower)))
@@ -121,12 +119,10 @@ impl Stage {
     }
 
     /// Puts its pairs by seat behind others: none if it is paired again.
-    #[tactic(auto, using(crate::proofs::WalkEnds::candidate_is, crate::proofs::WalkEnds::pairs_join))]
+    #[tactic(auto, using(crate::proofs::WalkEnds::candidate_is))]
     pub fn put_pairs(&self, field: &Field, pairs: &mut Vec<Pair>) -> Result<(), PairFault>
-        requires stage { IsStage field.now self.now }
-        requires pairs { AllByRecursion (IsPair field.now) pairs.old.items }
-        ensures value { OnOk result (pairs.new.items ≡ pairs.old.items ++ own_pairs self.now) }
-        ensures pairs { OnOk result (AllByRecursion (IsPair field.now) pairs.new.items) }
+        requires { IsStage field.now self.now }
+        ensures { OnOk result (pairs.new.items ≡ pairs.old.items ++ own_pairs self.now) }
     {
         if self.again {
             return Ok(());

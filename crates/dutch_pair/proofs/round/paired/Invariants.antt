@@ -1,7 +1,5 @@
 -- The pairs so far in front of those of the rest of the round are those of the whole round.
 use Rattle.std.proofs.Common.{◌≡◌, length, option_map}
-use Rattle.std.specs.List.{AllByRecursion}
-use Rattle.dutch_bracket.specs.Prelude.{IsPair}
 use Rattle.dutch_pair.specs.Prelude.{round, in_front}
 use Rattle.dutch_pair.proofs.round.paired.Given as goal
 
@@ -10,7 +8,6 @@ invariant-loop-pairs g l = record {
   facts : l.walk.facts ≡ l.field;
   limit : l.walk.limit ≡ l.limit;
   paired : option_map (in_front l.pairs.items) l.walk.rest.pairing ≡ (round l.field).pairing;
-  pairs : AllByRecursion (IsPair l.field) l.pairs.items;
 }
 
 abbrev pub decreases-loop-pairs : goal.decreases-loop-pairs

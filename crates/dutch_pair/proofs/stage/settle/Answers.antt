@@ -1,17 +1,11 @@
 -- What is settled is the choice of the bracket that was read.
-use Rattle.std.proofs.Common.{refl, ◌∙◌}
-use Rattle.dutch_pair.proofs.WalkEnds.{few_left, numbers_left}
+use Rattle.std.proofs.Common.{◌∙◌}
+use Rattle.dutch_pair.proofs.WalkEnds.{few_left}
 use Rattle.dutch_pair.proofs.WalkSteps.{chosen_as, settled_in}
 use Rattle.dutch_pair.proofs.stage.settle.Goals as goal
 
-pub is_again-requires-clause-numbers : goal.is_again-requires-clause-numbers
-is_again-requires-clause-numbers g c =
-    let k = c.args.context.now in
-    let h = chosen_as k _ c.in-Chosen.is c.in_ok-shape.ensures.answer in
-    numbers_left k.facts k.reached c.in-Chosen.candidate.lists k.reached.seats c.in-Chosen.candidate.down refl h.1
-
-pub is_again-requires-clause-few : goal.is_again-requires-clause-few
-is_again-requires-clause-few g c =
+pub is_again-requires : goal.is_again-requires
+is_again-requires g c =
     let k = c.args.context.now in
     let h = chosen_as k _ c.in-Chosen.is c.in_ok-shape.ensures.answer in
     few_left k.facts k.reached c.in-Chosen.candidate.lists c.in-Chosen.candidate.down h.1

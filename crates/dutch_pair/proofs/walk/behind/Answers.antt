@@ -5,17 +5,12 @@ use Rattle.dutch_bracket.specs.Prelude.{Reached, bracket}
 use Rattle.dutch_pair.specs.Prelude.{choice_of, Goes, GoesOut, StandsBefore}
 use Rattle.dutch_pair.proofs.NoDeadEnd.{ordinary_out}
 use Rattle.dutch_sequence.specs.declared.numbers.TheConstants.{LIMIT}
-use Rattle.dutch_pair.proofs.WalkEnds.{down_seats, few_left, left_few, left_is, numbers_left}
+use Rattle.dutch_pair.proofs.WalkEnds.{down_seats, few_left, left_few, left_is}
 use Rattle.dutch_pair.proofs.WalkSteps.{is_kept, stands_above, stands_collapsed, stands_left}
 use Rattle.dutch_pair.proofs.walk.behind.Goals as goal
 
-pub seats_of-left-requires-clause-inside : goal.seats_of-left-requires-clause-inside
-seats_of-left-requires-clause-inside c =
-    let stage = c.args.stage.now in
-    numbers_left c.args.field.now stage.reached stage.candidate.lists c.seats.result.now c.down.result.now c.seats.ensures (c.down.ensures ∙ c.requires.settled.down)
-
-pub seats_of-left-requires-clause-few : goal.seats_of-left-requires-clause-few
-seats_of-left-requires-clause-few c =
+pub seats_of-left-requires : goal.seats_of-left-requires
+seats_of-left-requires c =
     let stage = c.args.stage.now in
     let above = stands_above c.args.field.now stage.reached.number stage.reached c.args.lower.now c.requires.stands
     (record { falls = c.scores_do_not_ascend.ensures.scores; few = c.scores_do_not_ascend.ensures.few }) in

@@ -3,7 +3,7 @@ use Rattle.std.proofs.Common.{◌≡◌, ◌+◌, ◌≤◌, List, ℕ, length, 
 use Rattle.dutch_bracket.specs.Prelude.{Reached, bracket}
 use Rattle.dutch_pair.specs.Prelude.{group_kind, round_by, StandsBefore}
 use Rattle.dutch_sequence.specs.declared.numbers.TheConstants.{LIMIT}
-use Rattle.dutch_pair.proofs.GroupWalk.{IsParted, group_round, moved_inside, parted_by, parted_few, rest_inside, some_by_test}
+use Rattle.dutch_pair.proofs.GroupWalk.{IsParted, group_round, moved_inside, parted_by, parted_few, some_by_test}
 use Rattle.dutch_pair.proofs.WalkSteps.{stands_group}
 use Rattle.dutch_pair.proofs.walk.first_group.Goals as goal
 use Rattle.dutch_pair.proofs.walk.first_group.Goals.{After-bracket-reached, After-split_first_group}
@@ -21,9 +21,6 @@ is_first c =
 
 pub returns-then-is_empty-clause-stands : goal.returns-then-is_empty-clause-stands
 returns-then-is_empty-clause-stands c = moved_inside c.args.field.now c.args.left.items c.args.rest.now c.requires.goes
-
-pub split_first_group-requires : goal.split_first_group-requires
-split_first_group-requires c = record { inside = rest_inside c.args.field.now c.args.left.items c.args.rest.now c.requires.goes }
 
 pub bracket-reached-requires : goal.bracket-reached-requires
 bracket-reached-requires c =
