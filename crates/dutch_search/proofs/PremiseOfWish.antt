@@ -1,5 +1,5 @@
 -- What a wish makes known of each candidate that grants it (C.04.3 B.3).
-use Rattle.std.proofs.Common.{◌≡◌, ℕ, ◌-◌, ◌<◌, ◌⊎◌, true, List, [], ◌∷◌, length, inl, inr, ap, arith}
+use Rattle.std.proofs.Common.{◌≡◌, ℕ, ◌⊎◌, true, List, [], ◌∷◌, length, inl, inr, ap, arith}
 use Rattle.std.proofs.lemmas.List.{length-map}
 use Rattle.dutch_order.specs.Prelude.{Arrangement, down, by_place, pairs_by_number, IsIn}
 use Rattle.dutch_sequence.proofs.Orders.{IsIn-append, IsIn-back, IsIn-front, map-IsIn}
@@ -7,16 +7,11 @@ use Rattle.dutch_player.specs.Prelude.{Facts}
 use Rattle.dutch_floors.specs.declared.premise.Premise.TheVariants.{Down, Meet}
 use Rattle.dutch_choice.specs.declared.wish.Wish.TheVariants.{LeftOver, Pair}
 use Rattle.dutch_floors.specs.Premises.{Holds}
-use Rattle.dutch_bracket.specs.Prelude.{IsOf, Reached, frame_of, is_number, all_pairs, pairs_of, score_at, seat_of}
+use Rattle.dutch_bracket.specs.Prelude.{Reached, frame_of, is_number, all_pairs, pairs_of, score_at, seat_of}
 use Rattle.dutch_choice.specs.Prelude.{grants}
 use Rattle.dutch_choice.proofs.AllPaired.{bounds}
 use Rattle.dutch_choice.proofs.BestGranting.{over_by_test, pair_by_test}
 use Rattle.dutch_sequence.proofs.FoundPaths.{in-numbers}
-
--- a number of a bracket has a seat of the field
-pub seat_inside : (facts : Facts) (reached : Reached) (z : ℕ) → IsOf facts reached → is_number reached z ≡ true → seat_of reached.seats z < length facts.seats
-seat_inside facts reached z of' h =
-    let within = bounds reached z h in of'.inside (z - 1) (omega (arith, within.0, within.1))
 
 seated_pair : (seats : List ℕ) (p q : ℕ) (xs ys : List ℕ) → IsIn (p, q) (by_place xs ys) → IsIn (seat_of seats p, seat_of seats q) (pairs_of seats xs ys)
 seated_pair seats p q [] ys m = absurd m

@@ -2,8 +2,6 @@
 //
 // Whoever finds a matching is not trusted, and nothing is promised of an aim: a pass that finds no candidate near it is
 // made again without one.
-ghost use Rattle.dutch_bracket.specs.Prelude.{HasSeats};
-
 use crate::both::BothFloors;
 use crate::skipper::premise_with;
 use dutch_bracket::context::Context;
@@ -16,10 +14,7 @@ use dutch_weights::asking::Matched;
 use dutch_weights::unpaired_graph::is_in;
 
 /// Puts the pairs of a matching to others, as far as there is room.
-fn put_matched(context: &Context<'_>, pairs: &[Pair], seated: &mut Seated)
-    requires { HasSeats context.now.facts seated.old }
-    ensures { HasSeats context.now.facts seated.new }
-{
+fn put_matched(context: &Context<'_>, pairs: &[Pair], seated: &mut Seated) {
     let reached = context.reached();
     for pair in pairs {
         let has_room = seated.pairs.len() + seated.down.len() < LIMIT;
@@ -32,10 +27,7 @@ fn put_matched(context: &Context<'_>, pairs: &[Pair], seated: &mut Seated)
 }
 
 /// Puts those to others who are in no pair of a matching, as far as there is room.
-fn put_unmatched(context: &Context<'_>, pairs: &[Pair], seated: &mut Seated)
-    requires { HasSeats context.now.facts seated.old }
-    ensures { HasSeats context.now.facts seated.new }
-{
+fn put_unmatched(context: &Context<'_>, pairs: &[Pair], seated: &mut Seated) {
     let reached = context.reached();
     for above in 0..context.len() {
         let number = above as u16 + 1;
@@ -47,9 +39,7 @@ fn put_unmatched(context: &Context<'_>, pairs: &[Pair], seated: &mut Seated)
 }
 
 /// Fills in a matching by number: its pairs, and those whom it leaves over.
-fn seat_matching(context: &Context<'_>, pairs: &[Pair], seated: &mut Seated)
-    ensures { HasSeats context.now.facts seated.new }
-{
+fn seat_matching(context: &Context<'_>, pairs: &[Pair], seated: &mut Seated) {
     seated.pairs.clear();
     seated.down.clear();
     seated.lowest = context.lowest();

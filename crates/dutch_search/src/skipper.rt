@@ -9,7 +9,7 @@
 ghost use Rattle.std.specs.Prelude.{◌≡◌, ◌⊎◌, IfSome, true, false};
 ghost use Rattle.dutch_order.specs.Prelude.{Arrangement};
 ghost use Rattle.dutch_bracket.specs.Prelude.{quality_here, HasNoBetter, is_better, next_in, quality_in};
-ghost use Rattle.dutch_floors.specs.Premises.{IsPremise, turned};
+ghost use Rattle.dutch_floors.specs.Premises.{turned};
 ghost use Rattle.dutch_choice.specs.Prelude.{IsIdle, IsIdleIfFit, grants, is_unwanted_to};
 ghost use Rattle.dutch_search.specs.Searching.{HoldsHere};
 ghost use Rattle.dutch_search.specs.Skips.{HasNoBetterNext, IsBehindAim, IsBehindKept, OfEach, OfEachWith, Weighs};
@@ -28,10 +28,9 @@ use dutch_order::{Bound, Exchange, Prefix};
 
 /// What holds for each candidate that grants a wish, or for a pair in its order or in the other one. There is none
 /// if the wish names a number that the bracket does not have.
-#[tactic(auto, using(crate::proofs::PremiseOfWish::seat_inside, crate::proofs::PremiseOfWish::they_meet, crate::proofs::PremiseOfWish::goes_down))]
+#[tactic(auto, using(crate::proofs::PremiseOfWish::they_meet, crate::proofs::PremiseOfWish::goes_down))]
 pub(crate) fn premise_of_wish(context: &Context<'_>, wish: Wish) -> Option<Premise>
-    ensures seats { IfSome result (IsPremise context.now.facts) }
-    ensures holds { IfSome result (λ premise. (a : Arrangement) → grants wish a ≡ true
+    ensures { IfSome result (λ premise. (a : Arrangement) → grants wish a ≡ true
         → HoldsHere context.now premise a ⊎ HoldsHere context.now (turned premise) a) }
 {
     let reached = context.reached();
@@ -52,9 +51,7 @@ pub(crate) fn premise_of_wish(context: &Context<'_>, wish: Wish) -> Option<Premi
 }
 
 /// The same if there may be no wish.
-pub(crate) fn premise_with(context: &Context<'_>, wish: Option<Wish>) -> Option<Premise>
-    ensures { IfSome result (IsPremise context.now.facts) }
-{
+pub(crate) fn premise_with(context: &Context<'_>, wish: Option<Wish>) -> Option<Premise> {
     match wish {
         Some(wish) => premise_of_wish(context, wish),
         None => None,
@@ -72,7 +69,6 @@ impl<'a, 'k> Skipper<'a, 'k> {
 
     /// The same of a candidate for which a premise holds.
     fn fill_floor_given(&self, premise: Premise, prefix: &Prefix<'_>, room: &mut Room) -> bool
-        requires { IsPremise (context_of self.now).facts premise }
         ensures { result ≡ true → OfEach self.now prefix.now
             (λ a. HoldsHere (context_of self.now) premise a
             → is_better (quality_here (context_of self.now) a) (quality_in room.new.quality) ≡ false) }
@@ -92,7 +88,6 @@ impl<'a, 'k> Skipper<'a, 'k> {
     /// Whether no candidate with a beginning for which a premise holds is of interest.
     #[tactic(auto, using(dutch_choice::proofs::AimLemmas::idle_floor))]
     fn is_idle_given(&self, premise: Premise, prefix: &Prefix<'_>, room: &mut Room) -> bool
-        requires { IsPremise (context_of self.now).facts premise }
         ensures { result ≡ true → OfEach self.now prefix.now
             (λ a. HoldsHere (context_of self.now) premise a → IsIdle self.now.search a) }
     {

@@ -7,8 +7,8 @@ use Rattle.dutch_choice.specs.Prelude.{grants}
 use Rattle.dutch_search.proofs.PremiseOfWish.{they_meet}
 use Rattle.dutch_search.proofs.skipper.premise_of_wish.Goals as goal
 
-pub returns-else-not-has-2-clause-holds : goal.returns-else-not-has-2-clause-holds
-returns-else-not-has-2-clause-holds c = λ a granted.
+pub returns-else-not-has-2 : goal.returns-else-not-has-2
+returns-else-not-has-2 c = λ a granted.
     let facts = c.args.context.now.facts in
     let reached = c.args.context.now.reached in
     let Either : ℕ → ℕ → Type 0 = λ x y. Holds facts reached (Meet x y) a ⊎ Holds facts reached (Meet y x) a in
