@@ -1,6 +1,5 @@
 // The line of a board of a bracket, with the rule that decided its colours.
 ghost use Rattle.std.specs.Prelude.{◌≡◌, ◌++◌, OnOk};
-ghost use Rattle.dutch_bracket.specs.Prelude.{IsPair};
 ghost use Rattle.round_lines.specs.RoundTexts.{colours_text, rule_text, rule_words};
 
 use crate::page::Page;
@@ -17,7 +16,6 @@ use std::alloc::AllocError;
 /// Memory was refused.
 #[tactic(auto, unfolding(crate::specs::RoundTexts::colours_line, crate::specs::RoundTexts::colours_words))]
 pub fn put_board(text: &mut Page, telling: &Telling<'_>, pair: Pair) -> Result<(), AllocError>
-    requires { IsPair telling.now.facts pair }
     ensures { OnOk result (text.new ≡ text.old ++ colours_text telling.now pair) }
 {
     let (white, black) = telling.field.colours(pair.0, pair.1);

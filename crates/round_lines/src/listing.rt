@@ -3,7 +3,7 @@ ghost use Rattle.std.specs.Prelude.{◌≡◌, ◌++◌, IfOk, OnOk, string_byte
 ghost use Rattle.std.specs.List.{flat_map};
 ghost use Rattle.std.specs.Fmt.{decimal};
 ghost use Rattle.dutch_order.specs.Prelude.{Spends};
-ghost use Rattle.dutch_bracket.specs.Prelude.{IsOf, frame_of};
+ghost use Rattle.dutch_bracket.specs.Prelude.{frame_of};
 ghost use Rattle.round_lines.specs.Listings.{IsListing, StopsAtLimit, status_of};
 ghost use Rattle.round_lines.specs.CandidateTexts.{down_text, candidate_text, line_text, pair_text, pairs_text};
 ghost use Rattle.round_lines.specs.CandidateTexts.{start_of};
@@ -67,8 +67,7 @@ pub fn lines<R: Rule>(
     count: usize,
     budget: &mut Budget,
 ) -> Result<Listed, AllocError>
-    requires of { IsOf coming.bracket.field.now coming.bracket.reached.now }
-    requires frame { coming.candidates.frame ≡ frame_of coming.bracket.field.now coming.bracket.reached.now }
+    requires { coming.candidates.frame ≡ frame_of coming.bracket.field.now coming.bracket.reached.now }
     ensures listing { IfOk result (λ listed.
         IsListing (line_text coming.entry.bracket.field.now coming.entry.bracket.reached.now)
         coming.entry.candidates.coming count budget.old.limit listed.ending (string_bytes listed.text)) }
@@ -106,7 +105,6 @@ pub fn put_line(
     bracket: &Bracket<'_>,
     candidate: &Candidate,
 ) -> Result<(), AllocError>
-    requires { IsOf bracket.now.field.now bracket.now.reached.now }
     ensures { OnOk result (string_bytes text.new
         ≡ string_bytes text.old ++ candidate_text bracket.now.field.now bracket.now.reached.now candidate.now) }
 {
@@ -120,7 +118,6 @@ pub fn put_line(
 impl<'a> Bracket<'a> {
     // The start rank of a number; 0 for a number that is none of the bracket's.
     fn start_of(&self, number: u16) -> u16
-        requires { IsOf self.now.field.now self.now.reached.now }
         ensures { result ≡ start_of self.now.field.now self.now.reached.now number }
     {
         if !self.reached.has(number) {
@@ -138,7 +135,6 @@ fn put_pairs(
     firsts: &[u16],
     seconds: &[u16],
 ) -> Result<(), AllocError>
-    requires { IsOf bracket.now.field.now bracket.now.reached.now }
     ensures { OnOk result (string_bytes text.new ≡ string_bytes text.old
         ++ pairs_text bracket.now.field.now bracket.now.reached.now firsts.now seconds.now) }
 {
@@ -158,7 +154,6 @@ fn put_pair(
     first: u16,
     second: u16,
 ) -> Result<(), AllocError>
-    requires { IsOf bracket.now.field.now bracket.now.reached.now }
     ensures { OnOk result (string_bytes text.new
         ≡ string_bytes text.old ++ pair_text bracket.now.field.now bracket.now.reached.now first second) }
 {
@@ -168,7 +163,6 @@ fn put_pair(
 
 // Puts those who are left over.
 fn put_down(text: &mut String, bracket: &Bracket<'_>, down: &[u16]) -> Result<(), AllocError>
-    requires { IsOf bracket.now.field.now bracket.now.reached.now }
     ensures { OnOk result (string_bytes text.new
         ≡ string_bytes text.old ++ down_text bracket.now.field.now bracket.now.reached.now down.now) }
 {
@@ -181,7 +175,6 @@ fn put_down(text: &mut String, bracket: &Bracket<'_>, down: &[u16]) -> Result<()
 
 // Puts players with a blank before each.
 fn put_each(text: &mut String, bracket: &Bracket<'_>, numbers: &[u16]) -> Result<(), AllocError>
-    requires { IsOf bracket.now.field.now bracket.now.reached.now }
     ensures { OnOk result (string_bytes text.new ≡ string_bytes text.old
         ++ flat_map (λ n. codes " " ++ decimal (start_of bracket.now.field.now bracket.now.reached.now n))
         numbers.now) }

@@ -1,6 +1,6 @@
 // What stands against a meeting in the next round, or against the bye, whatever is chosen in a bracket (C.04.3 C.1 to
 // C.3).
-ghost use Rattle.std.specs.Prelude.{◌≡◌, ◌<◌, ◌++◌, OnOk, Some, length};
+ghost use Rattle.std.specs.Prelude.{◌≡◌, ◌<◌, ◌++◌, OnOk, Some};
 ghost use Rattle.round_lines.specs.Obstacles.{against_bye, against_meeting, first_meeting, has_played};
 ghost use Rattle.round_lines.specs.Obstacles.{obstacle_text, obstacle_words};
 
@@ -75,8 +75,6 @@ fn first_meeting(report: &Report<'_>, one: u16, other: u16) -> Option<u8>
 
 /// What stands first against a meeting of two seats: a game (C.1), a line `XXP`, their colours (C.3).
 pub fn against_meeting(report: &Report<'_>, field: &Field, one: u16, other: u16) -> Option<Obstacle>
-    requires first { one < length field.now.seats }
-    requires second { other < length field.now.seats }
     ensures { result ≡ against_meeting report.now field.now one other }
 {
     let (first, second) = (field.start_rank(one), field.start_rank(other));
@@ -95,7 +93,6 @@ pub fn against_meeting(report: &Report<'_>, field: &Field, one: u16, other: u16)
 
 /// What stands first against the bye of a seat, if these have it: C.2, or that nobody has it.
 pub fn against_bye(field: &Field, bye: &[u16], seat: u16) -> Option<Obstacle>
-    requires { seat < length field.now.seats }
     ensures { result ≡ against_bye field.now bye.now seat }
 {
     if !field.may_bye(seat) {

@@ -1,5 +1,5 @@
 // What a player brings to the next round, in one line; and that a player is absent.
-ghost use Rattle.std.specs.Prelude.{◌≡◌, ◌<◌, ◌++◌, IfOk, OnOk, codes, length};
+ghost use Rattle.std.specs.Prelude.{◌≡◌, ◌++◌, IfOk, OnOk, codes};
 ghost use Rattle.std.specs.List.{flat_map};
 ghost use Rattle.std.specs.Fmt.{decimal};
 ghost use Rattle.dutch_player.specs.Prelude.{seat_at};
@@ -27,7 +27,6 @@ use trf16::{Colour, Report};
 /// Memory was refused.
 #[tactic(auto, unfolding(crate::specs::PlayerTexts::player_text))]
 pub fn put_player(text: &mut Page, telling: &Telling<'_>, seat: u16) -> Result<(), AllocError>
-    requires { seat < length telling.now.facts.seats }
     ensures { OnOk result (text.new ≡ text.old ++ player_text telling.now seat) }
 {
     match telling.wording {
@@ -39,7 +38,6 @@ pub fn put_player(text: &mut Page, telling: &Telling<'_>, seat: u16) -> Result<(
 // Puts the line of a player.
 #[tactic(auto, unfolding(crate::specs::PlayerTexts::player_line))]
 fn put_player_line(text: &mut Page, telling: &Telling<'_>, seat: u16) -> Result<(), AllocError>
-    requires { seat < length telling.now.facts.seats }
     ensures { OnOk result (text.new ≡ text.old
         ++ player_line telling.now.sheet telling.now.facts (seat_at telling.now.facts seat)) }
 {
@@ -59,7 +57,6 @@ fn put_history(
     field: &Field,
     seat: u16,
 ) -> Result<(), AllocError>
-    requires { seat < length field.now.seats }
     ensures { OnOk result (text.new
         ≡ text.old ++ history_text report.now (seat_at field.now seat)) }
 {
@@ -88,7 +85,6 @@ pub fn put_absent(text: &mut Page, telling: &Telling<'_>, start: u16) -> Result<
 // Puts who a player is, and their score.
 #[tactic(auto, unfolding(crate::specs::PlayerTexts::score_text))]
 fn put_score(text: &mut Page, field: &Field, seat: u16) -> Result<(), AllocError>
-    requires { seat < length field.now.seats }
     ensures { OnOk result (text.new ≡ text.old ++ score_text (seat_at field.now seat)) }
 {
     let start = field.start_rank(seat);
@@ -171,7 +167,6 @@ pub(crate) fn preference(preference: Option<Pref>) -> (&'static str, &'static st
 // Puts what a player's colours come to.
 #[tactic(auto, unfolding(crate::specs::PlayerTexts::wish_text))]
 fn put_wish(text: &mut Page, field: &Field, seat: u16) -> Result<(), AllocError>
-    requires { seat < length field.now.seats }
     ensures { OnOk result (text.new ≡ text.old ++ wish_text (seat_at field.now seat)) }
 {
     text.push_str(" difference ")?;
@@ -193,7 +188,6 @@ pub(crate) fn float(float: Option<Float>) -> &'static str
 // Puts a player's floats in the last two rounds.
 #[tactic(auto, unfolding(crate::specs::PlayerTexts::floats_text))]
 fn put_floats(text: &mut Page, field: &Field, seat: u16) -> Result<(), AllocError>
-    requires { seat < length field.now.seats }
     ensures { OnOk result (text.new ≡ text.old ++ floats_text (seat_at field.now seat)) }
 {
     let (latest, earlier) = (float(field.float(seat, 1)), float(field.float(seat, 2)));
@@ -263,7 +257,6 @@ pub(crate) fn yes(holds: bool) -> &'static str
 // Puts whether a player is a topscorer, and whether they may have the bye.
 #[tactic(auto, unfolding(crate::specs::PlayerTexts::rights_text))]
 fn put_rights(text: &mut Page, field: &Field, seat: u16) -> Result<(), AllocError>
-    requires { seat < length field.now.seats }
     ensures { OnOk result (text.new
         ≡ text.old ++ rights_text field.now (seat_at field.now seat)) }
 {

@@ -1,5 +1,5 @@
 // What a player brings to the next round, in five sentences.
-ghost use Rattle.std.specs.Prelude.{◌≡◌, ◌<◌, ◌++◌, OnOk, codes, length};
+ghost use Rattle.std.specs.Prelude.{◌≡◌, ◌++◌, OnOk, codes};
 ghost use Rattle.dutch_player.specs.Prelude.{seat_at};
 ghost use Rattle.trf16.specs.Prelude.{rounds_played};
 ghost use Rattle.round_lines.specs.PlayerTexts.{colours_words, comma_behind, floats_words, game_behind};
@@ -22,7 +22,6 @@ pub(crate) fn put_player_sentences(
     telling: &Telling<'_>,
     seat: u16,
 ) -> Result<(), AllocError>
-    requires { seat < length telling.now.facts.seats }
     ensures { OnOk result (text.new ≡ text.old
         ++ player_sentences telling.now.sheet telling.now.facts (seat_at telling.now.facts seat)) }
 {
@@ -36,7 +35,6 @@ pub(crate) fn put_player_sentences(
 // Puts the sentence on a player's score.
 #[tactic(auto, unfolding(crate::specs::PlayerTexts::score_words))]
 fn put_score_words(text: &mut Page, telling: &Telling<'_>, seat: u16) -> Result<(), AllocError>
-    requires { seat < length telling.now.facts.seats }
     ensures { OnOk result (text.new
         ≡ text.old ++ score_words telling.now.sheet (seat_at telling.now.facts seat)) }
 {
@@ -122,7 +120,6 @@ fn put_wish_words(
     field: &Field,
     seat: u16,
 ) -> Result<(), AllocError>
-    requires { seat < length field.now.seats }
     ensures { OnOk result (text.new ≡ text.old ++ wish_words report.now (seat_at field.now seat)) }
 {
     text.push_str("Colours so far: ")?;
@@ -133,7 +130,6 @@ fn put_wish_words(
 // Puts the sentence on a player's floats in the last two rounds.
 #[tactic(auto, unfolding(crate::specs::PlayerTexts::floats_words))]
 fn put_floats_words(text: &mut Page, telling: &Telling<'_>, seat: u16) -> Result<(), AllocError>
-    requires { seat < length telling.now.facts.seats }
     ensures { OnOk result (text.new ≡ text.old ++ floats_words (seat_at telling.now.facts seat)) }
 {
     let latest = Text(float(telling.field.float(seat, 1)));
@@ -149,7 +145,6 @@ fn put_floats_words(text: &mut Page, telling: &Telling<'_>, seat: u16) -> Result
 // Puts the sentence on those whom a player has met.
 #[tactic(auto, unfolding(crate::specs::PlayerTexts::met_words))]
 fn put_met_words(text: &mut Page, telling: &Telling<'_>, seat: u16) -> Result<(), AllocError>
-    requires { seat < length telling.now.facts.seats }
     ensures { OnOk result (text.new
         ≡ text.old ++ met_words telling.now.sheet (seat_at telling.now.facts seat)) }
 {
@@ -161,7 +156,6 @@ fn put_met_words(text: &mut Page, telling: &Telling<'_>, seat: u16) -> Result<()
 // Puts the sentences on whether a player is a topscorer, and whether they may have the bye.
 #[tactic(auto, unfolding(crate::specs::PlayerTexts::rights_words))]
 fn put_rights_words(text: &mut Page, telling: &Telling<'_>, seat: u16) -> Result<(), AllocError>
-    requires { seat < length telling.now.facts.seats }
     ensures { OnOk result (text.new
         ≡ text.old ++ rights_words telling.now.facts (seat_at telling.now.facts seat)) }
 {
