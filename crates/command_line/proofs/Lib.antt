@@ -1,4 +1,3 @@
-pub mod StageLemmas
 pub mod ObstacleTruth
 pub mod InsteadLemmas
 pub mod DecidedLemmas

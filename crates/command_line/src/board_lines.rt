@@ -1,7 +1,5 @@
 // The lines of the boards of a bracket, and of who is left over where the round ends.
 ghost use Rattle.std.specs.Prelude.{◌≡◌, ◌++◌, OnOk};
-ghost use Rattle.std.specs.List.{AllByRecursion};
-ghost use Rattle.dutch_bracket.specs.Prelude.{IsPair};
 ghost use Rattle.dutch_pair.specs.Prelude.{IsStage};
 ghost use Rattle.command_line.specs.ExplainTexts.{boards_text, byes_text, is_told, over_text, pairs_text};
 
@@ -46,7 +44,6 @@ fn put_boards(
     pairs: &[Board],
     whose: Option<u16>,
 ) -> Result<(), AllocError>
-    requires { AllByRecursion (IsPair telling.now.facts) pairs.now }
     ensures { OnOk result (text.new ≡ text.old ++ boards_text telling.now whose pairs.now) }
 {
     for pair in pairs {
@@ -64,7 +61,6 @@ pub fn put_byes(
     stage: &Stage,
     whose: Option<u16>,
 ) -> Result<(), AllocError>
-    requires { IsStage telling.now.facts stage.now }
     ensures { OnOk result (text.new ≡ text.old ++ byes_text telling.now whose stage.now) }
 {
     let reached = stage.reached();

@@ -142,7 +142,6 @@ fn list_coming<'a, R: Rule>(
     asked: &ListedBracket<'a>,
     candidates: Candidates<'a, R>,
 ) -> Result<Reply, AllocError>
-    requires of { IsOf asked.now.field.now asked.now.reached.now }
     requires frame { candidates.frame ≡ frame_of asked.now.field.now asked.now.reached.now }
     requires coming { coming_of asked.now.field.now asked.now.reached.now asked.now.shape options.now.from
         ≡ Ok candidates.coming }

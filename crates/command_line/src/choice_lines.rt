@@ -33,7 +33,6 @@ pub fn put_choice(text: &mut Page, telling: &Telling<'_>, stage: &Stage) -> Resu
 
 // The same as a plain line.
 fn put_choice_line(text: &mut Page, telling: &Telling<'_>, stage: &Stage) -> Result<(), AllocError>
-    requires { IsStage telling.now.facts stage.now }
     ensures { OnOk result (text.new ≡ text.old ++ candidate_line telling.now stage.now) }
 {
     let bracket = Bracket {

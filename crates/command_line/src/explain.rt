@@ -1,9 +1,8 @@
 // The command `explain`: why the next round is paired as it is, bracket by bracket or for one player.
-ghost use Rattle.std.specs.Prelude.{◌≡◌, ◌<◌, ◌≤◌, ◌++◌, IfOk, Ok, OnOk, length};
+ghost use Rattle.std.specs.Prelude.{◌≡◌, ◌≤◌, ◌++◌, IfOk, Ok, OnOk};
 ghost use Rattle.std.specs.List.{AllByRecursion};
 ghost use Rattle.dutch_pair.specs.Prelude.{IsStage};
 ghost use Rattle.trf16.specs.Prelude.{verdict};
-ghost use Rattle.dutch_bracket.specs.Prelude.{AreSeats};
 ghost use Rattle.dutch_player.specs.Prelude.{seat_with};
 ghost use Rattle.command_line.specs.ExplainAnswers.{AnswersExplain, ExplainsAsked, IsExplained, IsToldBehind};
 ghost use Rattle.command_line.specs.ExplainAnswers.{TellsPaired, about_text, front_text, present_text};
@@ -109,8 +108,7 @@ fn tell_paired(
     options: ExplainOptions,
     round: &Paired<'_>,
 ) -> Result<Reply, AllocError>
-    requires bye { AreSeats round.now.telling.facts round.now.bye }
-    requires stages { AllByRecursion (IsStage round.now.telling.facts) round.now.stages }
+    requires { AllByRecursion (IsStage round.now.telling.facts) round.now.stages }
     ensures { IfOk result (λ reply. TellsPaired options.question options.steps round.now (answer_of reply)) }
 {
     let mut text = Page::new(alloc);
@@ -161,8 +159,7 @@ fn put_about(text: &mut Page, round: &Paired<'_>, player: u16) -> Result<(), All
 
 // Puts the line of a present player and their brackets.
 fn put_present(text: &mut Page, round: &Paired<'_>, seat: u16) -> Result<(), AllocError>
-    requires seat { seat < length round.now.telling.facts.seats }
-    requires stages { AllByRecursion (IsStage round.now.telling.facts) round.now.stages }
+    requires { AllByRecursion (IsStage round.now.telling.facts) round.now.stages }
     ensures { OnOk result (text.new ≡ text.old ++ present_text round.now seat) }
 {
     put_player(text, round.telling, seat)?;

@@ -1,10 +1,10 @@
 // Why a player does not meet another one in the next round, or does not have the bye: what stands against it first.
-ghost use Rattle.std.specs.Prelude.{◌≡◌, ◌<◌, ◌≤◌, IfOk, IfSome, MatchOption, None, Some, length};
+ghost use Rattle.std.specs.Prelude.{◌≡◌, ◌≤◌, IfOk, IfSome, MatchOption, None, Some, length};
 ghost use Rattle.std.specs.List.{AllByRecursion};
 ghost use Rattle.dutch_sequence.specs.declared.numbers.TheConstants.{LIMIT};
 ghost use Rattle.dutch_pair.specs.Prelude.{IsStage};
 ghost use Rattle.dutch_choice.specs.Prelude.{grants};
-ghost use Rattle.command_line.specs.InsteadAnswers.{AnswersInstead, AnswersPresent, AnswersWish, IsRival, IsSearched};
+ghost use Rattle.command_line.specs.InsteadAnswers.{AnswersInstead, AnswersPresent, AnswersWish, IsSearched};
 ghost use Rattle.command_line.specs.InsteadAnswers.{decided_in};
 ghost use Rattle.command_line.specs.InsteadAnswers.{goes_on, number_among, number_in, obstacle_of, rival_of};
 ghost use Rattle.command_line.specs.InsteadAnswers.{stands_in, stands_in_one, wish_in};
@@ -86,9 +86,7 @@ fn of_meeting(
     meeting: Meeting,
     question: Question,
 ) -> Result<Reply, AllocError>
-    requires player { meeting.player < length round.now.telling.facts.seats }
-    requires rival { IsRival round.now.telling.facts meeting.rival }
-    requires stages { AllByRecursion (IsStage round.now.telling.facts) round.now.stages }
+    requires { AllByRecursion (IsStage round.now.telling.facts) round.now.stages }
     ensures { IfOk result (λ reply. AnswersPresent round.now.telling question.steps question.asked.player
         question.asked.number (obstacle_of round.now meeting.player meeting.rival)
         (decided_in round.now.stages meeting.player meeting.rival) (answer_of reply)) }
@@ -112,8 +110,7 @@ struct Meeting {
 
 // The bye for 0; otherwise the seat of a start rank.
 fn rival_of(field: &Field, number: u16) -> Option<Rival>
-    ensures value { result ≡ rival_of field.now number }
-    ensures within { IfSome result (IsRival field.now) }
+    ensures { result ≡ rival_of field.now number }
 {
     if number == 0 {
         return Some(Rival::Bye);
@@ -126,8 +123,6 @@ fn rival_of(field: &Field, number: u16) -> Option<Rival>
 
 // What stands against it, whatever is chosen in a bracket.
 fn obstacle_of(round: &Paired<'_>, meeting: Meeting) -> Option<Obstacle>
-    requires player { meeting.player < length round.now.telling.facts.seats }
-    requires rival { IsRival round.now.telling.facts meeting.rival }
     ensures { result ≡ obstacle_of round.now meeting.player meeting.rival }
 {
     let telling = round.telling;
