@@ -9,7 +9,6 @@ pub mod FixedListsLemmas
 pub mod BitLemmas
 pub mod C06Psd
 pub mod C08ToC19Fixed
-pub mod ColourSeats
 pub mod Copies
 pub mod AnyLemmas
 pub mod Partners
