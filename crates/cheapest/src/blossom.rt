@@ -116,6 +116,8 @@ impl Forest {
         self.parent.put(place, None);
         self.labels.put(place, Wide::zero());
         self.live.put(place, true);
+        self.end = self.end.max(blossom.saturating_add(1));
+        self.is_folded = true;
         self.mark(blossom, Mark::Outer);
     }
 

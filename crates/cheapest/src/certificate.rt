@@ -41,7 +41,7 @@ impl Forest {
         ensures { IfOk result (λ sets. All (λ set. length set.marks.items ≡ size) sets.items) }
     {
         let mut sets = Vec::new(alloc);
-        for blossom in self.size..self.nodes {
+        for blossom in self.size..self.end {
             let price = self.label(blossom);
             if self.live.at(usize::from(blossom)) && !price.is_zero() {
                 let marks = self.marks_of(alloc, size, blossom)?;

@@ -34,84 +34,82 @@ fn sooner(first: Option<Event>, second: Option<Event>) -> Option<Event> {
     }
 }
 
-// Whether an event needs no change of labels.
-fn is_due(event: &Option<Event>) -> bool {
-    match event {
-        Some(event) => event.by.is_zero(),
-        None => false,
-    }
-}
-
 impl Forest {
-    // When an outer vertex can be left over.
-    fn leave_event(&self, v: u16) -> Option<Event> {
-        if self.mark_of(v) != Mark::Outer {
-            return None;
+    // Whether a node has a lower label than another one.
+    fn is_lower(&self, node: u16, other: Option<u16>) -> bool {
+        match other {
+            Some(other) => self.label(node).is_less(self.label(other)),
+            None => true,
         }
-        Some(Event {
-            by: self.label(v),
-            next_move: NextMove::Leave(v),
-        })
     }
 
-    // When a vertex can be joined to the outer vertex that is nearest to it. Where both are outer, both labels come
-    // down.
-    fn join_event(&self, v: u16) -> Result<Option<Event>, Fault>
-        ensures { IfErr result (λ fault. fault ≡ TooGreat) }
-    {
-        let Some(u) = self.nearest.at(usize::from(v)) else {
-            return Ok(None);
-        };
-        let slack = self.slack(u, v)?;
-        let by = match self.mark_of(v) {
-            Mark::Free => slack,
-            Mark::Outer => slack.halved(),
-            Mark::Inner => return Ok(None),
-        };
-        Ok(Some(Event {
-            by,
-            next_move: NextMove::Join(u, v),
-        }))
-    }
-
-    // When an inner blossom has a label of 0.
-    fn expand_event(&self, node: u16) -> Option<Event> {
-        let is_inner = self.marks.at(usize::from(node)) == Mark::Inner;
-        if !self.is_outermost_blossom(node) || !is_inner {
-            return None;
-        }
-        Some(Event {
-            by: self.label(node).halved(),
-            next_move: NextMove::Expand(node),
-        })
-    }
-
-    // The first event at a vertex. None comes before one that can be done at once.
-    fn first_at_vertices(&self) -> Result<Option<Event>, Fault>
-        ensures { IfErr result (λ fault. fault ≡ TooGreat) }
-    {
+    // The outer vertex with the least label, which can be left over first.
+    fn first_to_leave(&self) -> Option<Event> {
         let mut first = None;
         for v in 0..self.size {
-            first = sooner(sooner(first, self.leave_event(v)), self.join_event(v)?);
-            if is_due(&first) {
-                return Ok(first);
+            if self.noted.at(usize::from(v)) == Mark::Outer && self.is_lower(v, first) {
+                first = Some(v);
             }
         }
-        Ok(first)
+        let first = first?;
+        Some(Event {
+            by: self.label(first),
+            next_move: NextMove::Leave(first),
+        })
+    }
+
+    // Whether a vertex that is not inner knows an outer one that is nearest to it.
+    fn can_join(&self, v: u16) -> bool {
+        let place = usize::from(v);
+        self.nearest.at(place).is_some() && self.noted.at(place) != Mark::Inner
+    }
+
+    // Whether a vertex can be joined to the nearest one before another vertex can.
+    fn joins_before(&self, v: u16, other: Option<u16>) -> bool {
+        match other {
+            Some(other) => {
+                let due = self.due.at(usize::from(other));
+                self.due.at(usize::from(v)).is_less(due)
+            }
+            None => true,
+        }
+    }
+
+    // The first vertex that can be joined to the nearest one.
+    fn first_to_join(&self) -> Option<Event> {
+        let mut first = None;
+        for v in 0..self.size {
+            if self.can_join(v) && self.joins_before(v, first) {
+                first = Some(v);
+            }
+        }
+        let place = usize::from(first?);
+        Some(Event {
+            by: rest(self.due.at(place), self.fallen),
+            next_move: NextMove::Join(self.nearest.at(place)?, first?),
+        })
+    }
+
+    // The first inner blossom whose label comes down to 0.
+    fn first_to_expand(&self) -> Option<Event> {
+        let mut first = None;
+        for node in self.size..self.end {
+            let is_inner = self.marks.at(usize::from(node)) == Mark::Inner;
+            if is_inner && self.is_outermost_blossom(node) && self.is_lower(node, first) {
+                first = Some(node);
+            }
+        }
+        let first = first?;
+        Some(Event {
+            by: self.label(first).halved(),
+            next_move: NextMove::Expand(first),
+        })
     }
 
     /// The first event of all.
-    pub(crate) fn first_event(&self) -> Result<Option<Event>, Fault>
-        ensures { IfErr result (λ fault. fault ≡ TooGreat) }
-    {
-        let mut first = self.first_at_vertices()?;
-        if is_due(&first) {
-            return Ok(first);
-        }
-        for node in self.size..self.nodes {
-            first = sooner(first, self.expand_event(node));
-        }
-        Ok(first)
+    pub(crate) fn first_event(&self) -> Option<Event> {
+        let first = sooner(self.first_to_leave(), self.first_to_join());
+        sooner(first, self.first_to_expand())
     }
 
     // Changes the labels of vertices: those of outer nodes come down, and those of inner ones go up.
@@ -119,12 +117,13 @@ impl Forest {
         ensures { IfErr result (λ fault. fault ≡ TooGreat) }
     {
         for v in 0..self.size {
-            let label = match self.mark_of(v) {
+            let place = usize::from(v);
+            let label = match self.noted.at(place) {
                 Mark::Outer => rest(self.label(v), by),
                 Mark::Inner => sum(self.label(v), by)?,
-                Mark::Free => self.label(v),
+                Mark::Free => continue,
             };
-            self.labels.put(usize::from(v), label);
+            self.labels.put(place, label);
         }
         Ok(())
     }
@@ -133,14 +132,15 @@ impl Forest {
     fn adjust_blossoms(&mut self, by: Wide) -> Result<(), Fault>
         ensures { IfErr result (λ fault. fault ≡ TooGreat) }
     {
-        for node in self.size..self.nodes {
+        for node in self.size..self.end {
+            let place = usize::from(node);
             if self.is_outermost_blossom(node) {
-                let label = match self.marks.at(usize::from(node)) {
+                let label = match self.marks.at(place) {
                     Mark::Outer => sum(self.label(node), by)?,
                     Mark::Inner => rest(self.label(node), by),
                     Mark::Free => self.label(node),
                 };
-                self.labels.put(usize::from(node), label);
+                self.labels.put(place, label);
             }
         }
         Ok(())
@@ -150,6 +150,7 @@ impl Forest {
     pub(crate) fn adjust(&mut self, by: Wide) -> Result<(), Fault>
         ensures { IfErr result (λ fault. fault ≡ TooGreat) }
     {
+        self.fallen = sum(self.fallen, by)?;
         self.adjust_vertices(by)?;
         self.adjust_blossoms(sum(by, by)?)
     }

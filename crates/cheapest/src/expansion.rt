@@ -76,8 +76,8 @@ impl Forest {
 
     /// Unfolds all blossoms.
     pub(crate) fn unfold_all(&mut self) {
-        for _ in self.size..self.nodes {
-            for blossom in self.size..self.nodes {
+        for _ in self.size..self.end {
+            for blossom in self.size..self.end {
                 if self.is_outermost_blossom(blossom) {
                     self.unfold(blossom);
                 }

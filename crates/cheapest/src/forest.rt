@@ -31,6 +31,8 @@ pub(crate) enum Mark {
 pub(crate) struct Forest {
     pub(crate) size: u16,
     pub(crate) nodes: u16,
+    /// Behind the last node that was in use.
+    pub(crate) end: u16,
     pub(crate) gains: Gains,
     pub(crate) labels: Places<Wide>,
     pub(crate) partner: Places<Option<u16>>,
@@ -45,8 +47,17 @@ pub(crate) struct Forest {
     pub(crate) reached: Places<Option<(u16, u16)>>,
     /// The vertex of an outer node that is nearest to a vertex.
     pub(crate) nearest: Places<Option<u16>>,
+    /// How far the labels of outer vertices have come down in the search that goes on.
+    pub(crate) fallen: Wide,
+    /// How far they will have come down when a vertex can be joined to the one nearest to it. For an inner vertex,
+    /// which cannot, what the labels of the two have beyond the gain.
+    pub(crate) due: Places<Wide>,
+    /// The mark of a vertex when it was looked at last.
+    pub(crate) noted: Places<Mark>,
     pub(crate) marks: Places<Mark>,
     pub(crate) scanned: Places<bool>,
+    /// A blossom was folded, so that vertices may be in a common one with those nearest to them.
+    pub(crate) is_folded: bool,
     /// Outer vertices of which others know how near they are, while they do not know themselves who is nearest.
     pub(crate) left_to_others: Places<bool>,
     /// How many vertices each outer blossom has, when they were counted last.
@@ -62,6 +73,7 @@ impl Forest {
         Forest {
             size,
             nodes,
+            end: size,
             gains: Gains::new(alloc, size),
             labels: Places::new(alloc, Wide::zero()),
             partner: Places::new(alloc, None),
@@ -71,8 +83,12 @@ impl Forest {
             next: Places::new(alloc, None),
             reached: Places::new(alloc, None),
             nearest: Places::new(alloc, None),
+            fallen: Wide::zero(),
+            due: Places::new(alloc, Wide::zero()),
+            noted: Places::new(alloc, Mark::Free),
             marks: Places::new(alloc, Mark::Free),
             scanned: Places::new(alloc, false),
+            is_folded: false,
             left_to_others: Places::new(alloc, false),
             counts: Places::new(alloc, 0),
             live: Places::new(alloc, false),
@@ -91,6 +107,8 @@ impl Forest {
         self.next.grow(count)?;
         self.reached.grow(count)?;
         self.nearest.grow(count)?;
+        self.due.grow(count)?;
+        self.noted.grow(count)?;
         self.marks.grow(count)?;
         self.scanned.grow(count)?;
         self.left_to_others.grow(count)?;

@@ -32,5 +32,5 @@ mod start;
 mod steps;
 
 pub use fault::Fault;
-pub use found::{Found, cheapest};
+pub use found::{Found, LOOKS_IN_A_STEP, cheapest};
 pub use graph::Costs;

@@ -27,19 +27,50 @@ impl Forest {
         self.outer_of(v) == self.outer_of(nearest)
     }
 
+    // How far the labels will have come down when a vertex can be joined to an outer one. Where both are outer, both
+    // labels come down.
+    fn due_of(&self, u: u16, v: u16) -> Result<Wide, Fault>
+        ensures { IfErr result (λ fault. fault ≡ TooGreat) }
+    {
+        let slack = self.slack(u, v)?;
+        match self.noted.at(usize::from(v)) {
+            Mark::Free => sum(self.fallen, slack),
+            Mark::Outer => sum(self.fallen, slack.halved()),
+            Mark::Inner => Ok(slack),
+        }
+    }
+
+    /// Notes the marks of vertices, and works out anew when those can be joined that have got another one.
+    pub(crate) fn note_marks(&mut self) -> Result<(), Fault>
+        ensures { IfErr result (λ fault. fault ≡ TooGreat) }
+    {
+        for v in 0..self.size {
+            let (place, mark) = (usize::from(v), self.mark_of(v));
+            if self.noted.at(place) != mark {
+                self.noted.put(place, mark);
+                if let Some(nearest) = self.nearest.at(place) {
+                    let due = self.due_of(nearest, v)?;
+                    self.due.put(place, due);
+                }
+            }
+        }
+        Ok(())
+    }
+
     /// Notes an outer vertex if it is nearer to a vertex than any before. What is stale stays so, until all are looked
     /// at anew.
     fn consider(&mut self, u: u16, v: u16) -> Result<(), Fault>
         ensures { IfErr result (λ fault. fault ≡ TooGreat) }
     {
-        let is_nearer = match self.nearest.at(usize::from(v)) {
+        let place = usize::from(v);
+        let due = self.due_of(u, v)?;
+        let is_nearer = match self.nearest.at(place) {
             None => true,
-            Some(nearest) => {
-                !self.is_stale(v, nearest) && self.slack(u, v)?.is_less(self.slack(nearest, v)?)
-            }
+            Some(nearest) => !self.is_stale(v, nearest) && due.is_less(self.due.at(place)),
         };
         if is_nearer {
-            self.nearest.put(usize::from(v), Some(u));
+            self.nearest.put(place, Some(u));
+            self.due.put(place, due);
         }
         Ok(())
     }
@@ -59,26 +90,16 @@ impl Forest {
         Ok(())
     }
 
-    /// The first outer vertex whose neighbours are still to be looked at.
-    fn first_waiting(&self) -> Option<u16> {
-        for v in 0..self.size {
-            if !self.scanned.at(usize::from(v)) && self.mark_of(v) == Mark::Outer {
-                return Some(v);
-            }
-        }
-        None
-    }
-
-    /// Looks at the neighbours of all outer vertices.
+    /// Looks at the neighbours of all outer vertices at which nobody has looked yet.
     pub(crate) fn scan_all(&mut self, left: &mut u64) -> Result<(), Fault>
         ensures falls { left.new ≤ left.old }
         ensures stopped { IfErr result (λ fault. fault ≡ Stopped → left.new ≡ 0) }
     {
-        for _ in 0..self.size {
-            let Some(u) = self.first_waiting() else {
-                return Ok(());
-            };
-            self.scan(u, left)?;
+        for u in 0..self.size {
+            let place = usize::from(u);
+            if self.noted.at(place) == Mark::Outer && !self.scanned.at(place) {
+                self.scan(u, left)?;
+            }
         }
         Ok(())
     }
@@ -91,16 +112,15 @@ impl Forest {
         self.nearest.put(usize::from(v), None);
         for u in 0..self.size {
             take_step(left)?;
-            if self.mark_of(u) == Mark::Outer && self.can_be_joined(u, v) {
+            if self.noted.at(usize::from(u)) == Mark::Outer && self.can_be_joined(u, v) {
                 self.consider(u, v)?;
             }
         }
         Ok(())
     }
 
-    // Leaves to others whoever is in a common blossom with the vertex nearest to it; whether there is anyone.
-    fn leave_stale(&mut self) -> bool {
-        let mut is_any = false;
+    // Leaves to others whoever is in a common blossom with the vertex nearest to it.
+    fn leave_stale(&mut self) {
         for v in 0..self.size {
             let place = usize::from(v);
             if let Some(nearest) = self.nearest.at(place)
@@ -108,10 +128,8 @@ impl Forest {
             {
                 self.nearest.put(place, None);
                 self.left_to_others.put(place, true);
-                is_any = true;
             }
         }
-        is_any
     }
 
     // Counts the vertices of each outer blossom.
@@ -119,7 +137,7 @@ impl Forest {
         self.counts.clear();
         for v in 0..self.size {
             let node = usize::from(self.outer_of(v));
-            if self.mark_of(v) == Mark::Outer && self.live.at(node) {
+            if self.noted.at(usize::from(v)) == Mark::Outer && self.live.at(node) {
                 self.counts
                     .put(node, self.counts.at(node).saturating_add(1));
             }
@@ -131,7 +149,7 @@ impl Forest {
         self.count_vertices();
         let mut greatest = None;
         let mut most = 0;
-        for node in self.size..self.nodes {
+        for node in self.size..self.end {
             let count = self.counts.at(usize::from(node));
             if count > most {
                 greatest = Some(node);
@@ -160,9 +178,11 @@ impl Forest {
         ensures falls { left.new ≤ left.old }
         ensures stopped { IfErr result (λ fault. fault ≡ Stopped → left.new ≡ 0) }
     {
-        if !self.leave_stale() {
+        if !self.is_folded {
             return Ok(());
         }
+        self.is_folded = false;
+        self.leave_stale();
         let greatest = self.greatest_blossom();
         for v in 0..self.size {
             self.look_beside(v, greatest, left)?;

@@ -6,6 +6,7 @@ ghost use Rattle.cheapest.specs.declared.fault.Fault.TheVariants.{Stopped};
 use crate::events::NextMove;
 use crate::fault::Fault;
 use crate::forest::{Forest, Mark};
+use dual::Wide;
 
 impl Forest {
     // Gives an outer vertex a partner, or none, and pairs all anew on the way from its node to the root.
@@ -76,9 +77,10 @@ impl Forest {
         ensures falls { left.new ≤ left.old }
         ensures stopped { IfErr result (λ fault. fault ≡ Stopped → left.new ≡ 0) }
     {
+        self.note_marks()?;
         self.scan_all(left)?;
         self.look_anew_at_all(left)?;
-        let Some(event) = self.first_event()? else {
+        let Some(event) = self.first_event() else {
             return Ok(true);
         };
         if !event.by.is_zero() {
@@ -97,7 +99,10 @@ impl Forest {
         self.scanned.clear();
         self.left_to_others.clear();
         self.nearest.clear();
+        self.noted.clear();
         self.reached.clear();
+        self.fallen = Wide::zero();
+        self.is_folded = false;
         self.mark(self.outer_of(root), Mark::Outer);
         for _ in 0..3 * u32::from(self.nodes) {
             if self.go_on(left)? {

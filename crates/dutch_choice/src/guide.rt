@@ -12,12 +12,22 @@ ghost use Rattle.dutch_order.specs.declared.bracket.Shape.{Shape};
 use crate::pass::Search;
 use crate::wish::Wish;
 use dutch_bracket::greatest::Lister;
-use dutch_bracket::quality::Quality;
+use dutch_bracket::quality::{Quality, Room};
 use dutch_bracket::reached::ByNumber;
 use dutch_order::{Budget, Stopped};
 
+/// Where the questions of a pass are worked out, and what its guide notes of a walk from one question to the next.
+#[derive(Default, Drop)]
+pub struct Workroom<N: Drop> {
+    pub room: Room,
+    pub notes: N,
+}
+
 /// Draws the candidates of a bracket and a shape for a pass.
 pub trait Guide {
+    /// What it notes of a walk.
+    type Notes: Drop;
+
     /// What it knows, it knows of the candidates of a shape in a bracket above its lower seats.
     ghost knows: { Self → Context → Shape → Type 0 };
 
@@ -27,6 +37,7 @@ pub trait Guide {
         &mut self,
         search: Search<'_, '_>,
         lister: &mut Lister<'_, ByNumber<'_>>,
+        work: &mut Workroom<Self::Notes>,
         budget: &mut Budget,
     ) -> Result<bool, Stopped>
         requires known { knows self.old search.pass.now.shaped.context.now search.pass.now.shaped.shape }

@@ -42,11 +42,11 @@ fn consider<G: Guide>(
         return Ok(());
     }
     judge_candidate(pass.shaped.context, candidate, judge, budget)?;
-    if is_idle(&judge.room.quality, &pass.aim, kept) {
+    if is_idle(&judge.work.room.quality, &pass.aim, kept) {
         return Ok(());
     }
     if can_be_chosen(pass.shaped.context, candidate, &mut judge.left, budget)? {
-        let quality = take(&mut judge.room.quality);
+        let quality = take(&mut judge.work.room.quality);
         let candidate = candidate.copied();
         *kept = Some(Best { candidate, quality });
     }
@@ -77,7 +77,7 @@ fn best_near<'a, G: Guide>(
     let mut kept = None;
     while judge
         .guide
-        .draw(Search { pass, kept: &kept }, lister, budget)?
+        .draw(Search { pass, kept: &kept }, lister, &mut judge.work, budget)?
     {
         consider(pass, &lister.drawn, &mut kept, judge, budget)?;
     }

@@ -16,7 +16,7 @@ ghost use Rattle.dutch_choice.specs.Remembered.{value_below};
 ghost use Rattle.dutch_choice.specs.Passes.{IsHere};
 ghost use Rattle.dutch_order.specs.Prelude.{Spends};
 
-use crate::guide::Guide;
+use crate::guide::{Guide, Workroom};
 use dutch_bracket::context::Context;
 use dutch_bracket::fault::PairFault;
 use dutch_bracket::quality::{NextValue, Quality, Room, fill_quality};
@@ -263,7 +263,8 @@ pub fn look_below<'a>(context: &'a Context<'a>) -> Result<Option<LookAhead<'a>>,
 #[derive(Drop)]
 pub struct Judge<'a, G: Guide> {
     pub look: Option<LookAhead<'a>>,
-    pub room: Room,
+    /// Lent to the guide for its own questions.
+    pub work: Workroom<G::Notes>,
     pub left: Seats,
     /// What draws the candidates.
     pub guide: G,
@@ -280,13 +281,13 @@ pub(crate) fn judge_candidate<G: Guide>(
     requires candidate { IsHere context.now candidate.now }
     requires look { LooksBelow context.now judge.old.look }
     ensures answer { MatchResult result
-        (λ _. quality_in judge.new.room.quality ≡ quality_here context.now candidate.now.lists)
+        (λ _. quality_in judge.new.work.room.quality ≡ quality_here context.now candidate.now.lists)
         (λ _. budget.new.used ≡ budget.new.limit) }
     ensures look { LooksBelow context.now judge.new.look }
     ensures guide { judge.new.guide ≡ judge.old.guide }
     ensures spends { Spends budget.old budget.new }
 {
-    let room = &mut judge.room;
+    let room = &mut judge.work.room;
     match &mut judge.look {
         Some(look) => look.fill_quality(candidate, room, budget),
         None => {

@@ -1,7 +1,6 @@
 // What is known of the candidates of a bracket and a shape by floors of both kinds.
 ghost use Rattle.dutch_floors.specs.Behind.{IsBasisFor};
 
-use crate::workroom::Workroom;
 use dutch_bracket::context::Context;
 use dutch_bracket::shaped::ShapedBracket;
 use dutch_floors::floor::Floors;
@@ -21,8 +20,6 @@ pub(crate) struct BothFloors<'a> {
     pub(crate) weights: Option<WeightFloors<'a>>,
     /// The few steps that come first did not suffice.
     pub(crate) is_long: bool,
-    /// Where the questions of a pass are worked out.
-    pub(crate) work: Workroom,
     ghost basis: { IsBasisFor shaped counts },
 }
 

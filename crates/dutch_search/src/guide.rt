@@ -11,13 +11,14 @@ ghost use Rattle.dutch_weights.specs.Prelude.{AreOf};
 use crate::bars::{Skipper, bars_of};
 use crate::both::{BothFloors, PAIRS_FOR_A_STEP, is_weighed};
 use crate::skipper::premise_with;
-use crate::workroom::LastBeginning;
+use crate::last_beginning::LastBeginning;
+use cheapest::LOOKS_IN_A_STEP;
 use dutch_bracket::greatest::Lister;
 use dutch_bracket::quality::Quality;
 use dutch_bracket::reached::ByNumber;
 use dutch_bracket::scope::Scope;
 use dutch_bracket::spending::spend;
-use dutch_choice::guide::Guide;
+use dutch_choice::guide::{Guide, Workroom};
 use dutch_choice::pass::Search;
 use dutch_choice::wish::Wish;
 use dutch_order::{BoundWithRoom, Budget, Shape, Step, Stopped};
@@ -71,6 +72,7 @@ impl<'a> BothFloors<'a> {
         &mut self,
         search: Search<'_, '_>,
         lister: &mut Lister<'_, ByNumber<'_>>,
+        work: &mut Workroom<LastBeginning>,
         budget: &mut Budget,
     ) -> Step<()>
         requires known { AreFor search.pass.now self.old }
@@ -91,7 +93,7 @@ impl<'a> BothFloors<'a> {
         ensures spends { Spends budget.old budget.new }
     {
         let skipper = Skipper::new(search, &self.counts, &self.weights);
-        let within = BoundWithRoom::new(&skipper, &mut self.work);
+        let within = BoundWithRoom::new(&skipper, work);
         lister
             .listing
             .put_next_within(&within, &mut lister.drawn, budget)
@@ -126,7 +128,12 @@ impl<'a> BothFloors<'a> {
     }
 
     /// Behind a turn, where steps are left: floors by weight are asked for more, if there are any.
-    fn go_on(&mut self, search: Search<'_, '_>, budget: &mut Budget) -> Result<(), Stopped>
+    fn go_on(
+        &mut self,
+        search: Search<'_, '_>,
+        last: &LastBeginning,
+        budget: &mut Budget,
+    ) -> Result<(), Stopped>
         ensures stopped { MatchResult result (λ _. Unit {0}) (λ _. budget.new.used ≡ budget.new.limit) }
         ensures context { self.new.shaped.context.now ≡ self.old.shaped.context.now }
         ensures shape { self.new.shaped.shape ≡ self.old.shaped.shape }
@@ -141,7 +148,7 @@ impl<'a> BothFloors<'a> {
         let bars = bars_of(search, &self.weights);
         match &mut self.weights {
             Some(weights) => {
-                let LastBeginning { scope, pairs } = &self.work.last;
+                let LastBeginning { scope, pairs } = last;
                 weights.tell_more(&FloorRequest { scope, pairs }, &bars, budget)
             }
             None => Ok(()),
@@ -150,6 +157,8 @@ impl<'a> BothFloors<'a> {
 }
 
 impl<'a> Guide for BothFloors<'a> {
+    type Notes = LastBeginning;
+
     ghost use Rattle.std.specs.Prelude.{◌≡◌};
     ghost use Rattle.std.specs.Option.{ForSome};
     ghost use Rattle.dutch_floors.specs.Behind.{IsBasis};
@@ -163,17 +172,18 @@ impl<'a> Guide for BothFloors<'a> {
         &mut self,
         search: Search<'_, '_>,
         lister: &mut Lister<'_, ByNumber<'_>>,
+        work: &mut Workroom<LastBeginning>,
         budget: &mut Budget,
     ) -> Result<bool, Stopped> {
         let shape = search.pass.shaped.shape;
         for _ in 0..MOST_TURNS {
             let mut turn = self.turn(shape, budget);
-            let step = self.draw_once(search, lister, &mut turn);
+            let step = self.draw_once(search, lister, work, &mut turn);
             self.count(shape, &turn, budget);
             match step {
                 Step::Found(()) => return Ok(true),
                 Step::End => return Ok(false),
-                Step::Undecided => self.go_on(search, budget)?,
+                Step::Undecided => self.go_on(search, &work.notes, budget)?,
             }
         }
         // (no limit of steps is so high)
@@ -197,7 +207,7 @@ impl<'a> Guide for BothFloors<'a> {
         // (weights are large: those of before go first)
         self.weights = None;
         if is_weighed(context, next) {
-            spend((count * count) as u64 / 3, budget)?;
+            spend((count * count) as u64 / LOOKS_IN_A_STEP, budget)?;
             // (where memory is refused or a weight does not fit, no floors are found)
             if let Ok(Some(weights)) = WeightFloors::weighed(context, shape, next) {
                 return self.weigh_by(weights, wish, budget);

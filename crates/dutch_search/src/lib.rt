@@ -11,8 +11,8 @@ mod aiming;
 mod bars;
 mod both;
 mod guide;
+mod last_beginning;
 mod skipper;
 mod with_floors;
-mod workroom;
 
 pub use with_floors::WithFloors;

@@ -16,11 +16,12 @@ ghost use Rattle.dutch_search.specs.Skips.{HasNoBetterNext, IsBehindAim, IsBehin
 ghost use Rattle.dutch_search.specs.Skips.{context_of};
 
 use crate::bars::Skipper;
-use crate::workroom::Workroom;
+use crate::last_beginning::LastBeginning;
 use dual::Wide;
 use dutch_bracket::context::Context;
 use dutch_bracket::quality::{Quality, Room};
 use dutch_choice::barred::is_barred;
+use dutch_choice::guide::Workroom;
 use dutch_choice::pass::is_idle;
 use dutch_choice::wish::Wish;
 use dutch_floors::premise::Premise;
@@ -227,7 +228,7 @@ impl<'a, 'k> Skipper<'a, 'k> {
 }
 
 impl<'a, 'k> Bound for Skipper<'a, 'k> {
-    type Room = Workroom;
+    type Room = Workroom<LastBeginning>;
 
     ghost use Rattle.dutch_bracket.specs.Prelude.{frame_here, numbers_meet, number_may_be_left};
     ghost use Rattle.dutch_choice.specs.Prelude.{is_unwanted_to};
@@ -244,12 +245,12 @@ impl<'a, 'k> Bound for Skipper<'a, 'k> {
     ghost is_unwanted = { λ s. is_unwanted_to s.search };
 
     #[tactic(auto, using(dutch_choice::proofs::AimLemmas::unwished_is_unwanted, dutch_choice::proofs::AimLemmas::idle_is_unwanted, dutch_choice::proofs::AimLemmas::idle_if_fit_is_unwanted), unfolding(dutch_bracket::specs::Brackets::candidates_of))]
-    fn cannot_win(&self, prefix: &Prefix<'_>, work: &mut Workroom) -> bool {
+    fn cannot_win(&self, prefix: &Prefix<'_>, work: &mut Workroom<LastBeginning>) -> bool {
         if is_barred(self.search.pass, prefix) {
             return true;
         }
         if self.weights.is_some() {
-            work.last.note(prefix);
+            work.notes.note(prefix);
         }
         // then all others are of interest
         if self.search.pass.aim.is_none() && self.search.kept.is_none() {
@@ -265,7 +266,7 @@ impl<'a, 'k> Bound for Skipper<'a, 'k> {
         &self,
         prefix: &Prefix<'_>,
         exchange: &Exchange<'_>,
-        _work: &mut Workroom,
+        _work: &mut Workroom<LastBeginning>,
     ) -> bool {
         if self.search.pass.aim.is_none() && self.search.kept.is_none() {
             return false;

@@ -6,13 +6,12 @@ ghost use Rattle.dutch_floors.specs.Behind.{IsBasisFor};
 
 use crate::both::BothFloors;
 use crate::skipper::premise_with;
-use crate::workroom::Workroom;
 use dutch_bracket::eligible::at_most;
 use dutch_bracket::fault::PairFault;
-use dutch_bracket::quality::Room;
 use dutch_bracket::reached::Seats;
 use dutch_bracket::shaped::ShapedBracket;
 use dutch_choice::finder::Finder;
+use dutch_choice::guide::Workroom;
 use dutch_choice::pass::{Best, Pass};
 use dutch_choice::passes::best_in_time;
 use dutch_choice::remembered::{Judge, look_below};
@@ -59,14 +58,13 @@ impl Finder for WithFloors {
         };
         let mut judge = Judge {
             look,
-            room: Room::default(),
+            work: Workroom::default(),
             left: Seats::new(),
             guide: BothFloors {
                 shaped: *shaped,
                 counts,
                 weights: None,
                 is_long: false,
-                work: Workroom::default(),
             },
         };
         match best_in_time(&mut pass, &mut judge, budget) {

@@ -13,7 +13,7 @@ ghost use Rattle.dutch_shape.specs.ShapeCosts.{IsShapeFloor, cost_of, joined, ve
 
 use crate::matched::{can_be_chosen, matched_shape};
 use crate::players::Players;
-use cheapest::{Fault, Found, cheapest};
+use cheapest::{Fault, Found, LOOKS_IN_A_STEP, cheapest};
 use dual::{Pool, Table, Wide};
 use dutch_bracket::spending::spend;
 use dutch_order::{Budget, Shape, Stopped, numbered_from};
@@ -120,8 +120,8 @@ fn found(players: &Players<'_>, budget: &mut Budget) -> Result<Option<Found>, St
 {
     let mut left = budget.limit - budget.used;
     let count = players.count() as u64;
-    // A twenty-fourth of their cube has to be left; some take more.
-    if MOST_PLAYERS < count || left < count * count * count / 24 {
+    // As many as an eighth of their cube has looks have to be left; some take more.
+    if MOST_PLAYERS < count || left < count * count * count / (8 * LOOKS_IN_A_STEP) {
         return Ok(None);
     }
     let found = cheapest(players.alloc, players, &mut left);
@@ -149,7 +149,7 @@ pub(crate) fn told_by_cost(players: &Players<'_>, budget: &mut Budget) -> Result
         return Ok(nothing);
     };
     let count = players.count() as u64;
-    spend(count * count / 3, budget)?;
+    spend(count * count / LOOKS_IN_A_STEP, budget)?;
     let Ok(Some(floor)) = confirmed(players, &found.certificate) else {
         return Ok(nothing);
     };

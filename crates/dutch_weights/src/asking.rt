@@ -13,7 +13,7 @@ use crate::scoped::Scoped;
 use crate::trail::Stuck;
 use crate::unpaired_graph::{LeftOverCost, UnpairedGraph, is_in};
 use crate::weight_floor::{Bar, WeightFloors};
-use cheapest::{Fault, Found, cheapest};
+use cheapest::{Fault, Found, LOOKS_IN_A_STEP, cheapest};
 use dual::{Table, Wide};
 use dutch_bracket::scope::Scope;
 use dutch_bracket::seated::Pair;
@@ -119,11 +119,11 @@ fn nth_resident(mdps: usize, count: usize, pairs: &[Pair], place: usize) -> Opti
     None
 }
 
-/// How many steps have to be left for a matching of so many players to be looked for: a twenty-fourth of their cube.
-/// Some take more.
+/// How many steps have to be left for a matching of so many players to be looked for: as many as an eighth of their
+/// cube has looks. Some take more.
 fn steps_for(players: usize) -> u64 {
     let players = players as u64;
-    players.saturating_mul(players).saturating_mul(players) / 24
+    players.saturating_mul(players).saturating_mul(players) / (8 * LOOKS_IN_A_STEP)
 }
 
 impl<'a> WeightFloors<'a> {
@@ -193,7 +193,7 @@ impl<'a> WeightFloors<'a> {
         let Some(proposal) = proposal? else {
             return Ok(None);
         };
-        spend((count * count) as u64 / 3, budget)?;
+        spend((count * count) as u64 / LOOKS_IN_A_STEP, budget)?;
         match self.put(&proposal.table, request.scope, order) {
             Ok(true) => Ok(Some(proposal.matched)),
             _ => Ok(None),

@@ -2,5 +2,5 @@
 use Rattle.std.proofs.Common.{◌≤◌}
 use Rattle.cheapest.proofs.forest.Forest.scan_all.Given as goal
 
-abbrev pub invariant-loop : goal.invariant-loop
-invariant-loop l = l.left ≤ l.fn.left
+abbrev pub invariant-loop-u : goal.invariant-loop-u
+invariant-loop-u l = l.left ≤ l.fn.left

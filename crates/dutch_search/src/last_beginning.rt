@@ -1,6 +1,5 @@
-// Where the questions of a pass are worked out, and where its walk was asked about last.
+// Where the walk of a pass was asked about last.
 use arrayvec::ArrayVec;
-use dutch_bracket::quality::Room;
 use dutch_bracket::scope::Scope;
 use dutch_bracket::seated::Pair;
 use dutch_order::{LIMIT, Prefix};
@@ -12,13 +11,6 @@ pub(crate) struct LastBeginning {
     pub(crate) scope: Scope,
     /// Its pairs by number.
     pub(crate) pairs: ArrayVec<Pair, LIMIT>,
-}
-
-/// Room for the questions of a pass, and the beginning that was asked about last.
-#[derive(Default, Drop)]
-pub(crate) struct Workroom {
-    pub(crate) room: Room,
-    pub(crate) last: LastBeginning,
 }
 
 /// Adds the pairs of two lists of numbers, place by place. (There is room for all pairs of a bracket.)
