@@ -98,23 +98,23 @@ impl Forest {
 
     /// Makes the places of all nodes: no vertex is paired or reached, and all labels are 0.
     pub(crate) fn make_places(&mut self) -> Result<(), AllocError> {
-        let count = usize::from(self.nodes);
-        self.labels.grow(count)?;
-        self.partner.grow(count)?;
-        self.base.grow(count)?;
-        self.outer.grow(count)?;
-        self.parent.grow(count)?;
-        self.next.grow(count)?;
-        self.reached.grow(count)?;
-        self.nearest.grow(count)?;
-        self.due.grow(count)?;
-        self.noted.grow(count)?;
-        self.marks.grow(count)?;
-        self.scanned.grow(count)?;
-        self.left_to_others.grow(count)?;
-        self.counts.grow(count)?;
-        self.live.grow(count)?;
-        self.on_way.grow(count)
+        let (vertices, nodes) = (usize::from(self.size), usize::from(self.nodes));
+        self.outer.grow(vertices)?;
+        self.partner.grow(vertices)?;
+        self.nearest.grow(vertices)?;
+        self.due.grow(vertices)?;
+        self.noted.grow(vertices)?;
+        self.scanned.grow(vertices)?;
+        self.left_to_others.grow(vertices)?;
+        self.labels.grow(nodes)?;
+        self.base.grow(nodes)?;
+        self.parent.grow(nodes)?;
+        self.next.grow(nodes)?;
+        self.reached.grow(nodes)?;
+        self.marks.grow(nodes)?;
+        self.counts.grow(nodes)?;
+        self.live.grow(nodes)?;
+        self.on_way.grow(nodes)
     }
 
     /// The outermost node that a vertex is in.

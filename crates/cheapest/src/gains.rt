@@ -15,6 +15,8 @@ use std::alloc::Global;
 pub(crate) struct Gains {
     size: u16,
     gains: Places<Wide>,
+    // which pairs gain something
+    joined: Places<bool>,
     /// Twice what it costs to leave each vertex over.
     pub(crate) left: Places<Wide>,
 }
@@ -63,6 +65,7 @@ impl Gains {
         Gains {
             size,
             gains: Places::new(alloc, Wide::zero()),
+            joined: Places::new(alloc, false),
             left: Places::new(alloc, Wide::zero()),
         }
     }
@@ -75,6 +78,7 @@ impl Gains {
         let count = usize::from(costs.size());
         self.left.grow(count)?;
         self.gains.grow(count * count)?;
+        self.joined.grow(count * count)?;
         self.weigh_left_over(costs)?;
         for a in 0..costs.size() {
             self.weigh(costs, a, left)?;
@@ -94,6 +98,11 @@ impl Gains {
         } else {
             Wide::zero()
         }
+    }
+
+    /// Whether a pair gains something.
+    pub(crate) fn joins(&self, a: u16, b: u16) -> bool {
+        a < self.size && b < self.size && self.joined.at(self.place(a, b))
     }
 
     fn weigh_left_over<C: Costs>(&mut self, costs: &C) -> Result<(), Fault>
@@ -130,6 +139,8 @@ impl Gains {
         let (place, turned) = (self.place(a, b), self.place(b, a));
         self.gains.put(place, gain);
         self.gains.put(turned, gain);
+        self.joined.put(place, !gain.is_zero());
+        self.joined.put(turned, !gain.is_zero());
         Ok(())
     }
 }

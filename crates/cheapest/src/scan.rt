@@ -19,7 +19,7 @@ impl Forest {
 
     /// Whether two vertices gain something as a pair, and are in no common blossom.
     fn can_be_joined(&self, a: u16, b: u16) -> bool {
-        self.outer_of(a) != self.outer_of(b) && !self.gains.at(a, b).is_zero()
+        self.gains.joins(a, b) && self.outer_of(a) != self.outer_of(b)
     }
 
     /// Whether the vertex that was nearest to a vertex is in a common blossom with it by now.

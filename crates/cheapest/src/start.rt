@@ -57,7 +57,7 @@ impl Forest {
         let mut nearest = None;
         for vertex in 0..self.size {
             take_step(left)?;
-            if !self.gains.at(v, vertex).is_zero() {
+            if self.gains.joins(v, vertex) {
                 let slack = self.slack(v, vertex)?;
                 nearest = Some(self.nearer(nearest, Neighbour { vertex, slack }));
             }

@@ -68,7 +68,7 @@ impl Trail {
     /// How many steps a walk still makes before it is told more, that has made so many: the more, the dearer the last
     /// answer was.
     pub(crate) fn patience(&self, players: usize, made: u64) -> u64 {
-        let steps = (self.steps / 16).max(4 * players as u64);
+        let steps = (self.steps / 16).max(players as u64);
         self.told_at.saturating_add(steps).saturating_sub(made)
     }
 
