@@ -75,10 +75,12 @@ fn best_near<'a, G: Guide>(
 {
     lister.listing.restart(pass.shaped.shape);
     let mut kept = None;
-    while judge
-        .guide
-        .draw(Search { pass, kept: &kept }, lister, &mut judge.work, budget)?
-    {
+    while judge.guide.draw(
+        Search { pass, kept: &kept },
+        lister,
+        &mut judge.work,
+        budget,
+    )? {
         consider(pass, &lister.drawn, &mut kept, judge, budget)?;
     }
     Ok(kept)

@@ -10,8 +10,8 @@ ghost use Rattle.dutch_weights.specs.Prelude.{AreOf};
 
 use crate::bars::{Skipper, bars_of};
 use crate::both::{BothFloors, PAIRS_FOR_A_STEP, is_weighed};
-use crate::skipper::premise_with;
 use crate::last_beginning::LastBeginning;
+use crate::skipper::premise_with;
 use cheapest::LOOKS_IN_A_STEP;
 use dutch_bracket::greatest::Lister;
 use dutch_bracket::quality::Quality;
