@@ -1,11 +1,10 @@
 -- What an aim and the kept candidate tell of candidates: the choice among those that are near an aim is the choice of all, and a candidate
 -- of no interest changes nothing.
-use Rattle.std.proofs.Common.{◌≡◌, Bool, true, false, not, ◌&&◌, ◌||◌, List, [], ◌∷◌, ◌++◌, filter, Option, Some, None, Result, Ok, Err, refl, sym, ap, ◌∙◌, arith}
+use Rattle.std.proofs.Common.{◌≡◌, Bool, true, false, not, ◌&&◌, ◌||◌, List, [], ◌∷◌, ◌++◌, filter, Option, Some, None, IfSome, refl, sym, ap, ◌∙◌, arith}
 use Rattle.std.specs.List.{list_any, AllByRecursion}
 use Rattle.std.specs.Option.{MatchOption}
 use Rattle.std.proofs.lemmas.Bool.{true≢false, not-true, not-false, or_right}
-use Rattle.dutch_order.specs.Prelude.{MatchFound, Passes, Arrangement}
-use Rattle.dutch_sequence.specs.declared.steps.Stopped.{Stopped}
+use Rattle.dutch_order.specs.Prelude.{Passes, Arrangement}
 use Rattle.dutch_sequence.proofs.Lists.{filter-all}
 use Rattle.dutch_order.specs.declared.bracket.Shape.{Shape}
 use Rattle.dutch_choice.specs.declared.pass.Best.{Best}
@@ -107,12 +106,11 @@ module _ (context : Context) where
         ap (best (is_better_here context)) (sym (open_ones shape))
         ∙ an_aim_serves aim (is_open context wish) (candidates_here context shape) c found
 
-    pub pass_ends : (aim : Option Quality) (shape : Shape) (found : Result (Option Best) Stopped) (stopped : Type 0)
-        → MatchFound found (IsBest context (best_near context wish aim shape)) (best_near context wish aim shape ≡ None) stopped
-        → MatchFound found (IsBest context (best_wished context wish shape)) (Unit {0}) stopped
-    pass_ends aim shape (Ok (Some b)) stopped h = (a_pass_serves aim shape b.candidate.lists h.0, h.1)
-    pass_ends aim shape (Ok None) stopped h = tt
-    pass_ends aim shape (Err stop) stopped h = h
+    pub pass_ends : (aim : Option Quality) (shape : Shape) (found : Option Best)
+        → MatchOption found (best_near context wish aim shape ≡ None) (IsBest context (best_near context wish aim shape))
+        → IfSome found (IsBest context (best_wished context wish shape))
+    pass_ends aim shape (Some b) h = (a_pass_serves aim shape b.candidate.lists h.0, h.1)
+    pass_ends aim shape None h = tt
 
     -- without an aim a pass finds the best
     pub without_aim : (shape : Shape) → best_near context wish None shape ≡ best_wished context wish shape

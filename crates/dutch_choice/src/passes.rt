@@ -1,9 +1,10 @@
 // The choice among the candidates of a shape (C.04.3 B.8): the first of them that none is better than, by passes over a
 // listing that keep the best candidate so far. What draws the candidates is a guide, which may pass over some: passes
 // are made in few steps first, then with what pairs weigh, then with what those of the next bracket weigh too (C.7).
-ghost use Rattle.std.specs.Prelude.{◌≡◌, None, IfSome};
+ghost use Rattle.std.specs.Prelude.{◌≡◌, None, IfSome, true};
+ghost use Rattle.std.specs.Option.{MatchOption};
 ghost use Rattle.std.specs.Result.{MatchResult};
-ghost use Rattle.dutch_order.specs.Prelude.{MatchFound, Spends};
+ghost use Rattle.dutch_order.specs.Prelude.{Spends};
 ghost use Rattle.dutch_choice.specs.Kept.{IsBest, IsKept};
 ghost use Rattle.dutch_choice.specs.Passes.{IsChosenNext, IsEnd, IsHere, ListsFor, LooksFor, SeeksTheSame, near_of};
 ghost use Rattle.dutch_choice.specs.Passes.{wished_of};
@@ -24,16 +25,16 @@ use std::mem::take;
 fn consider<G: Guide>(
     pass: &Pass<'_>,
     candidate: &Candidate,
-    kept: &mut Option<Best>,
     judge: &mut Judge<'_, G>,
     budget: &mut Budget,
 ) -> Result<(), Stopped>
     requires candidate { IsHere pass.now.shaped.context.now candidate.now }
-    requires kept { IsKept pass.now.shaped.context.now kept.old }
+    requires kept { IsKept pass.now.shaped.context.now judge.old.kept }
     requires look { LooksFor pass.now judge.old.look }
-    ensures answer { MatchResult result (λ _. IsChosenNext pass.now kept.old kept.new candidate.now.lists)
+    ensures answer { MatchResult result
+        (λ _. IsChosenNext pass.now judge.old.kept judge.new.kept candidate.now.lists)
         (λ _. budget.new.used ≡ budget.new.limit) }
-    ensures kept { IsKept pass.now.shaped.context.now kept.new }
+    ensures kept { IsKept pass.now.shaped.context.now judge.new.kept }
     ensures look { LooksFor pass.now judge.new.look }
     ensures guide { judge.new.guide ≡ judge.old.guide }
     ensures spends { Spends budget.old budget.new }
@@ -42,88 +43,92 @@ fn consider<G: Guide>(
         return Ok(());
     }
     judge_candidate(pass.shaped.context, candidate, judge, budget)?;
-    if is_idle(&judge.work.room.quality, &pass.aim, kept) {
+    if is_idle(&judge.work.room.quality, &pass.aim, &judge.kept) {
         return Ok(());
     }
     if can_be_chosen(pass.shaped.context, candidate, &mut judge.left, budget)? {
         let quality = take(&mut judge.work.room.quality);
         let candidate = candidate.copied();
-        *kept = Some(Best { candidate, quality });
+        judge.kept = Some(Best { candidate, quality });
     }
     Ok(())
 }
 
-/// Of the candidates that a pass seeks, and that can be chosen, the first that none is better than; none if there is no
-/// such candidate.
+/// Keeps of the candidates that a pass seeks, and that can be chosen, the first that none is better than; none if there
+/// is no such candidate.
 fn best_near<'a, G: Guide>(
     pass: &'a Pass<'a>,
     lister: &mut Lister<'_, ByNumber<'_>>,
     judge: &mut Judge<'_, G>,
     budget: &mut Budget,
-) -> Result<Option<Best>, Stopped>
+) -> Result<(), Stopped>
     requires lists { ListsFor pass.now lister.old.listing }
     requires look { LooksFor pass.now judge.old.look }
     requires guide { G.knows judge.old.guide pass.now.shaped.context.now pass.now.shaped.shape }
-    ensures answer { MatchFound result
-        (IsBest pass.now.shaped.context.now (near_of pass.now))
-        (near_of pass.now ≡ None)
-        (budget.new.used ≡ budget.new.limit) }
+    ensures answer { MatchResult result
+        (λ _. MatchOption judge.new.kept (near_of pass.now ≡ None)
+        (IsBest pass.now.shaped.context.now (near_of pass.now)))
+        (λ _. budget.new.used ≡ budget.new.limit) }
     ensures lists { ListsFor pass.now lister.new.listing }
     ensures look { LooksFor pass.now judge.new.look }
     ensures guide { G.knows judge.new.guide pass.now.shaped.context.now pass.now.shaped.shape }
     ensures spends { Spends budget.old budget.new }
 {
     lister.listing.restart(pass.shaped.shape);
-    let mut kept = None;
+    judge.kept = None;
     while judge.guide.draw(
-        Search { pass, kept: &kept },
+        Search {
+            pass,
+            kept: &judge.kept,
+        },
         lister,
         &mut judge.work,
         budget,
     )? {
-        consider(pass, &lister.drawn, &mut kept, judge, budget)?;
+        consider(pass, &lister.drawn, judge, budget)?;
     }
-    Ok(kept)
+    Ok(())
 }
 
-/// What a pass with an aim chooses: the best of all. The answer is none if there is no aim, or if the pass finds none
+/// Keeps what a pass with an aim chooses: the best of all. It keeps none if there is no aim, or if the pass finds none
 /// that can be chosen, which says nothing of the choice.
 fn best_by_aim<'a, G: Guide>(
     pass: &'a Pass<'a>,
     lister: &mut Lister<'_, ByNumber<'_>>,
     judge: &mut Judge<'_, G>,
     budget: &mut Budget,
-) -> Result<Option<Best>, Stopped>
+) -> Result<(), Stopped>
     requires lists { ListsFor pass.now lister.old.listing }
     requires look { LooksFor pass.now judge.old.look }
     requires guide { G.knows judge.old.guide pass.now.shaped.context.now pass.now.shaped.shape }
-    ensures answer { MatchFound result
-        (IsBest pass.now.shaped.context.now (wished_of pass.now))
-        (Unit {0})
-        (budget.new.used ≡ budget.new.limit) }
+    ensures answer { MatchResult result
+        (λ _. IfSome judge.new.kept (IsBest pass.now.shaped.context.now (wished_of pass.now)))
+        (λ _. budget.new.used ≡ budget.new.limit) }
     ensures lists { ListsFor pass.now lister.new.listing }
     ensures look { LooksFor pass.now judge.new.look }
     ensures guide { G.knows judge.new.guide pass.now.shaped.context.now pass.now.shaped.shape }
     ensures spends { Spends budget.old budget.new }
 {
     if pass.aim.is_none() {
-        return Ok(None);
+        judge.kept = None;
+        return Ok(());
     }
     best_near(pass, lister, judge, budget)
 }
 
-/// What a pass with an aim ends with, or if that is nothing, the same pass without an aim. (It stands apart from its
-/// caller, since a lister is large.)
+/// Keeps what a pass with an aim ends with, or if that is nothing, the same pass without an aim. (It stands apart from
+/// its caller, since a lister is large.)
 #[inline(never)]
 #[tactic(auto, using(crate::proofs::AimLemmas::without_aim))]
 fn best_in_passes<G: Guide>(
     pass: &mut Pass<'_>,
     judge: &mut Judge<'_, G>,
     budget: &mut Budget,
-) -> Result<Option<Best>, Stopped>
+) -> Result<(), Stopped>
     requires look { LooksFor pass.old judge.old.look }
     requires guide { G.knows judge.old.guide pass.old.shaped.context.now pass.old.shaped.shape }
-    ensures answer { MatchResult result (IsEnd pass.old) (λ _. budget.new.used ≡ budget.new.limit) }
+    ensures answer { MatchResult result (λ _. IsEnd pass.old judge.new.kept)
+        (λ _. budget.new.used ≡ budget.new.limit) }
     ensures look { LooksFor pass.old judge.new.look }
     ensures guide { G.knows judge.new.guide pass.old.shaped.context.now pass.old.shaped.shape }
     ensures pass { SeeksTheSame pass.old pass.new }
@@ -131,9 +136,9 @@ fn best_in_passes<G: Guide>(
 {
     let rule = pass.shaped.context.rule();
     let mut lister = Lister::new(pass.shaped.context.frame(), &rule);
-    let by_aim = best_by_aim(pass, &mut lister, judge, budget)?;
-    if by_aim.is_some() {
-        return Ok(by_aim);
+    best_by_aim(pass, &mut lister, judge, budget)?;
+    if judge.kept.is_some() {
+        return Ok(());
     }
     pass.aim = None;
     best_near(pass, &mut lister, judge, budget)
@@ -157,16 +162,16 @@ fn tells_next<G: Guide>(pass: &Pass<'_>, guide: &G) -> bool {
     }
 }
 
-/// What the passes end with in so many steps; none if these do not suffice.
+/// Keeps what the passes end with in so many steps. A no says that these do not suffice.
 fn best_within<G: Guide>(
     pass: &mut Pass<'_>,
     judge: &mut Judge<'_, G>,
     steps: u64,
     budget: &mut Budget,
-) -> Result<Option<Option<Best>>, Stopped>
+) -> Result<bool, Stopped>
     requires look { LooksFor pass.old judge.old.look }
     requires guide { G.knows judge.old.guide pass.old.shaped.context.now pass.old.shaped.shape }
-    ensures answer { MatchResult result (λ found. IfSome found (IsEnd pass.old))
+    ensures answer { MatchResult result (λ ended. ended ≡ true → IsEnd pass.old judge.new.kept)
         (λ _. budget.new.used ≡ budget.new.limit) }
     ensures look { LooksFor pass.old judge.new.look }
     ensures guide { G.knows judge.new.guide pass.old.shaped.context.now pass.old.shaped.shape }
@@ -174,26 +179,26 @@ fn best_within<G: Guide>(
     ensures spends { Spends budget.old budget.new }
 {
     let mut few = at_most(steps, budget);
-    let found = best_in_passes(pass, judge, &mut few);
+    let ended = best_in_passes(pass, judge, &mut few);
     budget.used = few.used;
-    match found {
-        Ok(found) => Ok(Some(found)),
+    match ended {
+        Ok(()) => Ok(true),
         Err(Stopped) if budget.used == budget.limit => Err(Stopped),
-        Err(Stopped) => Ok(None),
+        Err(Stopped) => Ok(false),
     }
 }
 
-/// What the passes end with by weights that are found now; none if the steps for it do not suffice. Where C.7 counts
-/// and they do not tell of the next bracket, these are a quarter of the steps that are left, else all.
+/// Keeps what the passes end with by weights that are found now. A no says that the steps for it do not suffice. Where
+/// C.7 counts and they do not tell of the next bracket, these are a quarter of the steps that are left, else all.
 fn best_by_weight<G: Guide>(
     pass: &mut Pass<'_>,
     judge: &mut Judge<'_, G>,
     next: bool,
     budget: &mut Budget,
-) -> Result<Option<Option<Best>>, Stopped>
+) -> Result<bool, Stopped>
     requires look { LooksFor pass.old judge.old.look }
     requires guide { G.knows judge.old.guide pass.old.shaped.context.now pass.old.shaped.shape }
-    ensures answer { MatchResult result (λ found. IfSome found (IsEnd pass.old))
+    ensures answer { MatchResult result (λ ended. ended ≡ true → IsEnd pass.old judge.new.kept)
         (λ _. budget.new.used ≡ budget.new.limit) }
     ensures look { LooksFor pass.old judge.new.look }
     ensures guide { G.knows judge.new.guide pass.old.shaped.context.now pass.old.shaped.shape }
@@ -210,30 +215,29 @@ fn best_by_weight<G: Guide>(
     best_within(pass, judge, steps, budget)
 }
 
-/// What the passes end with: first in few steps, since most brackets want no more; then with floors by weight; and
-/// where C.7 counts and a quarter of the steps does not suffice, with weights that tell of the next bracket too.
+/// Keeps what the passes end with: first in few steps, since most brackets want no more; then with floors by weight;
+/// and where C.7 counts and a quarter of the steps does not suffice, with weights that tell of the next bracket too.
 pub fn best_in_time<G: Guide>(
     pass: &mut Pass<'_>,
     judge: &mut Judge<'_, G>,
     budget: &mut Budget,
-) -> Result<Option<Best>, Stopped>
+) -> Result<(), Stopped>
     requires look { LooksFor pass.old judge.old.look }
     requires guide { G.knows judge.old.guide pass.old.shaped.context.now pass.old.shaped.shape }
-    ensures answer { MatchResult result (IsEnd pass.old) (λ _. budget.new.used ≡ budget.new.limit) }
+    ensures answer { MatchResult result (λ _. IsEnd pass.old judge.new.kept)
+        (λ _. budget.new.used ≡ budget.new.limit) }
     ensures spends { Spends budget.old budget.new }
 {
     let few = few_steps(pass.shaped.context.len());
-    if let Some(found) = best_within(pass, judge, few, budget)? {
-        return Ok(found);
+    if best_within(pass, judge, few, budget)? {
+        return Ok(());
     }
-    if let Some(found) = best_by_weight(pass, judge, false, budget)? {
-        return Ok(found);
+    if best_by_weight(pass, judge, false, budget)? {
+        return Ok(());
     }
-    match best_by_weight(pass, judge, true, budget)? {
-        Some(found) => Ok(found),
-        None => {
-            budget.used = budget.limit;
-            Err(Stopped)
-        }
+    if best_by_weight(pass, judge, true, budget)? {
+        return Ok(());
     }
+    budget.used = budget.limit;
+    Err(Stopped)
 }

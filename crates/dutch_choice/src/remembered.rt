@@ -17,6 +17,7 @@ ghost use Rattle.dutch_choice.specs.Passes.{IsHere};
 ghost use Rattle.dutch_order.specs.Prelude.{Spends};
 
 use crate::guide::{Guide, Workroom};
+use crate::pass::Best;
 use dutch_bracket::context::Context;
 use dutch_bracket::fault::PairFault;
 use dutch_bracket::quality::{NextValue, Quality, Room, fill_quality};
@@ -266,6 +267,8 @@ pub struct Judge<'a, G: Guide> {
     /// Lent to the guide for its own questions.
     pub work: Workroom<G::Notes>,
     pub left: Seats,
+    /// The best candidate so far, and in the end what is chosen. (It stays here from call to call, as it is large.)
+    pub kept: Option<Best>,
     /// What draws the candidates.
     pub guide: G,
 }
@@ -284,6 +287,7 @@ pub(crate) fn judge_candidate<G: Guide>(
         (λ _. quality_in judge.new.work.room.quality ≡ quality_here context.now candidate.now.lists)
         (λ _. budget.new.used ≡ budget.new.limit) }
     ensures look { LooksBelow context.now judge.new.look }
+    ensures kept { judge.new.kept ≡ judge.old.kept }
     ensures guide { judge.new.guide ≡ judge.old.guide }
     ensures spends { Spends budget.old budget.new }
 {

@@ -60,6 +60,7 @@ impl Finder for WithFloors {
             look,
             work: Workroom::default(),
             left: Seats::new(),
+            kept: None,
             guide: BothFloors {
                 shaped: *shaped,
                 counts,
@@ -68,8 +69,10 @@ impl Finder for WithFloors {
             },
         };
         match best_in_time(&mut pass, &mut judge, budget) {
-            Ok(Some(best)) => Ok(Step::Found(best)),
-            Ok(None) => Ok(Step::End),
+            Ok(()) => match judge.kept.take() {
+                Some(best) => Ok(Step::Found(best)),
+                None => Ok(Step::End),
+            },
             Err(Stopped) => Ok(Step::Undecided),
         }
     }

@@ -20,9 +20,9 @@ lists_stay pass old new frame rule lists = record {
   bracket = ap (λ (r : ByNumber). r.reached.now) rule ∙ lists.bracket;
 }
 
-pub loop-kept-init : goal.loop-kept-init
+pub loop-judge-init : goal.loop-judge-init
 unfolding candidates_of best_near best_yet
-loop-kept-init g c =
+loop-judge-init g c =
     let pass = c.args.pass.now in
     let before = c.args.lister.now.listing in
     let listed : candidates_here pass.shaped.context.now pass.shaped.shape ≡ c.restart.new.self.coming =
@@ -44,25 +44,25 @@ consider-requires-clause-candidate g c =
     let pass = c.args.pass.now in
     let found = rw c.if-branch.true at c.in_ok-draw.ensures.answer in
     let lists = c.draw.new.lister.drawn.lists in
-    let m = c.loop-kept.invariant.inside lists (left_was_there _ lists c.loop-kept.lister.listing.coming _ found.0 (inl refl)) in
+    let m = c.loop-judge.invariant.inside lists (left_was_there _ lists c.loop-judge.lister.listing.coming _ found.0 (inl refl)) in
     record {
       lists = (pass.shaped.shape, (legal_of pass.shaped.context.now.facts pass.shaped.context.now.reached pass.shaped.shape lists m).arranged);
-      down = found.1 ∙ ap (λ (frame : Frame). down frame lists) c.loop-kept.invariant.lists.frame;
+      down = found.1 ∙ ap (λ (frame : Frame). down frame lists) c.loop-judge.invariant.lists.frame;
     }
 
-pub loop-kept-preserved : goal.loop-kept-preserved
-loop-kept-preserved g c =
+pub loop-judge-preserved : goal.loop-judge-preserved
+loop-judge-preserved g c =
     let pass = c.args.pass.now in
     let found = rw c.if-branch.true at c.in_ok-draw.ensures.answer in
-    let before = c.loop-kept.lister.listing.coming in
+    let before = c.loop-judge.lister.listing.coming in
     record {
-      chosen = c.loop-kept.invariant.chosen ∙ skipped_same pass.shaped.context.now pass.wish (aim_in pass.aim) c.loop-kept.kept before _ c.loop-kept.invariant.kept found.0
+      chosen = c.loop-judge.invariant.chosen ∙ skipped_same pass.shaped.context.now pass.wish (aim_in pass.aim) c.loop-judge.judge.kept before _ c.loop-judge.invariant.kept found.0
           ∙ sym (c.in_ok-consider.ensures.answer c.draw.new.lister.listing.coming);
       kept = c.consider.ensures.kept;
-      inside = λ lists m. c.loop-kept.invariant.inside lists (left_was_there _ lists before _ found.0 (inr m));
-      lists = lists_stay pass c.loop-kept.lister.listing c.draw.new.lister.listing c.in_ok-draw.ensures.frame c.in_ok-draw.ensures.rule c.loop-kept.invariant.lists;
-      shape = c.in_ok-draw.ensures.shape ∙ c.loop-kept.invariant.shape;
-      spends = spends-more c.loop-kept.invariant.spends (spends-more c.in_ok-draw.ensures.spends c.consider.ensures.spends);
+      inside = λ lists m. c.loop-judge.invariant.inside lists (left_was_there _ lists before _ found.0 (inr m));
+      lists = lists_stay pass c.loop-judge.lister.listing c.draw.new.lister.listing c.in_ok-draw.ensures.frame c.in_ok-draw.ensures.rule c.loop-judge.invariant.lists;
+      shape = c.in_ok-draw.ensures.shape ∙ c.loop-judge.invariant.shape;
+      spends = spends-more c.loop-judge.invariant.spends (spends-more c.in_ok-draw.ensures.spends c.consider.ensures.spends);
       look = c.consider.ensures.look;
       guide = subst (λ guide. g.G.Guide.knows guide pass.shaped.context.now pass.shaped.shape) (sym c.consider.ensures.guide) c.in_ok-draw.ensures.known;
     }
@@ -71,6 +71,6 @@ pub returns-clause-answer : goal.returns-clause-answer
 returns-clause-answer g c =
     let pass = c.args.pass.now in
     let ended = rw c.if-branch.false at c.in_ok-draw.ensures.answer in
-    handed pass.shaped.context.now c.loop-kept.kept (near_of pass) c.loop-kept.invariant.kept
-    (best_last pass.shaped.context.now pass.wish (aim_in pass.aim) c.loop-kept.kept (near_of pass)
-    (c.loop-kept.invariant.chosen ∙ skipped_same pass.shaped.context.now pass.wish (aim_in pass.aim) c.loop-kept.kept c.loop-kept.lister.listing.coming [] c.loop-kept.invariant.kept ended))
+    handed pass.shaped.context.now c.loop-judge.judge.kept (near_of pass) c.loop-judge.invariant.kept
+    (best_last pass.shaped.context.now pass.wish (aim_in pass.aim) c.loop-judge.judge.kept (near_of pass)
+    (c.loop-judge.invariant.chosen ∙ skipped_same pass.shaped.context.now pass.wish (aim_in pass.aim) c.loop-judge.judge.kept c.loop-judge.lister.listing.coming [] c.loop-judge.invariant.kept ended))
