@@ -46,3 +46,4 @@ pub mod ShapeLaws
 pub mod Mates
 pub mod MateLists
 pub mod ShapeNumbers
+pub mod SeatPlaces

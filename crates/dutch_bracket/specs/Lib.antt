@@ -27,6 +27,4 @@ pub mod Floors
 pub mod Ghosts
 pub mod GhostLaws
 pub mod BitTables
-pub mod Weights
-pub mod Scopes
 pub mod Prelude

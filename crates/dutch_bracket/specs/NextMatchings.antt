@@ -1,6 +1,7 @@
 -- What the next bracket can be (C.04.3 C.7) as a matching: the pairs of a candidate, and those of an arrangement of the next bracket that has
 -- its value, by one numbering of the bracket and the next lower scoregroup.
 use Rattle.std.specs.Prelude.{◌≡◌, ℕ, ◌+◌, ◌-◌, ◌*◌, ◌<◌, ◌≤◌, ◌⊎◌, true, List, ◌++◌, All, length, map, slice_index}
+use Rattle.std.specs.List.{zip}
 use Rattle.dual.specs.Prelude.{MakeUp}
 use Rattle.dutch_order.specs.declared.bracket.Shape.{Shape}
 use Rattle.dutch_order.specs.Prelude.{Arrangement, down, numbers_from, IsIn}
@@ -10,7 +11,6 @@ use Rattle.dutch_bracket.specs.QualityIn.{next_in}
 use Rattle.dutch_bracket.specs.Reached.{Reached, frame_of}
 use Rattle.dutch_bracket.specs.Brackets.{first_group, quality_of, scoregroups}
 use Rattle.dutch_bracket.specs.Seated.{difference, difference_down, score_at, seat_of}
-use Rattle.dutch_bracket.specs.Weights.{number_pairs}
 
 -- the next lower scoregroup [A.3]
 abbrev pub group_below : Facts → List ℕ → List ℕ
@@ -35,6 +35,10 @@ value_below facts reached lower pairs alone = record {
   psd = highest_first (map (λ pair. difference facts (seat_below facts reached lower pair.0, seat_below facts reached lower pair.1)) pairs
       ++ map (λ a. difference_down facts (score_below facts lower) (seat_below facts reached lower a)) alone);
 }
+
+-- the pairs of an arrangement by number: S1 with S2, then S1R with S2R [with JoinsBelow]
+abbrev pub number_pairs : Arrangement → List (ℕ × ℕ)
+number_pairs a = zip a.s1 a.s2 ++ zip a.s1r a.s2r
 
 -- a downfloater of an arrangement, or one of the next lower scoregroup
 abbrev pub GoesBelow : Facts → Reached → Arrangement → ℕ → Type 0

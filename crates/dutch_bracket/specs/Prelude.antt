@@ -8,7 +8,7 @@ pub use Rattle.dutch_bracket.specs.QualityIn.{next_in, quality_in, with_next}
 unfoldable pub use Rattle.dutch_bracket.specs.QualityIn.{with_others}
 pub use Rattle.dutch_bracket.specs.NextBracket.{AreLeft, HasNoBetter, IsFlat, IsNext, IsNoBetter, IsOfBracket, is_lower, legal_by, legal_in, lowest_list, lowest_list_upto, next_bracket, no_value, psd_in, value_in, value_of_shape}
 unfoldable pub use Rattle.dutch_bracket.specs.NextBracket.{quality, value_of}
-pub use Rattle.dutch_bracket.specs.NextMatchings.{GoesBelow, IsSmall, JoinsBelow, MayPairBelow, count_below, group_below, players_below, score_below, seat_below, value_below}
+pub use Rattle.dutch_bracket.specs.NextMatchings.{GoesBelow, IsSmall, JoinsBelow, MayPairBelow, count_below, group_below, number_pairs, players_below, score_below, seat_below, value_below}
 pub use Rattle.dutch_bracket.specs.Items.{AreSameIn, DifferFirstIn, IsInFrontIn, article, by_rank, counted, only_if, players_counted, seats_of, those_in_pairs, those_of_both, those_with_topscorers, who_counts}
 unfoldable pub use Rattle.dutch_bracket.specs.Items.{those_in}
 pub use Rattle.dutch_bracket.specs.Completion.{IsStopped, MatchAnswer, SpendsAtMost, Takes, Tells, Way, all_pairings, can_complete, is_complete, left_out, most, most_of_bye, paired, picks, with_first, with_member}
@@ -39,6 +39,3 @@ pub use Rattle.dutch_bracket.specs.Ghosts.{IsNotBetter, ghost_floor, ghost_frame
 unfoldable pub use Rattle.dutch_bracket.specs.Ghosts.{ghost_may_be_left, ghosts_meet}
 pub use Rattle.dutch_bracket.specs.GhostLaws.{ghosts_meet_sym}
 unfoldable pub use Rattle.dutch_bracket.specs.BitTables.{has_bit}
-pub use Rattle.dutch_bracket.specs.Weights.{FloatBases, HasDigits, HasFloatBases, IsAmong, IsNextScale, IsOn, IsOnNext, IsScale, IsScaleFor, IsWithin, NextScale, Scale, Weighing, alone_by, count_had, counts, digits, digits_below, digits_with, float_digits, in_base, number_pairs, numbers, player_digits, weighing, weight_below, weight_of, weight_of_one_down, weight_of_pair, written}
-unfoldable pub use Rattle.dutch_bracket.specs.Weights.{weight_above, weight_with}
-pub use Rattle.dutch_bracket.specs.Scopes.{Covers, CoversBy, Scope, is_joined, may_stay, moved_down_standing, resident_standing, standing_of}

@@ -27,7 +27,6 @@ pub mod meetings;
 pub mod psd_floor;
 pub mod quality;
 pub mod reached;
-pub mod scope;
 pub mod seated;
 pub mod seats;
 pub mod shaped;

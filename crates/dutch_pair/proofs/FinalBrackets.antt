@@ -11,7 +11,7 @@ use Rattle.dutch_choice.proofs.BestLemmas.{choice_of_shape}
 use Rattle.dutch_bracket.proofs.MateLists.{IsNumber, NumberMates, mates_candidate, mates_fit, mates_shape}
 use Rattle.dutch_bracket.proofs.Mates.{AreMates}
 use Rattle.dutch_bracket.proofs.ShapeLaws.{none_has_one}
-use Rattle.dutch_pair.proofs.SeatPlaces.{get_in, get_place, place_get, place_of}
+use Rattle.dutch_bracket.proofs.SeatPlaces.{get_in, get_place, place_get, place_of}
 
 get_front : (xs ys : List ℕ) (i : ℕ) → i < length xs → IsIn (get_or (xs ++ ys) i 0) xs
 get_front [] ys i lt = absurd (omega (arith, lt))

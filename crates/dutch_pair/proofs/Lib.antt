@@ -14,7 +14,6 @@ pub mod NextRound
 pub mod OneBye
 pub mod BoardOrder
 pub mod LowerLemmas
-pub mod SeatPlaces
 pub mod FinalBrackets
 pub mod OnePairMore
 pub mod Downfloaters

@@ -16,13 +16,13 @@ use cheapest::LOOKS_IN_A_STEP;
 use dutch_bracket::greatest::Lister;
 use dutch_bracket::quality::Quality;
 use dutch_bracket::reached::ByNumber;
-use dutch_bracket::scope::Scope;
 use dutch_bracket::spending::spend;
 use dutch_choice::guide::{Guide, Workroom};
 use dutch_choice::pass::Search;
 use dutch_choice::wish::Wish;
 use dutch_order::{BoundWithRoom, Budget, Shape, Step, Stopped};
 use dutch_weights::asking::FloorRequest;
+use dutch_weights::scope::Scope;
 use dutch_weights::weight_floor::WeightFloors;
 
 /// A walk is told more so many times at most.

@@ -1,8 +1,8 @@
 // Where the walk of a pass was asked about last.
 use arrayvec::ArrayVec;
-use dutch_bracket::scope::Scope;
 use dutch_bracket::seated::Pair;
 use dutch_order::{LIMIT, Prefix};
+use dutch_weights::scope::Scope;
 
 /// The beginning that a walk asked about last. Behind it the walk is stuck if its steps end.
 #[derive(Default, Drop)]

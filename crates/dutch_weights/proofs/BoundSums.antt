@@ -5,9 +5,9 @@ use Rattle.std.proofs.lemmas.List.{drop_all, drop-drop}
 use Rattle.std.proofs.lemmas.List.Sums.{sum_by-cons}
 use Rattle.dutch_bracket.specs.Prelude.{one_if}
 use Rattle.dutch_weights.specs.Prelude.{is_first, passed_over}
-use Rattle.dutch_weights.proofs.CandidateMatchings.{zip_none}
+use Rattle.dutch_weighing.proofs.CandidateMatchings.{zip_none}
 use Rattle.dutch_weights.proofs.WeightsBehind.{at_met, at_none}
-use Rattle.dutch_weights.proofs.WrittenNumbers.{at_most}
+use Rattle.dutch_weighing.proofs.WrittenNumbers.{at_most}
 
 shorter : (m n i : ℕ) → min m n ≤ i → n < m → n ≤ i
 shorter m n i done less = omega (arith, done, less)

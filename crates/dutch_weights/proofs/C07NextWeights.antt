@@ -17,14 +17,15 @@ use Rattle.dutch_sequence.proofs.Orders.{member_has}
 use Rattle.dutch_player.specs.Prelude.{Facts}
 use Rattle.dutch_bracket.specs.declared.reached.BracketKind.TheVariants.{Ordinary}
 use Rattle.dutch_weights.specs.declared.scoped.Reach.TheVariants.{Next}
-use Rattle.dutch_bracket.specs.Prelude.{fixed_lists, IsNext, GoesBelow, JoinsBelow, MayPairBelow, count_below, group_below, score_below, seat_below, NextValue, Quality, IsAbove, Reached, frame_of, is_number, numbers_meet, candidates_of, quality_of, Covers, Scope, is_joined, may_stay, difference, difference_down, score_at, IsNextScale, IsScaleFor, NextScale, Scale, alone_by, number_pairs, weight_below, weight_of, weighing}
-use Rattle.dutch_weights.specs.Prelude.{Order, Scoped, are_inside, both_go, bracket_costs, costs_in, goes_down, is_inside, is_number_below, may_meet_below, next_costs, pair_weight_below, side_in, added_in, alone_weight, met_weight, own_weight}
+use Rattle.dutch_bracket.specs.Prelude.{fixed_lists, IsNext, GoesBelow, JoinsBelow, MayPairBelow, count_below, group_below, score_below, seat_below, NextValue, Quality, IsAbove, Reached, frame_of, is_number, numbers_meet, candidates_of, quality_of, difference, difference_down, score_at, number_pairs}
+use Rattle.dutch_weights.specs.Prelude.{Covers, Scope, is_joined, may_stay, Order, Scoped, are_inside, both_go, bracket_costs, costs_in, goes_down, is_inside, is_number_below, may_meet_below, next_costs, pair_weight_below, side_in, added_in}
+use Rattle.dutch_weighing.specs.Prelude.{IsNextScale, IsScaleFor, NextScale, Scale, alone_by, weight_below, weight_of, weighing, alone_weight, met_weight, own_weight}
 use Rattle.dutch_bracket.proofs.AllLemmas.{all_join}
 use Rattle.dutch_bracket.proofs.ArrangementParts.{numbers_above}
 use Rattle.dutch_bracket.proofs.PairedOut.{one_by_one, sums_same}
-use Rattle.dutch_weights.proofs.C06ToC19Weights.{IsSmallBelow, all_so, below_more, below_none, below_ordered, candidate_weighs}
-use Rattle.dutch_weights.proofs.C07NextMatchings.{joins_below, next_is_small}
-use Rattle.dutch_weights.proofs.CandidateMatchings.{each, left_over, part_of}
+use Rattle.dutch_weighing.proofs.C06ToC19Weights.{IsSmallBelow, all_so, below_more, below_none, below_ordered, candidate_weighs}
+use Rattle.dutch_weighing.proofs.C07NextMatchings.{joins_below, next_is_small}
+use Rattle.dutch_weighing.proofs.CandidateMatchings.{each, left_over, part_of}
 use Rattle.dutch_weights.proofs.D02Orders.{pairs_cost}
 use Rattle.dutch_bracket.proofs.DownLemmas.{down_numbers}
 use Rattle.dutch_bracket.proofs.FixedListsLemmas.{has_fixed_pairs}

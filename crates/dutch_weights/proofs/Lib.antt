@@ -3,14 +3,6 @@ pub mod BoundSums
 pub mod OrderLemmas
 pub mod D02Orders
 pub mod WeightsBehind
-pub mod CandidateMatchings
 pub mod ScopedMatchings
 pub mod C04Lower
-pub mod WrittenNumbers
-pub mod C06ToC19Weights
-pub mod C07NextMatchings
 pub mod C07NextWeights
-pub mod PairPlaces
-pub mod ScaleLemmas
-pub mod WeighingLemmas
-pub mod SeatPlaces

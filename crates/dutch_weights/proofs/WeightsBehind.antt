@@ -13,15 +13,16 @@ use Rattle.dutch_order.specs.Prelude.{Arrangement, Fits, Frame, arrangements, do
 use Rattle.dutch_sequence.proofs.Members.{length-numbers}
 use Rattle.dutch_sequence.proofs.Orders.{IsIn-append, IsIn-map}
 use Rattle.dutch_player.specs.Prelude.{Facts}
-use Rattle.dutch_bracket.specs.Prelude.{fixed_lists, Quality, is_better, next_in, IsOf, Reached, frame_of, candidates_of, completable, downfloaters, is_penultimate, quality_of, Covers, Scope, HasDigits, IsOn, IsScale, IsScaleFor, Scale, number_pairs, numbers, weighing, weight_above, weight_of}
-use Rattle.dutch_weights.specs.Prelude.{Order, IsFloorBy, MeasuresNext, Scoped, all_numbers, costs_in, kept_by, without_left, AreFloors, HasNoBetterOn, IsChoosable, IsScaled, IsWeightFloor, ScopedFloor, Weighed, added_in, bound_behind, is_first, left_known, passed_over, weighing_of, weight_in}
+use Rattle.dutch_bracket.specs.Prelude.{fixed_lists, Quality, is_better, next_in, IsOf, Reached, frame_of, candidates_of, completable, downfloaters, is_penultimate, quality_of, number_pairs}
+use Rattle.dutch_weights.specs.Prelude.{Covers, Scope, Order, IsFloorBy, MeasuresNext, Scoped, all_numbers, costs_in, kept_by, without_left, AreFloors, IsChoosable, IsScaled, IsWeightFloor, ScopedFloor, Weighed, added_in, bound_behind, is_first, left_known, passed_over, weighing_of, weight_in}
+use Rattle.dutch_weighing.specs.Prelude.{HasDigits, IsOn, IsScale, IsScaleFor, Scale, numbers, weighing, weight_above, weight_of, HasNoBetterOn}
 use Rattle.dutch_weights.specs.declared.scoped.Reach.{Reach}
 use Rattle.dutch_weights.specs.declared.scoped.Reach.TheVariants.{Bracket, Lower, Next}
 use Rattle.dutch_bracket.proofs.ArrangementParts.{lists_of, numbers_above, numbers_rise, numbers_within, parts_of, subset_members, subset_whole}
-use Rattle.dutch_weights.proofs.C06ToC19Weights.{IsSmallBelow, candidate_ordered, candidate_weighs}
+use Rattle.dutch_weighing.proofs.C06ToC19Weights.{IsSmallBelow, candidate_ordered, candidate_weighs}
 use Rattle.dutch_weights.proofs.C04Lower.{weighs_more_below}
 use Rattle.dutch_weights.proofs.C07NextWeights.{small_below, weighs_more_next}
-use Rattle.dutch_weights.proofs.CandidateMatchings.{digits_are_small, each, left_over, part_of, total_sum}
+use Rattle.dutch_weighing.proofs.CandidateMatchings.{digits_are_small, each, left_over, part_of, total_sum}
 use Rattle.dutch_weights.proofs.D02Orders.{pairs_cost}
 use Rattle.dutch_bracket.proofs.FixedListsLemmas.{has_fixed_pairs}
 use Rattle.dutch_bracket.proofs.LegalPairs.{legal_of}
@@ -29,7 +30,7 @@ use Rattle.dutch_bracket.proofs.PsdParts.{down_parts}
 use Rattle.dutch_weights.proofs.ScopedMatchings.{is_matching_in, s1_moved_down}
 use Rattle.dutch_bracket.proofs.QualityOrder.{total as in_order}
 use Rattle.dutch_bracket.proofs.Totals.{total, total_append}
-use Rattle.dutch_weights.proofs.WrittenNumbers.{behind_psd, not_lighter}
+use Rattle.dutch_weighing.proofs.WrittenNumbers.{behind_psd, not_lighter}
 
 -- ---- those whom an S1 passes over are those whom it leaves
 

@@ -1,5 +1,5 @@
--- What the contracts of dutch_weights name: weights of pairs, scopes of matchings, and floors by certificates.
-pub mod WeightTables
+-- What the contracts of dutch_weights name: scopes of matchings, and floors by certificates.
+pub mod Scopes
 pub mod WeightFloors
 pub mod Orders
 pub mod UnpairedGraphs

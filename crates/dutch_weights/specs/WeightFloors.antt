@@ -8,7 +8,9 @@ use Rattle.dutch_order.specs.declared.prefix.Filling.{Filling}
 use Rattle.dutch_order.specs.declared.prefix.Filling.TheVariants.{S1, S2, S2r}
 use Rattle.dutch_order.specs.Prelude.{Arrangement, Fits, IsExchange, ExchangeClass, IsIn, Begins, Beginning}
 use Rattle.dutch_player.specs.Prelude.{Facts}
-use Rattle.dutch_bracket.specs.Prelude.{Context, fixed_lists, NextValue, Quality, next_in, IsOf, Reached, frame_of, can_be_chosen, candidates_of, quality_of, Covers, Scope, HasNoBetter, IsOn, IsScale, IsScaleFor, NextScale, Scale, Weighing, number_pairs, weight_above, weight_of}
+use Rattle.dutch_bracket.specs.Prelude.{Context, fixed_lists, NextValue, Quality, IsOf, Reached, frame_of, can_be_chosen, candidates_of, quality_of, number_pairs}
+use Rattle.dutch_weights.specs.Scopes.{Covers, Scope}
+use Rattle.dutch_weighing.specs.Prelude.{HasNoBetterOn, IsOn, IsScale, IsScaleFor, IsScaleHere, Scale, Weighing, weight_above, weight_of}
 use Rattle.dutch_weights.specs.Orders.{Order, added}
 use Rattle.dutch_weights.specs.declared.weight_floor.Bar.{Bar}
 
@@ -86,10 +88,6 @@ IsMostAdded order b most = (a : Arrangement) → Begins b a → added_in order a
 abbrev pub IsScaled : Weighed → Type 0
 IsScaled w = IsScaleFor w.facts w.reached w.lower w.shape w.scale
 
--- a scale is one for a bracket's candidates of a shape
-abbrev pub IsScaleHere : Context → Shape → Scale → Type 0
-IsScaleHere context shape scale = IsScaleFor context.facts context.reached context.lower shape scale
-
 -- floors of a bracket and a shape, on a scale for it
 pub record AreFloors (weighed : Weighed) (floors : List ScopedFloor) : Type 0 where
   pub scaled : IsScaled weighed
@@ -124,19 +122,9 @@ abbrev pub WeighsNoLess : Context → Shape → Option Weighed → ℕ → Quali
 WeighsNoLess context shape weights least quality =
     ForSome weights (λ w. IsScaleHere context shape w.scale × (least ≤ weight_of w.scale quality))
 
--- C.7: a candidate has no better value of the next bracket than another one; where the scale measures it, its weight tells
-abbrev pub HasNoBetterOn : Option NextScale → Quality → NextValue → Type 0
-HasNoBetterOn None quality other = HasNoBetter quality other
-HasNoBetterOn (Some next) quality other = Unit {0}
-
 -- if there are floors by weight, a candidate has no better value of the next bracket than another one, or the weights tell of it
 abbrev pub KnowsNext : Option Weighed → Quality → NextValue → Type 0
 KnowsNext weights quality other = ForSome weights (λ w. HasNoBetterOn w.scale.next quality other)
-
--- two qualities have one value of the next bracket, or the scale measures it [C.7; own]
-abbrev pub HasSameNextOn : Option NextScale → Quality → Quality → Type 0
-HasSameNextOn None q r = next_in q ≡ next_in r
-HasSameNextOn (Some next) q r = Unit {0}
 
 -- a bar is that of a quality, on a scale with a digit for each of its differences: what it weighs, and what all with a higher PSD weigh at
 -- least [C.6 to C.19; own]

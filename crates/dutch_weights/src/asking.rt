@@ -9,13 +9,13 @@ ghost use Rattle.dutch_order.specs.Prelude.{Spends};
 
 use crate::certificate_table::table_of;
 use crate::order::{Halves, Order};
+use crate::scope::Scope;
 use crate::scoped::Scoped;
 use crate::trail::Stuck;
 use crate::unpaired_graph::{LeftOverCost, UnpairedGraph, is_in};
 use crate::weight_floor::{Bar, WeightFloors};
 use cheapest::{Fault, Found, LOOKS_IN_A_STEP, cheapest};
 use dual::{Table, Wide};
-use dutch_bracket::scope::Scope;
 use dutch_bracket::seated::Pair;
 use dutch_bracket::spending::spend;
 use dutch_order::{Budget, Stopped};

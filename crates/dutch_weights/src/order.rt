@@ -8,9 +8,9 @@ ghost use Rattle.dutch_order.specs.Prelude.{is_member, IsExchange, IsIn};
 ghost use Rattle.dutch_sequence.specs.declared.numbers.TheConstants.{LIMIT};
 ghost use Rattle.dutch_weights.specs.Orders.{AreAdded, added, kept, lesser, more_of, short_of, with_lesser};
 
-use crate::scale::bits_for;
 use dual::Wide;
 use dutch_order::{Exchange, LIMIT};
+use dutch_weighing::bits_for;
 use std::alloc::{AllocError, Global};
 use std::marker::Model;
 

@@ -11,21 +11,20 @@ ghost use Rattle.std.specs.Prelude.{if◌then◌else◌, nat_lt};
 ghost use Rattle.dutch_sequence.specs.declared.numbers.TheConstants.{LIMIT};
 ghost use Rattle.dutch_weights.specs.declared.scoped.Reach.TheVariants.{Next};
 ghost use Rattle.dutch_weights.specs.ScopedCosts.{IsReached, MeasuresNext, TellsSides, any_seat, are_inside, both_go};
-ghost use Rattle.dutch_weights.specs.ScopedCosts.{IsFloorBy, all_numbers, bracket_costs, kept_by};
-ghost use Rattle.dutch_weights.specs.ScopedCosts.{is_number_below, may_meet_below, pair_weight_below};
-ghost use Rattle.dutch_bracket.specs.Prelude.{is_joined, may_stay};
-ghost use Rattle.dutch_weights.specs.ScopedCosts.{going_weight, goes_down, is_inside, lower_costs, may_pair_out};
-ghost use Rattle.dutch_weights.specs.ScopedCosts.{side_in, size_by};
-ghost use Rattle.dutch_weights.specs.WeightTables.{IsNumber};
+ghost use Rattle.dutch_weights.specs.ScopedCosts.{IsFloorBy, all_numbers, bracket_costs, kept_by, is_number_below};
+ghost use Rattle.dutch_weights.specs.ScopedCosts.{may_meet_below, pair_weight_below, going_weight, goes_down};
+ghost use Rattle.dutch_weights.specs.ScopedCosts.{is_inside, lower_costs, may_pair_out, side_in, size_by};
+ghost use Rattle.dutch_weights.specs.Scopes.{is_joined, may_stay};
+ghost use Rattle.dutch_weighing.specs.Prelude.{IsNumber};
 
 use crate::order::Order;
-use crate::weighing::Weighing;
+use crate::scope::{Scope, Standing};
 use arrayvec::ArrayVec;
 use dual::{Floor, Pool, Rule, Table, Wide};
 use dutch_bracket::context::Context;
-use dutch_bracket::scope::{Scope, Standing};
 use dutch_bracket::seats::{BySeat, seats};
 use dutch_order::{LIMIT, Numbers, numbered_from};
+use dutch_weighing::Weighing;
 use std::alloc::AllocError;
 use std::marker::Model;
 

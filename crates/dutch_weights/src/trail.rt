@@ -4,7 +4,7 @@
 // common.
 ghost use Rattle.std.specs.Prelude.{◌≤◌, length};
 
-use dutch_bracket::scope::Scope;
+use crate::scope::Scope;
 use dutch_bracket::seated::Pair;
 use std::alloc::{AllocError, Global};
 

@@ -8,22 +8,21 @@ ghost use Rattle.dual.specs.Prelude.{extra_in, extra_left_in};
 ghost use Rattle.dutch_sequence.specs.declared.numbers.TheConstants.{LIMIT};
 ghost use Rattle.dutch_weights.specs.declared.scoped.Reach.TheVariants.{Lower};
 ghost use Rattle.dutch_weights.specs.ScopedCosts.{MeasuresNext};
-ghost use Rattle.dutch_bracket.specs.Prelude.{one_if, quality_in, is_penultimate, IsScaleFor};
-ghost use Rattle.dutch_weights.specs.WeightFloors.{IsMostAdded, IsScaleHere, IsWeightFloor, Weighed, bound_behind};
-ghost use Rattle.dutch_weights.specs.WeightFloors.{is_first};
+ghost use Rattle.dutch_bracket.specs.Prelude.{one_if, quality_in, is_penultimate};
+ghost use Rattle.dutch_weighing.specs.Prelude.{IsScaleFor, IsScaleHere};
+ghost use Rattle.dutch_weights.specs.WeightFloors.{IsMostAdded, IsWeightFloor, Weighed, bound_behind, is_first};
 ghost use Rattle.dutch_weights.specs.WeightFloors.{left_known, passed_over, weighed_for};
 
 use crate::order::{Halves, Order};
-use crate::scale::{DigitPlan, Scale};
+use crate::scope::Scope;
 use crate::scoped::{Reach, Scoped};
 use crate::trail::Trail;
-use crate::weighing::Weighing;
 use dual::{Floor, Table, Wide};
 use dutch_bracket::context::Context;
 use dutch_bracket::fixed_lists::fixed_lists;
 use dutch_bracket::quality::Quality;
-use dutch_bracket::scope::Scope;
 use dutch_order::{Exchange, Filling, LIMIT, Prefix, Shape};
+use dutch_weighing::{DigitPlan, Scale, Weighing};
 use std::alloc::AllocError;
 use std::marker::Model;
 

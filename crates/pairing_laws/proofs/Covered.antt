@@ -1,5 +1,5 @@
 -- Pairs that cover players are a matching, and costs beside others are added.
-use Rattle.std.proofs.Common.{◌≡◌, ℕ, ◌+◌, ◌*◌, Bool, true, List, All, sum_by, arith}
+use Rattle.std.proofs.Common.{◌≡◌, ℕ, ◌+◌, ◌*◌, true, List, All, sum_by, arith}
 use Rattle.std.proofs.Math.Nat.{mul-add}
 use Rattle.dual.specs.Prelude.{Costs, IsMatching, Covers, cost, beside_times}
 use Rattle.dual.proofs.Covering.{covers_whole, covers_meet}

@@ -1,7 +1,8 @@
 -- What the laws of weights name (C.04.3 C.6 to C.19).
 use Rattle.dual.specs.Prelude.{Costs}
-use Rattle.dutch_bracket.specs.Prelude.{Context, Scope, Scale}
-use Rattle.dutch_weights.specs.Prelude.{Order, costs_in}
+use Rattle.dutch_bracket.specs.Prelude.{Context}
+use Rattle.dutch_weights.specs.Prelude.{Scope, Order, costs_in}
+use Rattle.dutch_weighing.specs.Prelude.{Scale}
 use Rattle.dutch_weights.specs.declared.scoped.Reach.{Reach}
 
 -- `costs_in` for a bracket above its lower seats, on a scale [own]

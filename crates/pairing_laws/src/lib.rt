@@ -1,5 +1,5 @@
 //! Laws of the pairing of a round (C.04.3), and of what it is made of: what holds of the definitions of `dual`,
-//! `dutch_order`, `dutch_bracket`, `dutch_weights` and `dutch_pair`, beyond what one call promises.
+//! `dutch_order`, `dutch_bracket`, `dutch_weighing`, `dutch_weights` and `dutch_pair`, beyond what one call promises.
 //!
 //! Each law is a function with an empty body, or with one call of another law, and its contract is the law. No crate of
 //! the program uses them, so nothing waits for their proofs. `calls` gives what the calls on a bracket ask for, to

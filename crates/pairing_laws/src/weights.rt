@@ -4,20 +4,21 @@
 ghost use Rattle.std.specs.Prelude.{◌≡◌, ℕ, true, ◌+◌, ◌≤◌, is_some, sum_by, nat_lt};
 ghost use Rattle.dutch_order.specs.Prelude.{Arrangement, down, IsIn, numbers_from, NoneTwice, Begins, Beginning};
 ghost use Rattle.dutch_order.specs.declared.bracket.Shape.{Shape};
-ghost use Rattle.dutch_bracket.specs.Prelude.{Context, fixed_lists, FitsHere, candidates_here, frame_here, quality_here};
-ghost use Rattle.dutch_bracket.specs.Prelude.{IsSmall, JoinsBelow, MayPairBelow, count_below, players_below};
-ghost use Rattle.dutch_bracket.specs.Prelude.{seat_below, Quality, is_better, next_in, IsAbove, Covers, Scope};
-ghost use Rattle.dutch_bracket.specs.Prelude.{seats_meet, HasDigits, IsOn, IsScale, IsScaleFor, Scale, alone_by};
-ghost use Rattle.dutch_bracket.specs.Prelude.{number_pairs, weighing, weight_below, weight_of};
+ghost use Rattle.dutch_bracket.specs.Prelude.{Context, fixed_lists, FitsHere, candidates_here, frame_here};
+ghost use Rattle.dutch_bracket.specs.Prelude.{quality_here, IsSmall, JoinsBelow, MayPairBelow, count_below};
+ghost use Rattle.dutch_bracket.specs.Prelude.{players_below, seat_below, Quality, is_better, next_in, IsAbove};
+ghost use Rattle.dutch_bracket.specs.Prelude.{seats_meet, number_pairs};
+ghost use Rattle.dutch_weights.specs.Prelude.{Covers, Scope, Order, added_in};
+ghost use Rattle.dutch_weighing.specs.Prelude.{HasDigits, IsOn, IsScale, IsScaleFor, Scale, alone_by, weighing};
+ghost use Rattle.dutch_weighing.specs.Prelude.{weight_below, weight_of, HasSameNextOn};
 ghost use Rattle.dutch_bracket.specs.declared.reached.BracketKind.TheVariants.{Ordinary};
-ghost use Rattle.dutch_weights.specs.Prelude.{HasSameNextOn, Order, added_in};
 ghost use Rattle.dutch_weights.specs.declared.scoped.Reach.TheVariants.{Next};
 ghost use Rattle.pairing_laws.specs.Costs.{costs_here};
 ghost use Rattle.dual.specs.Prelude.{FloorTable, IsFloor, extra_in, cost};
 
 /// C.6 to C.19: the weight of a candidate is the sum of what each of its pairs and each of its downfloaters weighs
 /// alone, and, where C.7 is measured, of what its value of the next bracket weighs.
-#[tactic(auto, using(dutch_weights::proofs::C06ToC19Weights::candidate_weighs))]
+#[tactic(auto, using(dutch_weighing::proofs::C06ToC19Weights::candidate_weighs))]
 pub fn a_weight_is_a_sum()
     ensures { (context : Context) (scale : Scale) (a : Arrangement) → weight_of scale (quality_here context a)
         ≡ cost (weighing context.facts context.reached scale) (number_pairs a) (down (frame_here context) a)
@@ -28,7 +29,7 @@ pub fn a_weight_is_a_sum()
 /// C.6 to C.19: of two qualities with one value of the next bracket, or on a scale that measures that (C.7), the better
 /// one is the one that weighs less, if the scale has a digit for each of their differences and a base above each of
 /// their digits.
-#[tactic(auto, using(dutch_weights::proofs::WrittenNumbers::lighter_is_better))]
+#[tactic(auto, using(dutch_weighing::proofs::WrittenNumbers::lighter_is_better))]
 pub fn the_lighter_is_better()
     ensures { (scale : Scale) → IsScale scale → (q r : Quality) → IsOn scale q → IsOn scale r → HasDigits scale q
         → HasDigits scale r
@@ -53,7 +54,7 @@ pub fn a_floor_for_the_next_group_bounds_the_weight()
 /// C.7: what the next bracket can be at best below a candidate of an ordinary bracket is the value of pairs by number:
 /// with the pairs of the candidate, and those who are in none, they are all numbers of the bracket and the next lower
 /// scoregroup.
-#[tactic(auto, using(dutch_weights::proofs::C07NextMatchings::joins_below))]
+#[tactic(auto, using(dutch_weighing::proofs::C07NextMatchings::joins_below))]
 pub fn the_next_value_is_that_of_a_matching()
     ensures { (context : Context) (shape : Shape) (a : Arrangement)
         → IsAbove context.facts context.reached context.lower → context.reached.kind ≡ Ordinary
@@ -70,7 +71,7 @@ pub fn the_next_value_is_small()
 {}
 
 /// C.1, C.3: where no lower player comes twice, two who may be a pair of the next bracket are two seats that meet.
-#[tactic(auto, using(dutch_weights::proofs::C07NextMatchings::seats_meet_below))]
+#[tactic(auto, using(dutch_weighing::proofs::C07NextMatchings::seats_meet_below))]
 pub fn pairs_of_the_next_bracket_meet()
     ensures { (context : Context) (a : Arrangement) → IsAbove context.facts context.reached context.lower
         → NoneTwice context.lower → (pair : ℕ × ℕ) → MayPairBelow context.facts context.reached context.lower a pair

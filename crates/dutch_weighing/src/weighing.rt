@@ -1,0 +1,471 @@
+// What each pair and each downfloater of a bracket weighs alone (C.04.3 C.6, C.8 to C.19), and what each number weighs
+// in the next bracket, where that is measured (C.7), worked out once for all certificates of the bracket.
+ghost use Rattle.std.specs.Prelude.{◌≡◌, ◌+◌, ◌*◌, ◌<◌, ◌≤◌, ◌^◌, true, false, [], ◌∷◌, IfOk, MatchOption, is_some};
+ghost use Rattle.std.specs.Prelude.{length};
+ghost use Rattle.std.specs.Option.{ForSome, SomeIff};
+ghost use Rattle.dutch_bracket.specs.declared.reached.BracketKind.TheVariants.{Ordinary};
+ghost use Rattle.dutch_bracket.specs.Prelude.{seated_so, no_value, numbers_meet, quality_with, seat_of, count_below};
+ghost use Rattle.dutch_weighing.specs.Weights.{weight_with};
+ghost use Rattle.dutch_weighing.specs.WeightTables.{HasAll, HasBelow, HasPairs, IsHeavy, IsNumber, IsNumberBelow};
+ghost use Rattle.dutch_weighing.specs.WeightTables.{TellsBelow, TellsDown, TellsEachBelow, TellsPairs, TellsPairsUpto};
+ghost use Rattle.dutch_weighing.specs.WeightTables.{alone_weight, next_weight_of, down_weight, met_weight, own_weight};
+ghost use Rattle.dutch_weighing.specs.WeightTables.{pair_of, pair_weight, place_in, place_of, weighed_on};
+ghost use Rattle.dutch_sequence.specs.declared.numbers.TheConstants.{LIMIT};
+
+use crate::scale::Scale;
+use dual::Wide;
+use dutch_bracket::context::Context;
+use dutch_bracket::quality::{Quality, Room, fill_seated};
+use dutch_bracket::seated::{Pair, Seated, difference_down};
+use dutch_order::Rule;
+use dutch_player::Field;
+use std::alloc::{AllocError, Global};
+use std::marker::Model;
+
+/// What two numbers weigh as a pair, and whether they may meet. (To look for a game of the two takes long, and each
+/// certificate asks for it many times.)
+#[derive(Clone, Copy)]
+pub(crate) struct PairWeight {
+    weight: Wide,
+    meets: bool,
+}
+
+/// The weights of the pairs and the downfloaters of a bracket.
+#[derive(Drop)]
+pub struct Weighing<'a> {
+    context: &'a Context<'a>,
+    scale: Scale,
+    // of each two numbers, row by row
+    pairs: Vec<PairWeight>,
+    // of each number
+    down: Vec<Wide>,
+    // of each number of the bracket and the next lower scoregroup, if C.7 is measured
+    next: Vec<NextWeight>,
+}
+
+/// What a number weighs that meets somebody in the next bracket, and what it weighs in no pair there (C.7).
+#[derive(Clone, Copy)]
+pub(crate) struct NextWeight {
+    met: Wide,
+    alone: Wide,
+}
+
+impl<'a> Model for Weighing<'a> {
+    ghost use Rattle.dutch_weighing.specs.WeightTables.{HasAll, HasPairs, TellsBelow, TellsDown, TellsPairs};
+    ghost use Rattle.dutch_weighing.specs.WeightTables.{weighed_on};
+    ghost use Rattle.dutch_weighing.specs.Weights.{Weighing};
+
+    ghost Value = { Weighing };
+
+    ghost view = { λ w. weighed_on w.context.now w.scale };
+
+    ghost invariant = { λ w.
+        (HasPairs (weighed_on w.context.now w.scale) w.pairs.items
+        × TellsPairs (weighed_on w.context.now w.scale) w.pairs.items)
+        × (HasAll (weighed_on w.context.now w.scale) w.down.items
+        × TellsDown (weighed_on w.context.now w.scale) w.down.items)
+        × TellsBelow (weighed_on w.context.now w.scale) w.next.items };
+}
+
+/// What the weights of a bracket are worked out by.
+#[derive(Drop)]
+struct Weigher<'a> {
+    context: &'a Context<'a>,
+    scale: &'a Scale,
+}
+
+impl<'a> Model for Weigher<'a> {
+    ghost use Rattle.dutch_weighing.specs.WeightTables.{weighed_on};
+    ghost use Rattle.dutch_weighing.specs.Weights.{Weighing};
+
+    ghost Value = { Weighing };
+
+    ghost view = { λ w. weighed_on w.context.now w.scale.now };
+}
+
+/// Where a table of so many players has two numbers.
+fn place_of(n: usize, x: u16, y: u16) -> usize
+    requires few { n ≤ LIMIT }
+    requires first { (0 < x) × (x ≤ n) }
+    requires second { (0 < y) × (y ≤ n) }
+    ensures value { result ≡ place_of n x y }
+    ensures within { result < n * n }
+{
+    usize::from(x - 1) * n + usize::from(y - 1)
+}
+
+/// Fills in two players who meet, by number.
+fn seat_pair(context: &Context<'_>, a: u16, b: u16, seated: &mut Seated)
+    ensures { let seats = context.now.reached.seats
+        in seated.new ≡ seated_so context.now.facts context.now.reached ((seat_of seats a, seat_of seats b) ∷ []) [] }
+{
+    let reached = context.reached();
+    seated.pairs.clear();
+    seated.pairs.push((reached.seat(a), reached.seat(b)));
+    seated.down.clear();
+    seated.lowest = context.lowest();
+}
+
+/// Fills in a downfloater, by number.
+fn seat_one_down(context: &Context<'_>, a: u16, seated: &mut Seated)
+    ensures { seated.new
+        ≡ seated_so context.now.facts context.now.reached [] (seat_of context.now.reached.seats a ∷ []) }
+{
+    seated.pairs.clear();
+    seated.down.clear();
+    seated.down.push(context.reached().seat(a));
+    seated.lowest = context.lowest();
+}
+
+/// What some pairs and downfloaters by seats weigh, whatever the next bracket is; none if it is 2^512 or more.
+fn weigh(field: &Field, scale: &Scale, seated: &Seated, quality: &mut Quality) -> Option<Wide>
+    ensures { let weight = weight_with scale.now 0 [] (quality_with field.now seated.now no_value) in SomeIff result
+        (weight < 2 ^ 512) weight }
+{
+    fill_seated(field, seated, quality);
+    scale.weigh_alone(quality)
+}
+
+impl Weigher<'_> {
+    /// What a pair weighs alone; none if it is 2^512 or more.
+    fn pair(&self, a: u16, b: u16, room: &mut Room) -> Option<Wide>
+        ensures { SomeIff result (pair_weight self.now a b < 2 ^ 512) (pair_weight self.now a b) }
+    {
+        seat_pair(self.context, a, b, &mut room.seated);
+        let field = self.context.field();
+        weigh(field, self.scale, &room.seated, &mut room.quality)
+    }
+
+    /// What a downfloater weighs alone; none if it is 2^512 or more.
+    fn one_down(&self, a: u16, room: &mut Room) -> Option<Wide>
+        ensures { SomeIff result (down_weight self.now a < 2 ^ 512) (down_weight self.now a) }
+    {
+        seat_one_down(self.context, a, &mut room.seated);
+        let field = self.context.field();
+        weigh(field, self.scale, &room.seated, &mut room.quality)
+    }
+
+    /// Whether two numbers may meet.
+    fn may_meet(&self, a: u16, b: u16) -> bool
+        ensures { result ≡ numbers_meet self.now.facts self.now.reached a b }
+    {
+        self.context.rule().may_meet(a, b)
+    }
+
+    /// Puts what a pair weighs into a table, and whether the two may meet; no if it weighs 2^512 or more.
+    fn put_pair(&self, pair: Pair, room: &mut Room, table: &mut [PairWeight]) -> bool
+        requires first { IsNumber self.now.reached pair.0 }
+        requires second { IsNumber self.now.reached pair.1 }
+        requires room { HasPairs self.now table.old }
+        requires told { TellsPairsUpto self.now table.old (place_in self.now pair.0 pair.1) }
+        ensures told { result ≡ true → TellsPairsUpto self.now table.new (place_in self.now pair.0 pair.1 + 1) }
+        ensures heavy { result ≡ false → IsHeavy self.now (2 ^ 512) }
+    {
+        let (a, b) = pair;
+        let meets = self.may_meet(a, b);
+        match self.pair(a, b, room) {
+            Some(weight) => {
+                table[place_of(self.context.len(), a, b)] = PairWeight { weight, meets };
+                true
+            }
+            None => false,
+        }
+    }
+
+    /// Puts what the pairs of a number weigh into a table.
+    fn put_row(&self, a: u16, room: &mut Room, table: &mut [PairWeight]) -> bool
+        requires number { IsNumber self.now.reached a }
+        requires room { HasPairs self.now table.old }
+        requires told { TellsPairsUpto self.now table.old (place_in self.now a 1) }
+        ensures told { result ≡ true → TellsPairsUpto self.now table.new (length self.now.reached.seats * a) }
+        ensures heavy { result ≡ false → IsHeavy self.now (2 ^ 512) }
+    {
+        for b in 0..self.context.len() {
+            if !self.put_pair((a, b as u16 + 1), room, table) {
+                return false;
+            }
+        }
+        true
+    }
+
+    /// Puts what all pairs weigh into a table.
+    fn put_pairs(&self, room: &mut Room, table: &mut [PairWeight]) -> bool
+        requires { HasPairs self.now table.old }
+        ensures told { result ≡ true → TellsPairs self.now table.new }
+        ensures heavy { result ≡ false → IsHeavy self.now (2 ^ 512) }
+    {
+        for a in 0..self.context.len() {
+            if !self.put_row(a as u16 + 1, room, table) {
+                return false;
+            }
+        }
+        true
+    }
+
+    /// Puts what all downfloaters weigh into a table.
+    fn put_down(&self, room: &mut Room, table: &mut [Wide]) -> bool
+        requires { HasAll self.now table.old }
+        ensures told { result ≡ true → TellsDown self.now table.new }
+        ensures heavy { result ≡ false → IsHeavy self.now (2 ^ 512) }
+    {
+        for a in 0..self.context.len() {
+            match self.one_down(a as u16 + 1, room) {
+                Some(weight) => table[a] = weight,
+                None => return false,
+            }
+        }
+        true
+    }
+}
+
+/// What weighs the numbers of the next bracket (C.7), by what each downfloater weighs.
+#[derive(Drop)]
+struct BelowWeigher<'a> {
+    weigher: &'a Weigher<'a>,
+    down: &'a [Wide],
+    ghost group: { length weigher.now.reached.seats
+        < count_below weigher.now.facts weigher.now.reached weigher.now.lower },
+    ghost room: { HasAll weigher.now down.now },
+    ghost told: { TellsDown weigher.now down.now },
+}
+
+impl BelowWeigher<'_> {
+    /// What a number weighs as a downfloater, if it is one of the bracket.
+    fn own(&self, a: u16) -> Wide
+        requires { IsNumberBelow self.now.weigher.now a }
+        ensures { result ≡ own_weight self.now.weigher.now a }
+    {
+        let weigher = self.weigher;
+        if usize::from(a) <= weigher.context.len() {
+            self.down[usize::from(a) - 1]
+        } else {
+            Wide::zero()
+        }
+    }
+
+    /// What a number weighs that meets one of the next lower scoregroup; none if it is 2^512 or more.
+    fn met(&self, a: u16) -> Option<Wide>
+        requires { IsNumberBelow self.now.weigher.now a }
+        ensures { SomeIff result (met_weight self.now.weigher.now a < 2 ^ 512) (met_weight self.now.weigher.now a) }
+    {
+        let weigher = self.weigher;
+        let context = weigher.context;
+        let score = context.field().score(context.seat_below(a));
+        let difference = score.saturating_sub(context.score_below());
+        let weight = weigher.scale.weigh_below(0, difference)?;
+        self.own(a).plus(weight)
+    }
+
+    /// What a number weighs that is in no pair of the next bracket; none if it is 2^512 or more.
+    fn alone(&self, a: u16) -> Option<Wide>
+        requires { IsNumberBelow self.now.weigher.now a }
+        ensures { SomeIff result (alone_weight self.now.weigher.now a < 2 ^ 512) (alone_weight self.now.weigher.now a) }
+    {
+        let weigher = self.weigher;
+        let context = weigher.context;
+        let difference = difference_down(
+            context.field(),
+            context.score_below(),
+            context.seat_below(a),
+        );
+        let weight = weigher.scale.weigh_below(1, difference)?;
+        self.own(a).plus(weight)
+    }
+
+    /// What a number weighs in the next bracket; none if that is 2^512 or more.
+    fn next_weight(&self, a: u16) -> Option<NextWeight>
+        requires { IsNumberBelow self.now.weigher.now a }
+        ensures { MatchOption result (IsHeavy self.now.weigher.now (2 ^ 512))
+            (λ weight. weight ≡ next_weight_of self.now.weigher.now a) }
+    {
+        let met = self.met(a)?;
+        let alone = self.alone(a)?;
+        Some(NextWeight { met, alone })
+    }
+
+    /// Puts what all numbers weigh in the next bracket into a table.
+    fn put_all(&self, table: &mut [NextWeight]) -> bool
+        requires { HasBelow self.now.weigher.now table.old }
+        ensures told { result ≡ true → TellsEachBelow self.now.weigher.now table.new }
+        ensures heavy { result ≡ false → IsHeavy self.now.weigher.now (2 ^ 512) }
+    {
+        let weigher = self.weigher;
+        for a in 0..weigher.context.len_below() {
+            match self.next_weight(a as u16 + 1) {
+                Some(weight) => table[a] = weight,
+                None => return false,
+            }
+        }
+        true
+    }
+}
+
+/// The weights of all pairs, row by row; none if one of them is 2^512 or more.
+fn weigh_pairs(
+    alloc: Global,
+    weigher: &Weigher<'_>,
+    room: &mut Room,
+) -> Result<Option<Vec<PairWeight>>, AllocError>
+    ensures { IfOk result (λ weighed. MatchOption weighed (IsHeavy weigher.now (2 ^ 512))
+        (λ table. HasPairs weigher.now table.items × TellsPairs weigher.now table.items)) }
+{
+    let count = weigher.context.len();
+    let nothing = PairWeight {
+        weight: Wide::zero(),
+        meets: false,
+    };
+    let mut table = vec![in alloc; nothing; count * count]?;
+    if weigher.put_pairs(room, &mut table) {
+        Ok(Some(table))
+    } else {
+        Ok(None)
+    }
+}
+
+/// The weights of all downfloaters; none if one of them is 2^512 or more.
+fn weigh_down(
+    alloc: Global,
+    weigher: &Weigher<'_>,
+    room: &mut Room,
+) -> Result<Option<Vec<Wide>>, AllocError>
+    ensures { IfOk result (λ weighed. MatchOption weighed (IsHeavy weigher.now (2 ^ 512))
+        (λ table. HasAll weigher.now table.items × TellsDown weigher.now table.items)) }
+{
+    let mut table = vec![in alloc; Wide::zero(); weigher.context.len()]?;
+    if weigher.put_down(room, &mut table) {
+        Ok(Some(table))
+    } else {
+        Ok(None)
+    }
+}
+
+/// What all numbers weigh in the next bracket, if C.7 is measured; none if one of them weighs 2^512 or more.
+fn weigh_next(
+    alloc: Global,
+    weigher: &Weigher<'_>,
+    down: &[Wide],
+) -> Result<Option<Vec<NextWeight>>, AllocError>
+    requires room { HasAll weigher.now down.now }
+    requires told { TellsDown weigher.now down.now }
+    requires next { ForSome weigher.now.scale.next (λ _. weigher.now.reached.kind ≡ Ordinary) }
+    ensures { IfOk result (λ weighed. MatchOption weighed (IsHeavy weigher.now (2 ^ 512))
+        (λ table. TellsBelow weigher.now table.items)) }
+{
+    if !weigher.scale.counts_next() {
+        return Ok(Some(Vec::new(alloc)));
+    }
+    let nothing = NextWeight {
+        met: Wide::zero(),
+        alone: Wide::zero(),
+    };
+    let mut table = vec![in alloc; nothing; weigher.context.len_below()]?;
+    let numbers = BelowWeigher { weigher, down };
+    if numbers.put_all(&mut table) {
+        Ok(Some(table))
+    } else {
+        Ok(None)
+    }
+}
+
+impl<'a> Weighing<'a> {
+    /// Works out all weights of a bracket; none if one of them is 2^512 or more.
+    pub fn read(context: &'a Context<'a>, scale: Scale) -> Result<Option<Weighing<'a>>, AllocError>
+        requires { ForSome scale.next (λ _. context.now.reached.kind ≡ Ordinary) }
+        ensures { let weighed = weighed_on context.now scale
+            in IfOk result (λ read. MatchOption read (IsHeavy weighed (2 ^ 512)) (λ weighing. weighing ≡ weighed)) }
+    {
+        let mut room = Room::default();
+        let weigher = Weigher {
+            context: &*context,
+            scale: &scale,
+        };
+        let Some(pairs) = weigh_pairs(context.alloc(), &weigher, &mut room)? else {
+            return Ok(None);
+        };
+        let Some(down) = weigh_down(context.alloc(), &weigher, &mut room)? else {
+            return Ok(None);
+        };
+        let Some(next) = weigh_next(context.alloc(), &weigher, &down)? else {
+            return Ok(None);
+        };
+        Ok(Some(Weighing {
+            context,
+            scale,
+            pairs,
+            down,
+            next,
+        }))
+    }
+
+    /// The scale that they are weighed on.
+    pub fn scale(&self) -> &Scale
+        ensures { result.now ≡ self.now.scale }
+    {
+        &self.scale
+    }
+
+    /// The bracket.
+    pub fn context(&self) -> &'a Context<'a>
+        ensures facts { result.now.facts ≡ self.now.facts }
+        ensures reached { result.now.reached ≡ self.now.reached }
+        ensures lower { result.now.lower ≡ self.now.lower }
+    {
+        self.context
+    }
+}
+
+impl Weighing<'_> {
+    /// What two numbers weigh, and whether they may meet.
+    fn of_pair(&self, a: u16, b: u16) -> PairWeight
+        requires first { IsNumber self.now.reached a }
+        requires second { IsNumber self.now.reached b }
+        ensures { result ≡ pair_of self.now a b }
+    {
+        self.pairs[place_of(self.context.len(), a, b)]
+    }
+
+    /// What a number weighs that meets one of the next lower scoregroup (C.7).
+    pub fn met(&self, a: u16) -> Wide
+        requires number { IsNumberBelow self.now a }
+        requires some { is_some self.now.scale.next ≡ true }
+        ensures { result ≡ met_weight self.now a }
+    {
+        self.next[usize::from(a) - 1].met
+    }
+
+    /// What a number weighs that is in no pair of the next bracket (C.7).
+    pub fn alone(&self, a: u16) -> Wide
+        requires number { IsNumberBelow self.now a }
+        requires some { is_some self.now.scale.next ≡ true }
+        ensures { result ≡ alone_weight self.now a }
+    {
+        self.next[usize::from(a) - 1].alone
+    }
+}
+
+impl dual::Rule for Weighing<'_> {
+    ghost use Rattle.std.specs.Prelude.{◌<◌, ◌≤◌, length};
+    ghost use Rattle.dutch_weighing.specs.Weights.{weighing};
+
+    ghost costs = { λ w. weighing w.facts w.reached w.scale };
+
+    ghost knows = { λ w a. (0 < a) × (a ≤ length w.reached.seats) };
+
+    #[tactic(auto, unfolding(dutch_bracket::specs::Reached::numbers_meet))]
+    fn may_meet(&self, a: u16, b: u16) -> bool {
+        let reached = self.context.reached();
+        reached.has(a) && reached.has(b) && self.of_pair(a, b).meets
+    }
+
+    fn weight(&self, a: u16, b: u16) -> Wide {
+        self.of_pair(a, b).weight
+    }
+
+    fn may_be_left(&self, a: u16) -> bool {
+        !self.context.reached().kind().ends_round() || self.context.rule().may_be_left(a)
+    }
+
+    fn left_cost(&self, a: u16) -> Wide {
+        self.down[usize::from(a) - 1]
+    }
+}
