@@ -46,3 +46,5 @@ pub mod ShapeLaws
 pub mod Mates
 pub mod MateLists
 pub mod ShapeNumbers
+pub mod WishLemmas
+pub mod WishFits

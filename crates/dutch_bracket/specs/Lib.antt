@@ -29,4 +29,5 @@ pub mod GhostLaws
 pub mod BitTables
 pub mod Weights
 pub mod Scopes
+pub mod Wishes
 pub mod Prelude

@@ -42,3 +42,4 @@ unfoldable pub use Rattle.dutch_bracket.specs.BitTables.{has_bit}
 pub use Rattle.dutch_bracket.specs.Weights.{FloatBases, HasDigits, HasFloatBases, IsAmong, IsNextScale, IsOn, IsOnNext, IsScale, IsScaleFor, IsWithin, NextScale, Scale, Weighing, alone_by, count_had, counts, digits, digits_below, digits_with, float_digits, in_base, number_pairs, numbers, player_digits, weighing, weight_below, weight_of, weight_of_one_down, weight_of_pair, written}
 unfoldable pub use Rattle.dutch_bracket.specs.Weights.{weight_above, weight_with}
 pub use Rattle.dutch_bracket.specs.Scopes.{Covers, CoversBy, Scope, is_joined, may_stay, moved_down_standing, resident_standing, standing_of}
+pub use Rattle.dutch_bracket.specs.Wishes.{are_these, fits_as_left, fits_as_pair, grants, has_player, is_wished, parts}

@@ -12,10 +12,10 @@ use Rattle.dutch_order.proofs.CursorSets.{AreLists}
 use Rattle.dutch_sequence.proofs.Orders.{member-in, in-member, IsIn-append, IsIn-front, IsIn-back}
 use Rattle.dutch_order.proofs.FormArrangements.{form-of, in-moved_down, in-residents, lists-in}
 use Rattle.dutch_order.proofs.NoneTwice.{in-left}
-use Rattle.dutch_choice.specs.declared.wish.Wish.{Wish}
-use Rattle.dutch_choice.specs.declared.wish.Wish.TheVariants.{Pair, LeftOver}
-use Rattle.dutch_bracket.specs.Prelude.{fixed_lists, lists_by}
-use Rattle.dutch_choice.specs.Prelude.{has_player, parts, has_one_of, s1_bars, s1r_bars, halves_bar, rules_out, are_these, grants}
+use Rattle.dutch_bracket.specs.declared.wish.Wish.{Wish}
+use Rattle.dutch_bracket.specs.declared.wish.Wish.TheVariants.{Pair, LeftOver}
+use Rattle.dutch_bracket.specs.Prelude.{fixed_lists, lists_by, has_player, parts, are_these, grants}
+use Rattle.dutch_choice.specs.Prelude.{has_one_of, s1_bars, s1r_bars, halves_bar, rules_out}
 use Rattle.dutch_choice.proofs.BestGranting.{Are, are_so, found_in}
 use Rattle.dutch_order.proofs.Blocks.{goes-whole}
 

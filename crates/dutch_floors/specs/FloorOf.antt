@@ -13,8 +13,6 @@ use Rattle.dutch_bracket.specs.Prelude.{Quality, psd, Reached, Seated, seat_of, 
 use Rattle.dutch_floors.specs.Behind.{Basis}
 use Rattle.dutch_floors.specs.Outlooks.{awaited}
 use Rattle.dutch_floors.specs.declared.colour_floor.Wants.{Wants}
-use Rattle.dutch_floors.specs.declared.premise.Premise.{Premise}
-use Rattle.dutch_floors.specs.Premises.{seated_given}
 
 -- S1; the first one, if none is chosen
 abbrev pub s1_by : Filling → Shape → List ℕ → List ℕ
@@ -77,18 +75,9 @@ floor_by basis s1 more known =
     floor_over basis.facts (psd_over basis s1 known) (awaited basis.facts basis.reached basis.shape basis.outlook s1) more
     (more_in true basis.facts basis.reached basis.shape known) known
 
--- the same by these alone
-unfoldable pub floor_by_seats : Basis → List ℕ → Seated → Quality
-floor_by_seats basis s1 known = floor_by basis s1 (more_in false basis.facts basis.reached basis.shape known) known
-
 -- S1 of a beginning; the first one, if none is chosen [with IsOutlook]
 abbrev pub s1_of : Basis → Beginning → List ℕ
 s1_of basis b = s1_by b.filling basis.shape (fixed_lists b).s1
-
--- the floor of a beginning under a premise
-unfoldable pub floor_given : Basis → Premise → Beginning → Quality
-floor_given basis premise b =
-    floor_by_seats basis (s1_of basis b) (seated_given basis.facts basis.reached premise (all_pairs basis.reached.seats (fixed_lists b)))
 
 -- the floor of a beginning
 unfoldable pub floor_of : Basis → Beginning → Quality
