@@ -17,12 +17,12 @@ use Rattle.dutch_sequence.proofs.HalfWalks.{Climbs, Climbs-room}
 use Rattle.dutch_sequence.proofs.Members.{climbs-filter, filter-climbs, filter-length, length-numbers}
 use Rattle.dutch_sequence.proofs.ExchangeSets.{numbers-climb}
 use Rattle.dutch_player.specs.Prelude.{Facts}
-use Rattle.dutch_bracket.specs.Prelude.{HasPairsOf, seated_so, residents_down, is_lower, IsFlat, quality, repeated, psd_with, IsUniform, is_uniform, highest_first, psd, quality_with, Reached, frame_of, IsOf, downfloaters, quality_of, seat_of, score_at, all_pairs, difference, difference_down, lowest}
+use Rattle.dutch_bracket.specs.Prelude.{HasPairsOf, residents_down, is_lower, IsFlat, quality, repeated, psd_with, IsUniform, is_uniform, highest_first, psd, quality_with, Reached, frame_of, IsOf, quality_of, seat_of, score_at, all_pairs, difference, difference_down, lowest}
 use Rattle.dutch_bracket.proofs.ArrangementParts.{parts_of}
 use Rattle.dutch_bracket.proofs.C08ToC19Fixed.{more_copies}
 use Rattle.dutch_bracket.proofs.Copies.{copies, copies_append}
 use Rattle.dutch_bracket.proofs.FlatBrackets.{one_score_of, seats_fall}
-use Rattle.dutch_bracket.proofs.FixedPairs.{Beside, beside}
+use Rattle.dutch_bracket.proofs.FixedPairs.{beside}
 use Rattle.dutch_bracket.proofs.PairsWithBeginning.{no_less}
 use Rattle.dutch_bracket.proofs.PsdParts.{psd_copies}
 

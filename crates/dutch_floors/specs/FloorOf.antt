@@ -9,7 +9,7 @@ use Rattle.dutch_order.specs.declared.prefix.Filling.TheVariants.{S1, S2, S2r}
 use Rattle.dutch_order.specs.Prelude.{Arrangement, numbers_from, Beginning}
 use Rattle.dutch_sequence.specs.declared.numbers.TheConstants.{LIMIT}
 use Rattle.dutch_player.specs.Prelude.{Facts}
-use Rattle.dutch_bracket.specs.Prelude.{Quality, psd, Reached, Seated, seat_of, score_at, all_pairs, fixed, in_both, fixed_lists, is_of_shape, has_s1, wants, wants_firmly, lonely, psd_with, is_uniform, floor_over}
+use Rattle.dutch_bracket.specs.Prelude.{Quality, psd, Reached, Seated, seat_of, score_at, fixed, in_both, fixed_lists, is_of_shape, has_s1, wants, wants_firmly, lonely, psd_with, is_uniform, floor_over}
 use Rattle.dutch_floors.specs.Behind.{Basis}
 use Rattle.dutch_floors.specs.Outlooks.{awaited}
 use Rattle.dutch_floors.specs.declared.colour_floor.Wants.{Wants}

@@ -2,7 +2,7 @@
 -- (C.04.3 B.3, B.6, B.7). So the pairs of a candidate that grants what is wished are a matching by the costs of the scope.
 use Rattle.std.proofs.Common.{◌≡◌, ℕ, suc, ◌+◌, ◌<◌, ◌≤◌, Bool, true, false, not, cond, ◌&&◌, ◌||◌, nat_lt, List, [], ◌∷◌, Option, length, inl, inr, refl, sym, ap, ◌∙◌, arith}
 use Rattle.std.specs.List.{AllByRecursion, zip}
-use Rattle.std.proofs.lemmas.Bool.{and_parts, cases_Bool, true≢false}
+use Rattle.std.proofs.lemmas.Bool.{cases_Bool, true≢false}
 use Rattle.std.proofs.lemmas.Bool.Decides.{nat_tests}
 use Rattle.dual.specs.Prelude.{Costs, IsMatching}
 use Rattle.dutch_order.specs.declared.bracket.Shape.{Shape}
@@ -265,10 +265,10 @@ is_matching_in facts reached scale lower shape a of' fits m b begins scope cover
       whole = plain.whole;
       may_meet = each (λ pair. ((joined pair && fit pair) && meet pair) ≡ true) pairs
           (both_hold (λ pair. joined pair && fit pair) meet pairs
-          (both_hold joined fit pairs joined_all (pairs_fit (length reached.seats) a left plain.whole wish granted))
+          (both_hold joined fit pairs joined_all (pairs_fit frame shape a of'.sound.within fits.within_pairs legal.arranged wish granted))
           (one_by_one (λ pair. meet pair ≡ true) pairs plain.may_meet));
       may_be_left = each (λ v. ((stay v && may v) && costs.may_be_left v) ≡ true) left
           (both_hold (λ v. stay v && may v) costs.may_be_left left
-          (both_hold stay may left stay_all (left_fits (length reached.seats) a left plain.whole wish granted))
+          (both_hold stay may left stay_all (left_fits frame shape a of'.sound.within fits.within_pairs legal.arranged wish granted))
           (one_by_one (λ v. costs.may_be_left v ≡ true) left plain.may_be_left));
     }

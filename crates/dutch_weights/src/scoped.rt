@@ -140,11 +140,11 @@ impl<'a, 'b> Scoped<'a, 'b> {
     ) -> Scoped<'a, 'b>
         requires { MeasuresNext reach weighing.now.scale }
         ensures { result ≡ record {
-            weighing = weighing.now;
-            scope = sought.entry.scope.now;
-            wish = sought.entry.wish;
-            reach = reach;
-            order = order.now;
+          weighing = weighing.now;
+          scope = sought.entry.scope.now;
+          wish = sought.entry.wish;
+          reach = reach;
+          order = order.now;
         } }
     {
         let Sought { scope, wish } = sought;
