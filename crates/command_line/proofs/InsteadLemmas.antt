@@ -9,7 +9,7 @@ use Rattle.dutch_pair.specs.Prelude.{above_lower, IsStage, IsInstead}
 use Rattle.dutch_bracket.specs.Prelude.{score_at}
 use Rattle.dutch_pair.specs.declared.instead.Instead.{Instead}
 use Rattle.dutch_pair.specs.declared.stage.Stage.{Stage}
-use Rattle.dutch_choice.specs.declared.wish.Wish.{Wish}
+use Rattle.dutch_bracket.specs.declared.wish.Wish.{Wish}
 use Rattle.command_line.specs.InsteadAnswers.{AnswersPresent, IsSearched}
 use Rattle.command_line.specs.InsteadTexts.{instead_text, search_answer}
 use Rattle.round_lines.specs.Obstacles.{obstacle_text}

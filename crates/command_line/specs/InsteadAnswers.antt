@@ -4,11 +4,11 @@ use Rattle.std.specs.List.{list_any, position_from}
 use Rattle.std.specs.Option.{option_map_or}
 use Rattle.dutch_player.specs.Prelude.{Facts, seat_with}
 use Rattle.dutch_pair.specs.Prelude.{above_lower, IsInstead}
-use Rattle.dutch_choice.specs.Prelude.{grants}
+use Rattle.dutch_bracket.specs.Prelude.{grants}
 use Rattle.dutch_pair.specs.declared.instead.Instead.{Instead}
 use Rattle.dutch_pair.specs.declared.stage.Stage.{Stage}
-use Rattle.dutch_choice.specs.declared.wish.Wish.{Wish}
-use Rattle.dutch_choice.specs.declared.wish.Wish.TheVariants.{Pair, LeftOver}
+use Rattle.dutch_bracket.specs.declared.wish.Wish.{Wish}
+use Rattle.dutch_bracket.specs.declared.wish.Wish.TheVariants.{Pair, LeftOver}
 use Rattle.command_line.specs.InsteadTexts.{granted_text, instead_text, search_answer}
 use Rattle.round_lines.specs.Tellings.{TellingFacts}
 use Rattle.round_lines.specs.Obstacles.{against_bye, against_meeting, obstacle_text}

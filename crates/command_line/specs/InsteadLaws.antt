@@ -5,10 +5,10 @@ use Rattle.dutch_player.specs.Prelude.{Facts, seat_at, opponent_played, is_topsc
 use Rattle.dutch_player.specs.declared.preference.Strength.TheVariants.{Absolute}
 use Rattle.dutch_player.specs.declared.preference.Pref.{Pref}
 use Rattle.dutch_pair.specs.Prelude.{lower_of}
-use Rattle.dutch_bracket.specs.Prelude.{frame_of, can_be_chosen, candidates_of}
-use Rattle.dutch_choice.specs.Prelude.{grants, with_mdps}
+use Rattle.dutch_bracket.specs.Prelude.{frame_of, can_be_chosen, candidates_of, grants}
+use Rattle.dutch_choice.specs.Prelude.{with_mdps}
 use Rattle.dutch_pair.specs.declared.stage.Stage.{Stage}
-use Rattle.dutch_choice.specs.declared.wish.Wish.{Wish}
+use Rattle.dutch_bracket.specs.declared.wish.Wish.{Wish}
 use Rattle.trf16.specs.Prelude.{apart, Sheet, cell_in, rounds_played}
 use Rattle.command_line.specs.InsteadAnswers.{goes_on, stands_in, stands_in_one, wish_in}
 use Rattle.command_line.specs.declared.instead.Rival.{Rival}

@@ -3,7 +3,7 @@ ghost use Rattle.std.specs.Prelude.{◌≡◌, ◌≤◌, IfOk, IfSome, MatchOpt
 ghost use Rattle.std.specs.List.{AllByRecursion};
 ghost use Rattle.dutch_sequence.specs.declared.numbers.TheConstants.{LIMIT};
 ghost use Rattle.dutch_pair.specs.Prelude.{IsStage};
-ghost use Rattle.dutch_choice.specs.Prelude.{grants};
+ghost use Rattle.dutch_bracket.specs.Prelude.{grants};
 ghost use Rattle.command_line.specs.InsteadAnswers.{AnswersInstead, AnswersPresent, AnswersWish, IsSearched};
 ghost use Rattle.command_line.specs.InsteadAnswers.{decided_in};
 ghost use Rattle.command_line.specs.InsteadAnswers.{goes_on, number_among, number_in, obstacle_of, rival_of};

@@ -5,7 +5,7 @@ ghost use Rattle.trf16.specs.Prelude.{Sheet};
 ghost use Rattle.dutch_pair.specs.Prelude.{above_lower, IsStage, IsInstead, Pairing, round, visit};
 ghost use Rattle.dutch_pair.specs.declared.instead.Instead.TheVariants.{FewerMovedDown, NoneEligible, NoneLegal};
 ghost use Rattle.dutch_pair.specs.declared.stage.Stage.{Stage};
-ghost use Rattle.dutch_choice.specs.declared.wish.Wish.{Wish};
+ghost use Rattle.dutch_bracket.specs.declared.wish.Wish.{Wish};
 ghost use Rattle.command_line.specs.InsteadAnswers.{decided_in, IsRival};
 ghost use Rattle.command_line.specs.declared.instead.Rival.{Rival};
 ghost use Rattle.command_line.specs.InsteadLaws.{IsDecidedIn, NoneCanBeChosen, NoneWithAsManyMovedDown};

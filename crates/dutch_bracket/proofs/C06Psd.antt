@@ -17,30 +17,16 @@ use Rattle.dutch_sequence.proofs.HalfWalks.{Climbs, Climbs-room}
 use Rattle.dutch_sequence.proofs.Members.{climbs-filter, filter-climbs, filter-length, length-numbers}
 use Rattle.dutch_sequence.proofs.ExchangeSets.{numbers-climb}
 use Rattle.dutch_player.specs.Prelude.{Facts}
-use Rattle.dutch_bracket.specs.Prelude.{HasPairsOf, seated_so, residents_down, is_lower, IsFlat, quality, repeated, psd_with, IsUniform, is_uniform, highest_first, psd, quality_with, Reached, frame_of, IsOf, downfloaters, quality_of, seat_of, score_at, all_pairs, difference, difference_down, lowest}
+use Rattle.dutch_bracket.specs.Prelude.{HasPairsOf, residents_down, is_lower, IsFlat, quality, repeated, psd_with, IsUniform, is_uniform, highest_first, psd, quality_with, Reached, frame_of, IsOf, quality_of, seat_of, score_at, all_pairs, difference, difference_down, lowest}
 use Rattle.dutch_bracket.proofs.ArrangementParts.{parts_of}
 use Rattle.dutch_bracket.proofs.C08ToC19Fixed.{more_copies}
 use Rattle.dutch_bracket.proofs.Copies.{copies, copies_append}
 use Rattle.dutch_bracket.proofs.FlatBrackets.{one_score_of, seats_fall}
-use Rattle.dutch_bracket.proofs.FixedPairs.{Beside, beside}
+use Rattle.dutch_bracket.proofs.FixedPairs.{beside}
 use Rattle.dutch_bracket.proofs.PairsWithBeginning.{no_less}
 use Rattle.dutch_bracket.proofs.PsdParts.{psd_copies}
 
 -- the PSD is not lower than what is known of it
-pub psd_of_known : (facts : Facts) (reached : Reached) (lower : List ℕ) (known : List (ℕ × ℕ)) (gone : List ℕ) (a : Arrangement) → Beside known (all_pairs reached.seats a)
-    → Beside gone (downfloaters facts reached a) → is_lower (quality_of facts reached lower a).psd (psd facts (seated_so facts reached known gone)) ≡ false
-unfolding quality_of quality quality_with psd
-psd_of_known facts reached lower known gone a others left =
-    let by : List (ℕ × ℕ) → List ℕ = map (difference facts) in
-    let floats : List ℕ → List ℕ = map (difference_down facts (lowest facts reached.seats)) in
-    more_copies (by known ++ floats gone) (by (all_pairs reached.seats a) ++ floats (downfloaters facts reached a)) (λ d.
-    let more : copies d (by known) ≤ copies d (by (all_pairs reached.seats a)) =
-    no_less (λ pairs. copies d (by pairs)) known (all_pairs reached.seats a) (λ xs ys. ap (copies d) (map-append (difference facts) xs ys) ∙ copies_append d (by xs) (by ys)) others in
-    let further : copies d (floats gone) ≤ copies d (floats (downfloaters facts reached a)) =
-    no_less (λ seats. copies d (floats seats)) gone (downfloaters facts reached a)
-    (λ xs ys. ap (copies d) (map-append (difference_down facts (lowest facts reached.seats)) xs ys) ∙ copies_append d (floats xs) (floats ys)) left in
-    omega (arith, more, further, copies_append d (by known) (floats gone), copies_append d (by (all_pairs reached.seats a)) (floats (downfloaters facts reached a))))
-
 pub psd_of_beginning : (facts : Facts) (reached : Reached) (lower : List ℕ) (b a : Arrangement) → HasPairsOf b a
     → is_lower (quality_of facts reached lower a).psd (highest_first (map (difference facts) (all_pairs reached.seats b))) ≡ false
 unfolding quality_of quality quality_with psd

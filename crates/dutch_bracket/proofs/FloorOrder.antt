@@ -62,7 +62,7 @@ module _ (f q : Quality) (floor : IsFloor f q) where
 
 -- so no arrangement is better than the floor made from what is known of it, if the floor's PSD and value of the next bracket and its
 -- counts at C.10 and C.11 are such
-pub floor_stays : (facts : Facts) (reached : Reached) (lower psd : List ℕ) (next : NextValue) (more_missed more_missed_strong : ℕ) (known : List (ℕ × ℕ)) (gone : List ℕ)
+floor_stays : (facts : Facts) (reached : Reached) (lower psd : List ℕ) (next : NextValue) (more_missed more_missed_strong : ℕ) (known : List (ℕ × ℕ)) (gone : List ℕ)
     (a : Arrangement) → Beside known (all_pairs reached.seats a) → Beside gone (downfloaters facts reached a)
     → is_lower (quality_of facts reached lower a).psd psd ≡ false
     → (quality_of facts reached lower a).next_pairs ≤ next.pairs

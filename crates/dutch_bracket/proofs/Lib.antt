@@ -47,3 +47,5 @@ pub mod Mates
 pub mod MateLists
 pub mod ShapeNumbers
 pub mod SeatPlaces
+pub mod WishLemmas
+pub mod WishFits

@@ -27,4 +27,5 @@ pub mod Floors
 pub mod Ghosts
 pub mod GhostLaws
 pub mod BitTables
+pub mod Wishes
 pub mod Prelude

@@ -31,6 +31,7 @@ pub mod seated;
 pub mod seats;
 pub mod shaped;
 pub mod spending;
+pub mod wish;
 
 pub use completion::{Answer, completes};
 pub use conditions::{are_left, is_next};

@@ -8,9 +8,9 @@ use Rattle.dutch_order.specs.Prelude.{Passes, Arrangement}
 use Rattle.dutch_sequence.proofs.Lists.{filter-all}
 use Rattle.dutch_order.specs.declared.bracket.Shape.{Shape}
 use Rattle.dutch_choice.specs.declared.pass.Best.{Best}
-use Rattle.dutch_choice.specs.declared.wish.Wish.{Wish}
-use Rattle.dutch_bracket.specs.Prelude.{Context, can_be_chosen_here, candidates_here, eligible_here, quality_here, Quality, is_better, quality_in, best_of_shape, candidates_of, eligible, shape_of, choice, first_unbeaten, best, best_with}
-use Rattle.dutch_choice.specs.Prelude.{kept_lists, wins, IsBest, IsKept, is_better_here, is_wished, beats, is_idle, is_near, is_unwanted, is_open, is_sought, best_yet, best_near, best_wished}
+use Rattle.dutch_bracket.specs.declared.wish.Wish.{Wish}
+use Rattle.dutch_bracket.specs.Prelude.{Context, can_be_chosen_here, candidates_here, eligible_here, quality_here, Quality, is_better, quality_in, best_of_shape, candidates_of, eligible, shape_of, choice, first_unbeaten, best, best_with, is_wished}
+use Rattle.dutch_choice.specs.Prelude.{kept_lists, wins, IsBest, IsKept, is_better_here, beats, is_idle, is_near, is_unwanted, is_open, is_sought, best_yet, best_near, best_wished}
 use Rattle.dutch_choice.proofs.ChoiceLemmas.{IsOrder, behind_aim, behind_either, behind_kept, kept_at_end, kept_by, order_of, passed_by, wins_over}
 use Rattle.dutch_bracket.proofs.QualityOrder.{irreflexive, transitive, total}
 use Rattle.dutch_choice.proofs.BestLemmas.{order_in, choice_is, shape_has_best}
@@ -49,15 +49,18 @@ filter_always : {X : Type 0} (p : X → Bool) (xs : List X) → filter (λ y. p 
 filter_always p [] = refl
 filter_always p (x ∷ xs) = grind (arith, filter_always p xs)
 
--- who does not grant the wish is of no interest, and whose quality is of none, or is if it can be chosen
+-- who does not grant the wish is of no interest, whose quality is of none, or is if it can be chosen and grants the wish, and who cannot be chosen
 pub unwished_is_unwanted : (fit wished idle : Bool) → wished ≡ false → (not (fit && wished) || idle) ≡ true
 unwished_is_unwanted fit wished idle h = grind arith
 
 pub idle_is_unwanted : (fit wished idle : Bool) → idle ≡ true → (not (fit && wished) || idle) ≡ true
 idle_is_unwanted fit wished idle h = grind arith
 
-pub idle_if_fit_is_unwanted : (fit wished idle : Bool) → (fit ≡ true → idle ≡ true) → (not (fit && wished) || idle) ≡ true
-idle_if_fit_is_unwanted fit wished idle h = grind arith
+pub idle_if_open_is_unwanted : (fit wished idle : Bool) → ((fit && wished) ≡ true → idle ≡ true) → (not (fit && wished) || idle) ≡ true
+idle_if_open_is_unwanted fit wished idle h = grind arith
+
+unfit_is_unwanted : (fit wished idle : Bool) → fit ≡ false → (not (fit && wished) || idle) ≡ true
+unfit_is_unwanted fit wished idle h = grind arith
 
 quality_order : IsOrder is_better
 quality_order = order_of (λ (q : Quality). q) is_better irreflexive transitive total
@@ -145,7 +148,7 @@ module _ (context : Context) where
     pub unfit_passed : (aim : Option Quality) (kept : Option Best) (d : Arrangement) (rest : List Arrangement) → IsKept context kept → can_be_chosen_here context d ≡ false
         → best_yet context wish aim kept rest ≡ best_yet context wish aim kept (d ∷ rest)
     unfit_passed aim kept d rest h unfit =
-        sym (unwanted_passed aim kept d rest h (idle_if_fit_is_unwanted _ _ _ (λ can. absurd (true≢false (sym can ∙ unfit)))))
+        sym (unwanted_passed aim kept d rest h (unfit_is_unwanted _ _ _ unfit))
 
     -- one that is of interest, grants the wish and can be chosen is kept
     pub winner_kept : (aim : Option Quality) (kept : Option Best) (best : Best) (lists : Arrangement) (coming : List Arrangement) → IsKept context kept

@@ -1,5 +1,4 @@
 pub mod AimLemmas
-pub mod WishLemmas
 pub mod BestGranting
 pub mod AllPaired
 pub mod RuledOutLemmas

@@ -2,41 +2,23 @@
 use Rattle.std.proofs.Common.{◌≡◌, ℕ, ◌<◌, ◌≤◌, ◌⊎◌, Bool, true, false, not, ◌&&◌, ◌||◌, List, [], ◌∷◌, ◌++◌, length, inl, inr, refl, sym, ap, ◌∙◌, subst, arith}
 use Rattle.std.specs.Prelude.{nat_le}
 use Rattle.std.specs.List.{list_any}
-use Rattle.std.proofs.lemmas.Bool.{leb-true, or_cases, and_parts, not-true, false_from_ne_true, true≢false}
+use Rattle.std.proofs.lemmas.Bool.{leb-true, or_cases, not-true, false_from_ne_true, true≢false}
 use Rattle.std.proofs.lemmas.Bool.Decides.{nat_tests}
 use Rattle.dutch_order.specs.declared.bracket.Shape.{Shape}
 use Rattle.dutch_order.specs.declared.prefix.Filling.{Filling}
 use Rattle.dutch_order.specs.declared.prefix.Filling.TheVariants.{S1, S2, S2r}
-use Rattle.dutch_order.specs.Prelude.{Frame, Arrangement, arrangements, left_of, paired, residents_of, is_member, by_place, pairs_by_number, players_in, NoneTwice, IsIn, Begins, BeginsAt, Beginning, GoesOn}
+use Rattle.dutch_order.specs.Prelude.{Frame, Arrangement, arrangements, left_of, paired, residents_of, is_member, by_place, pairs_by_number, IsIn, Begins, BeginsAt, Beginning, GoesOn}
 use Rattle.dutch_order.proofs.CursorSets.{AreLists}
 use Rattle.dutch_sequence.proofs.Orders.{member-in, in-member, IsIn-append, IsIn-front, IsIn-back}
 use Rattle.dutch_order.proofs.FormArrangements.{form-of, in-moved_down, in-residents, lists-in}
 use Rattle.dutch_order.proofs.NoneTwice.{in-left}
-use Rattle.dutch_choice.specs.declared.wish.Wish.{Wish}
-use Rattle.dutch_choice.specs.declared.wish.Wish.TheVariants.{Pair, LeftOver}
-use Rattle.dutch_bracket.specs.Prelude.{fixed_lists, lists_by}
-use Rattle.dutch_choice.specs.Prelude.{has_player, parts, has_one_of, s1_bars, s1r_bars, halves_bar, rules_out, are_these, grants}
+use Rattle.dutch_bracket.specs.declared.wish.Wish.{Wish}
+use Rattle.dutch_bracket.specs.declared.wish.Wish.TheVariants.{Pair, LeftOver}
+use Rattle.dutch_bracket.specs.Prelude.{fixed_lists, lists_by, parts, are_these, grants}
+use Rattle.dutch_choice.specs.Prelude.{has_one_of, s1_bars, s1r_bars, halves_bar, rules_out}
 use Rattle.dutch_choice.proofs.BestGranting.{Are, are_so, found_in}
+use Rattle.dutch_bracket.proofs.WishFits.{none_parted, place_of}
 use Rattle.dutch_order.proofs.Blocks.{goes-whole}
-
--- ---- two players as numbers of a pair
-
-abbrev Holds : ℕ → ℕ × ℕ → Type 0
-Holds z pair = (z ≡ pair.0) ⊎ (z ≡ pair.1)
-
-holds_so : (p : ℕ) (pair : ℕ × ℕ) → has_player p pair ≡ true → Holds p pair
-holds_so p pair h = grind (arith, nat_tests)
-
--- ---- no player is in two pairs
-
-player_in : (z : ℕ) (pair : ℕ × ℕ) (pairs : List (ℕ × ℕ)) → IsIn pair pairs → Holds z pair → IsIn z (players_in pairs)
-player_in z pair [] m h = absurd m
-player_in z pair (x ∷ pairs) m h = grind (arith, player_in z pair pairs)
-
-same_pair : (z : ℕ) (one other : ℕ × ℕ) (pairs : List (ℕ × ℕ)) → NoneTwice (players_in pairs) → IsIn one pairs → IsIn other pairs
-    → Holds z one → Holds z other → one ≡ other
-same_pair z one other [] once m n h g = absurd m
-same_pair z one other (x ∷ pairs) once m n h g = grind (arith, same_pair z one other pairs once.1.1, player_in z one pairs, player_in z other pairs)
 
 -- ---- the pairs of a beginning are pairs of each arrangement that begins so
 
@@ -84,11 +66,6 @@ players_stay S2r lists a z h m =
     (join z lists.s1r lists.s2r a.s1r a.s2r (λ n. subst (IsIn z) h.2 n) (front_of z lists.s2r a.s2r h.3))) m
 
 -- ---- who is where in the pairs of an arrangement
-
-place_of : (pair : ℕ × ℕ) (xs ys : List ℕ) → IsIn pair (by_place xs ys) → IsIn pair.0 xs × IsIn pair.1 ys
-place_of pair [] ys m = absurd m
-place_of pair (x ∷ xs) [] m = absurd m
-place_of pair (x ∷ xs) (y ∷ ys) m = grind (arith, place_of pair xs ys)
 
 -- of two players who are a pair one alone is in a list that has the first of the pair and not the second
 one_in : (p q : ℕ) (pair : ℕ × ℕ) (in' : ℕ → Bool) → Are p q pair → in' pair.0 ≡ true → in' pair.1 ≡ false → ((in' p && not (in' q)) || (in' q && not (in' p))) ≡ true
@@ -187,19 +164,6 @@ module _ (frame : Frame) (shape : Shape) (a : Arrangement) (within : frame.mdps 
     halves_apart false true h g filling beginning begins bars = s1_apart filling beginning begins (low_first (inr (below q g))) bars
     halves_apart false false h g filling beginning begins bars = s1r_apart filling beginning begins (high_first (beyond p h) (beyond q g)) bars
 
-    -- and neither of them has another opponent
-    others_apart : NoneTwice (players_in (pairs_by_number a)) → (other : ℕ × ℕ) → IsIn other (pairs_by_number a) → parts p q other ≡ true
-        → are_these p q pair ≡ true → ⊥
-    others_apart once other n apart these =
-        let both = and_parts (not (are_these p q other)) _ apart in
-        let first : Holds p pair = grind arith in
-        let second : Holds q pair = grind arith in
-        let same : pair ≡ other = elim (or_cases (has_player p other) _ both.1) [
-          | inl one ↦ same_pair p pair other (pairs_by_number a) once m n first (holds_so p other one)
-          | inr two ↦ same_pair q pair other (pairs_by_number a) once m n second (holds_so q other two)
-        ] in
-        true≢false (sym these ∙ ap (are_these p q) same ∙ not-true (are_these p q other) both.0)
-
 -- where a beginning rules a wish out, no arrangement that begins so grants it
 pair_out : (frame : Frame) (shape : Shape) (p q : ℕ) (b : Beginning) (a : Arrangement) → frame.mdps ≤ length frame.scores → shape.mdps ≤ shape.pairs
     → IsIn a (arrangements frame shape) → Begins b a → rules_out frame.mdps (Pair p q) b ≡ true → grants (Pair p q) a ≡ true → ⊥
@@ -210,8 +174,8 @@ pair_out frame shape p q b a within fewer m begins out granted =
     elim (or_cases (list_any (parts p q) (pairs_by_number (fixed_lists b))) _ out) [
       | inl others ↦
           let other = found_in (parts p q) (pairs_by_number (fixed_lists b)) others in
-          others_apart frame shape a within lists p q found.0 found.1 are (form-of frame shape a within fewer m).none_twice other.0
-          (pairs_stay b.filling b.lists a other.0 begins other.1) other.2 found.2
+          true≢false (sym other.2 ∙ none_parted p q (pairs_by_number a) (form-of frame shape a within fewer m).none_twice granted other.0
+          (pairs_stay b.filling b.lists a other.0 begins other.1))
       | inr halves ↦
           halves_apart frame shape a within lists p q found.0 found.1 are (nat_le p frame.mdps) (nat_le q frame.mdps) refl refl b.filling b.lists begins halves
     ]

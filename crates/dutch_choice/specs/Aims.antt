@@ -5,10 +5,10 @@ use Rattle.dutch_order.specs.declared.bracket.Shape.{Shape}
 use Rattle.dutch_order.specs.Prelude.{Arrangement}
 use Rattle.dutch_choice.specs.declared.pass.Best.{Best}
 use Rattle.dutch_bracket.specs.declared.quality.Quality.{Quality as Fields}
-use Rattle.dutch_choice.specs.declared.wish.Wish.{Wish}
-use Rattle.dutch_bracket.specs.Prelude.{Context, can_be_chosen_here, candidates_here, eligible_here, quality_here, Quality, is_better, quality_in, best, best_with}
+use Rattle.dutch_bracket.specs.declared.wish.Wish.{Wish}
+use Rattle.dutch_bracket.specs.Prelude.{Context, can_be_chosen_here, candidates_here, eligible_here, quality_here, Quality, is_better, quality_in, best, best_with, is_wished}
 use Rattle.dutch_choice.specs.Kept.{kept_lists, wins}
-use Rattle.dutch_choice.specs.Wishes.{is_better_here, is_wished}
+use Rattle.dutch_choice.specs.Wishes.{is_better_here}
 
 -- the aim of a pass, if it has one [own]
 abbrev pub aim_in : Option Fields → Option Quality

@@ -4,11 +4,11 @@ use Rattle.std.specs.Option.{MatchOption}
 use Rattle.dutch_order.specs.Prelude.{Arrangement, down, Candidate, Listing, Passes}
 use Rattle.dutch_bracket.specs.declared.greatest.Lister.{Lister}
 use Rattle.dutch_bracket.specs.declared.reached.ByNumber.{ByNumber}
-use Rattle.dutch_bracket.specs.Prelude.{Context, Lists, can_be_chosen_here, quality_here, IsOfBracket}
+use Rattle.dutch_bracket.specs.Prelude.{Context, Lists, quality_here, IsOfBracket}
 use Rattle.dutch_choice.specs.declared.pass.Best.{Best}
 use Rattle.dutch_choice.specs.declared.pass.Pass.{Pass}
 use Rattle.dutch_choice.specs.declared.pass.Search.{Search}
-use Rattle.dutch_choice.specs.Aims.{aim_in, best_near, best_wished, best_yet, is_unwanted, is_idle}
+use Rattle.dutch_choice.specs.Aims.{aim_in, best_near, best_wished, best_yet, is_unwanted, is_idle, is_open}
 use Rattle.dutch_choice.specs.Kept.{IsBest}
 use Rattle.dutch_choice.specs.Remembered.{LooksBelow, Remembered}
 
@@ -28,9 +28,9 @@ IsHere context candidate = IsOfBracket context.facts context.reached candidate
 abbrev pub IsIdle : Search → Arrangement → Type 0
 IsIdle search a = is_idle (aim_in search.pass.now.aim) search.kept.now (quality_here search.pass.now.shaped.context.now a) ≡ true
 
--- the same of a candidate that can be chosen
-abbrev pub IsIdleIfFit : Search → Arrangement → Type 0
-IsIdleIfFit search a = can_be_chosen_here search.pass.now.shaped.context.now a ≡ true → IsIdle search a
+-- the same of a candidate that can be chosen and grants what is wished
+abbrev pub IsIdleIfOpen : Search → Arrangement → Type 0
+IsIdleIfOpen search a = is_open search.pass.now.shaped.context.now search.pass.now.wish a ≡ true → IsIdle search a
 
 -- it finds no interest in the candidate
 abbrev pub is_unwanted_to : Search → Arrangement → Bool

@@ -1,22 +1,13 @@
 -- Beginnings of arrangements that rule a wish out (C.04.3 B.6, B.7). What skips candidates stands on these; a reader of its promise may
 -- pass them by.
-use Rattle.std.specs.Prelude.{ℕ, Bool, true, false, not, ◌&&◌, ◌||◌, ◌==◌, nat_le, List}
+use Rattle.std.specs.Prelude.{ℕ, Bool, true, false, not, ◌&&◌, ◌||◌, nat_le, List}
 use Rattle.std.specs.List.{list_any}
 use Rattle.dutch_order.specs.declared.prefix.Filling.{Filling}
 use Rattle.dutch_order.specs.declared.prefix.Filling.TheVariants.{S1, S2, S2r}
 use Rattle.dutch_order.specs.Prelude.{Arrangement, paired, is_member, pairs_by_number, Beginning}
-use Rattle.dutch_choice.specs.declared.wish.Wish.{Wish}
-use Rattle.dutch_choice.specs.declared.wish.Wish.TheVariants.{Pair, LeftOver}
-use Rattle.dutch_bracket.specs.Prelude.{fixed_lists}
-use Rattle.dutch_choice.specs.Wishes.{are_these}
-
--- a player is one of a pair
-abbrev pub has_player : ℕ → ℕ × ℕ → Bool
-has_player p pair = (pair.0 == p) || (pair.1 == p)
-
--- a pair has one of two players, with another one
-abbrev pub parts : ℕ → ℕ → ℕ × ℕ → Bool
-parts p q pair = not (are_these p q pair) && (has_player p pair || has_player q pair)
+use Rattle.dutch_bracket.specs.declared.wish.Wish.{Wish}
+use Rattle.dutch_bracket.specs.declared.wish.Wish.TheVariants.{Pair, LeftOver}
+use Rattle.dutch_bracket.specs.Prelude.{fixed_lists, parts}
 
 -- of two players one alone is in a list
 abbrev pub has_one_of : ℕ → ℕ → List ℕ → Bool

@@ -1,28 +1,11 @@
--- A wish for a candidate of a bracket, that two of its players meet or that one of them is left over (C.04.3 B.3), the best of the
--- candidates that grant it (B.8), or why there is none (B.1, C.4, C.5).
-use Rattle.std.specs.Prelude.{◌≡◌, ◌<◌, ◌≤◌, ◌⊎◌, ◌+◌, ℕ, Bool, true, false, not, ◌&&◌, ◌||◌, ◌==◌, List, ◌∷◌, ◌++◌, filter, Option, Some, None}
+-- The best of the candidates of a bracket that grant a wish (C.04.3 B.3, B.8), or why there is none (B.1, C.4, C.5).
+use Rattle.std.specs.Prelude.{◌≡◌, ◌<◌, ◌≤◌, ◌⊎◌, ◌+◌, ℕ, Bool, true, false, ◌&&◌, List, ◌∷◌, ◌++◌, filter, Option}
 use Rattle.std.specs.List.{list_any}
 use Rattle.dutch_order.specs.declared.bracket.Shape.{Shape}
-use Rattle.dutch_order.specs.Prelude.{Arrangement, paired, is_member, pairs_by_number, IsIn}
+use Rattle.dutch_order.specs.Prelude.{Arrangement, IsIn}
 use Rattle.dutch_player.specs.Prelude.{Facts}
-use Rattle.dutch_choice.specs.declared.wish.Wish.{Wish}
-use Rattle.dutch_choice.specs.declared.wish.Wish.TheVariants.{Pair, LeftOver}
-use Rattle.dutch_bracket.specs.Prelude.{Context, eligible_here, quality_here, Reached, frame_of, candidates_of, is_better_in, best, fits}
-
--- a pair is that of two players, in whatever order
-abbrev pub are_these : ℕ → ℕ → ℕ × ℕ → Bool
-are_these p q pair = ((pair.0 == p) && (pair.1 == q)) || ((pair.0 == q) && (pair.1 == p))
-
--- an arrangement grants that two meet if they are one of its pairs, in either order; it grants that a player is left over if the player is
--- in none [B.3]
-abbrev pub grants : Wish → Arrangement → Bool
-grants (Pair p q) lists = list_any (are_these p q) (pairs_by_number lists)
-grants (LeftOver p) lists = not (is_member p (paired lists))
-
--- the same where something is wished; where nothing is, every arrangement will do [own]
-abbrev pub is_wished : Option Wish → Arrangement → Bool
-is_wished None = λ lists. true
-is_wished (Some wish) = grants wish
+use Rattle.dutch_bracket.specs.declared.wish.Wish.{Wish}
+use Rattle.dutch_bracket.specs.Prelude.{Context, eligible_here, quality_here, Reached, frame_of, candidates_of, is_better_in, best, fits, grants}
 
 -- C.4: the candidates of a shape that can be chosen and grant a wish
 abbrev pub granting : Context → Shape → Wish → List Arrangement

@@ -3,13 +3,14 @@ ghost use Rattle.std.specs.Prelude.{◌≡◌, true, false};
 ghost use Rattle.dutch_order.specs.declared.bracket.Shape.{Shape};
 ghost use Rattle.dutch_order.specs.Prelude.{Arrangement, IsIn, Begins};
 ghost use Rattle.dutch_bracket.specs.Prelude.{FitsHere, OfEachWithBeginning, candidates_here, candidates_in};
-ghost use Rattle.dutch_choice.specs.Wishes.{grants, is_wished};
-ghost use Rattle.dutch_choice.specs.declared.wish.Wish.TheVariants.{LeftOver};
+ghost use Rattle.dutch_bracket.specs.Prelude.{grants, is_wished};
+ghost use Rattle.dutch_bracket.specs.declared.wish.Wish.TheVariants.{LeftOver};
 
 use crate::pass::Pass;
-use crate::wish::Wish;
+use crate::ruled_out::is_ruled_out;
 use dutch_bracket::context::Context;
 use dutch_bracket::shaped::ShapedBracket;
+use dutch_bracket::wish::Wish;
 use dutch_order::Prefix;
 
 /// Whether each candidate of a shape has a player in a pair: all moved-down players are in one, or all residents.
@@ -43,7 +44,7 @@ fn begins_without(context: &Context<'_>, wish: Wish, prefix: &Prefix<'_>) -> boo
     ensures { result ≡ true → (shape : Shape) (a : Arrangement) → FitsHere context.now shape
         → IsIn a (candidates_here context.now shape) → Begins prefix.now a → grants wish a ≡ false }
 {
-    wish.is_ruled_out(context.reached().mdps(), prefix)
+    is_ruled_out(wish, context.reached().mdps(), prefix)
 }
 
 /// Whether no candidate of a shape that has a beginning grants a wish.

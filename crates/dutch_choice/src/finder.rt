@@ -8,9 +8,9 @@ ghost use Rattle.dutch_choice.specs.Aims.{best_wished};
 ghost use Rattle.dutch_choice.specs.Kept.{IsBest};
 
 use crate::pass::Best;
-use crate::wish::Wish;
 use dutch_bracket::fault::PairFault;
 use dutch_bracket::shaped::ShapedBracket;
+use dutch_bracket::wish::Wish;
 use dutch_order::{Budget, Step};
 
 /// Finds the best candidate of a shape.

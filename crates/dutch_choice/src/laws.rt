@@ -4,10 +4,10 @@ ghost use Rattle.std.specs.Prelude.{◌≡◌, ◌⊎◌, ◌↔◌, ℕ, List, 
 ghost use Rattle.std.specs.List.{list_any};
 ghost use Rattle.dutch_order.specs.Prelude.{Arrangement, Frame, down, players_of, pairs_by_number, IsIn};
 ghost use Rattle.dutch_order.specs.declared.bracket.Shape.{Shape};
-ghost use Rattle.dutch_choice.specs.declared.wish.Wish.{Wish};
-ghost use Rattle.dutch_choice.specs.declared.wish.Wish.TheVariants.{LeftOver, Pair};
-ghost use Rattle.dutch_bracket.specs.Prelude.{Context, eligible_here, best_of_shape};
-ghost use Rattle.dutch_choice.specs.Wishes.{ComesBefore, IsAsGoodBefore, best_granting, grants, is_better_here};
+ghost use Rattle.dutch_bracket.specs.declared.wish.Wish.{Wish};
+ghost use Rattle.dutch_bracket.specs.declared.wish.Wish.TheVariants.{LeftOver, Pair};
+ghost use Rattle.dutch_bracket.specs.Prelude.{Context, eligible_here, best_of_shape, grants};
+ghost use Rattle.dutch_choice.specs.Wishes.{ComesBefore, IsAsGoodBefore, best_granting, is_better_here};
 
 /// That two meet is granted exactly if they are one of an arrangement's pairs. That a player of the bracket is left
 /// over is granted exactly if they are one of its downfloaters. None of some candidates grants a wish exactly if each

@@ -15,9 +15,8 @@ pub mod laws;
 pub mod pass;
 pub mod passes;
 pub mod remembered;
-pub mod wish;
+mod ruled_out;
 
 pub use choice::{Choice, choose};
 pub use finder::Finder;
 pub use remembered::{Look, LookAhead};
-pub use wish::Wish;

@@ -3,9 +3,9 @@ ghost use Rattle.std.specs.Prelude.{◌≡◌};
 ghost use Rattle.dutch_bracket.specs.Prelude.{quality_in};
 ghost use Rattle.dutch_choice.specs.Aims.{aim_in, is_idle};
 
-use crate::wish::Wish;
 use dutch_bracket::quality::Quality;
 use dutch_bracket::shaped::ShapedBracket;
+use dutch_bracket::wish::Wish;
 use dutch_order::Candidate;
 
 /// The best candidate so far, with its quality.

@@ -12,10 +12,10 @@ ghost use Rattle.dutch_choice.specs.Passes.{wished_of};
 use crate::guide::Guide;
 use crate::pass::{Best, Pass, Search, is_idle};
 use crate::remembered::{Judge, judge_candidate};
-use crate::wish::is_wished;
 use dutch_bracket::eligible::{at_most, can_be_chosen};
 use dutch_bracket::greatest::Lister;
 use dutch_bracket::reached::{BracketKind, ByNumber};
+use dutch_bracket::wish::is_wished;
 use dutch_order::{Budget, Candidate, Stopped};
 use std::mem::take;
 
@@ -64,14 +64,14 @@ fn best_near<'a, G: Guide>(
 ) -> Result<(), Stopped>
     requires lists { ListsFor pass.now lister.old.listing }
     requires look { LooksFor pass.now judge.old.look }
-    requires guide { G.knows judge.old.guide pass.now.shaped.context.now pass.now.shaped.shape }
+    requires guide { G.knows judge.old.guide pass.now.shaped.context.now pass.now.shaped.shape pass.now.wish }
     ensures answer { MatchResult result
         (λ _. MatchOption judge.new.kept (near_of pass.now ≡ None)
         (IsBest pass.now.shaped.context.now (near_of pass.now)))
         (λ _. budget.new.used ≡ budget.new.limit) }
     ensures lists { ListsFor pass.now lister.new.listing }
     ensures look { LooksFor pass.now judge.new.look }
-    ensures guide { G.knows judge.new.guide pass.now.shaped.context.now pass.now.shaped.shape }
+    ensures guide { G.knows judge.new.guide pass.now.shaped.context.now pass.now.shaped.shape pass.now.wish }
     ensures spends { Spends budget.old budget.new }
 {
     lister.listing.restart(pass.shaped.shape);
@@ -100,13 +100,13 @@ fn best_by_aim<'a, G: Guide>(
 ) -> Result<(), Stopped>
     requires lists { ListsFor pass.now lister.old.listing }
     requires look { LooksFor pass.now judge.old.look }
-    requires guide { G.knows judge.old.guide pass.now.shaped.context.now pass.now.shaped.shape }
+    requires guide { G.knows judge.old.guide pass.now.shaped.context.now pass.now.shaped.shape pass.now.wish }
     ensures answer { MatchResult result
         (λ _. IfSome judge.new.kept (IsBest pass.now.shaped.context.now (wished_of pass.now)))
         (λ _. budget.new.used ≡ budget.new.limit) }
     ensures lists { ListsFor pass.now lister.new.listing }
     ensures look { LooksFor pass.now judge.new.look }
-    ensures guide { G.knows judge.new.guide pass.now.shaped.context.now pass.now.shaped.shape }
+    ensures guide { G.knows judge.new.guide pass.now.shaped.context.now pass.now.shaped.shape pass.now.wish }
     ensures spends { Spends budget.old budget.new }
 {
     if pass.aim.is_none() {
@@ -126,11 +126,11 @@ fn best_in_passes<G: Guide>(
     budget: &mut Budget,
 ) -> Result<(), Stopped>
     requires look { LooksFor pass.old judge.old.look }
-    requires guide { G.knows judge.old.guide pass.old.shaped.context.now pass.old.shaped.shape }
+    requires guide { G.knows judge.old.guide pass.old.shaped.context.now pass.old.shaped.shape pass.old.wish }
     ensures answer { MatchResult result (λ _. IsEnd pass.old judge.new.kept)
         (λ _. budget.new.used ≡ budget.new.limit) }
     ensures look { LooksFor pass.old judge.new.look }
-    ensures guide { G.knows judge.new.guide pass.old.shaped.context.now pass.old.shaped.shape }
+    ensures guide { G.knows judge.new.guide pass.old.shaped.context.now pass.old.shaped.shape pass.old.wish }
     ensures pass { SeeksTheSame pass.old pass.new }
     ensures spends { Spends budget.old budget.new }
 {
@@ -170,11 +170,11 @@ fn best_within<G: Guide>(
     budget: &mut Budget,
 ) -> Result<bool, Stopped>
     requires look { LooksFor pass.old judge.old.look }
-    requires guide { G.knows judge.old.guide pass.old.shaped.context.now pass.old.shaped.shape }
+    requires guide { G.knows judge.old.guide pass.old.shaped.context.now pass.old.shaped.shape pass.old.wish }
     ensures answer { MatchResult result (λ ended. ended ≡ true → IsEnd pass.old judge.new.kept)
         (λ _. budget.new.used ≡ budget.new.limit) }
     ensures look { LooksFor pass.old judge.new.look }
-    ensures guide { G.knows judge.new.guide pass.old.shaped.context.now pass.old.shaped.shape }
+    ensures guide { G.knows judge.new.guide pass.old.shaped.context.now pass.old.shaped.shape pass.old.wish }
     ensures pass { SeeksTheSame pass.old pass.new }
     ensures spends { Spends budget.old budget.new }
 {
@@ -197,11 +197,11 @@ fn best_by_weight<G: Guide>(
     budget: &mut Budget,
 ) -> Result<bool, Stopped>
     requires look { LooksFor pass.old judge.old.look }
-    requires guide { G.knows judge.old.guide pass.old.shaped.context.now pass.old.shaped.shape }
+    requires guide { G.knows judge.old.guide pass.old.shaped.context.now pass.old.shaped.shape pass.old.wish }
     ensures answer { MatchResult result (λ ended. ended ≡ true → IsEnd pass.old judge.new.kept)
         (λ _. budget.new.used ≡ budget.new.limit) }
     ensures look { LooksFor pass.old judge.new.look }
-    ensures guide { G.knows judge.new.guide pass.old.shaped.context.now pass.old.shaped.shape }
+    ensures guide { G.knows judge.new.guide pass.old.shaped.context.now pass.old.shaped.shape pass.old.wish }
     ensures pass { SeeksTheSame pass.old pass.new }
     ensures spends { Spends budget.old budget.new }
 {
@@ -223,7 +223,7 @@ pub fn best_in_time<G: Guide>(
     budget: &mut Budget,
 ) -> Result<(), Stopped>
     requires look { LooksFor pass.old judge.old.look }
-    requires guide { G.knows judge.old.guide pass.old.shaped.context.now pass.old.shaped.shape }
+    requires guide { G.knows judge.old.guide pass.old.shaped.context.now pass.old.shaped.shape pass.old.wish }
     ensures answer { MatchResult result (λ _. IsEnd pass.old judge.new.kept)
         (λ _. budget.new.used ≡ budget.new.limit) }
     ensures spends { Spends budget.old budget.new }

@@ -58,7 +58,7 @@ module _ (basis : Basis) (lower : List ℕ) (a : Arrangement) (of' : IsOf basis.
   arranged : IsIn a (arrangements (frame_of facts reached) shape)
   arranged = (legal_of facts reached shape a m).arranged
 
-  pub within : basis.reached.mdps ≤ length basis.reached.seats
+  within : basis.reached.mdps ≤ length basis.reached.seats
   within = subst (λ n. reached.mdps ≤ n) (length-map reached.seats (score_at facts)) of'.sound.within
 
   psd_by : (s1 : List ℕ) → IsFlat facts reached → s1 ≡ a.s1 → it.psd ≡ psd_with facts reached shape (residents_score facts reached) s1
@@ -72,7 +72,7 @@ module _ (basis : Basis) (lower : List ℕ) (a : Arrangement) (of' : IsOf basis.
   psd_at S2r lists flat h known = psd_by lists.s1 flat h.0
 
   -- C.6: the PSD is not lower
-  pub psd_holds : (filling : Filling) (lists : Arrangement) → BeginsAt filling lists a → (has_s1 filling || is_uniform basis.facts basis.reached basis.shape) ≡ true
+  psd_holds : (filling : Filling) (lists : Arrangement) → BeginsAt filling lists a → (has_s1 filling || is_uniform basis.facts basis.reached basis.shape) ≡ true
       → (t : Bool) → is_flat basis.facts basis.reached ≡ t
       → is_lower (quality_of basis.facts basis.reached lower a).psd (cond t
       (psd_with basis.facts basis.reached basis.shape (residents_score basis.facts basis.reached) (s1_by filling basis.shape (lists_by filling lists).s1))
@@ -119,7 +119,7 @@ module _ (basis : Basis) (lower : List ℕ) (a : Arrangement) (of' : IsOf basis.
       (more_miss_strongly facts reached shape (all_pairs reached.seats (fixed_lists b)) [] a within m
       (beside reached.seats (fixed_lists b) a pairs) (none_known (downfloaters facts reached a)))
 
-pub known_s1 : (basis : Basis) (b : Beginning) → is_known basis b ≡ true → (has_s1 b.filling || is_uniform basis.facts basis.reached basis.shape) ≡ true
+known_s1 : (basis : Basis) (b : Beginning) → is_known basis b ≡ true → (has_s1 b.filling || is_uniform basis.facts basis.reached basis.shape) ≡ true
 known_s1 basis b h = (and_parts (is_of_shape basis.reached basis.shape (fixed_lists b)) _ h).1
 
 -- so it is a floor

@@ -11,4 +11,3 @@ pub mod FreePlayers
 pub mod C10Lonely
 pub mod C07Outlook
 pub mod FloorOfBeginning
-pub mod FloorGiven

@@ -6,8 +6,6 @@ use Rattle.dutch_player.specs.Prelude.{Facts}
 use Rattle.dutch_bracket.specs.declared.shaped.ShapedBracket.{ShapedBracket}
 use Rattle.dutch_bracket.specs.Prelude.{HasNoBetter, IsOf, NextValue, Quality, Reached, candidates_of, is_better, quality_of}
 use Rattle.dutch_floors.specs.declared.outlook.Outlook.{Outlook}
-use Rattle.dutch_floors.specs.declared.premise.Premise.{Premise}
-use Rattle.dutch_floors.specs.Premises.{Holds}
 
 -- what floors stand on: a bracket of a field above lower seats, the shape of its arrangements, and what is known of the next bracket [own]
 pub record Basis : Type 0 where
@@ -48,11 +46,6 @@ module _ (basis : Basis) (b : Beginning) where
   -- no candidate with a beginning is better than a quality [C.6 to C.19; own]
   abbrev pub NoneBeats : Quality → Type 0
   NoneBeats floor = OfEachBehind (λ a. is_better (quality_of basis.facts basis.reached basis.lower a) floor ≡ false)
-
-  -- none for which a premise holds is better than a quality [with NoneBeats]
-  abbrev pub NoneGivenBeats : Premise → Quality → Type 0
-  NoneGivenBeats premise floor =
-      OfEachBehind (λ a. Holds basis.facts basis.reached premise a → is_better (quality_of basis.facts basis.reached basis.lower a) floor ≡ false)
 
   -- no candidate with a beginning has a better value of the next bracket than a given one [C.7; own]
   abbrev pub NoneHasBetterNext : NextValue → Type 0

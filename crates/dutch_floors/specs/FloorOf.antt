@@ -9,12 +9,10 @@ use Rattle.dutch_order.specs.declared.prefix.Filling.TheVariants.{S1, S2, S2r}
 use Rattle.dutch_order.specs.Prelude.{Arrangement, numbers_from, Beginning}
 use Rattle.dutch_sequence.specs.declared.numbers.TheConstants.{LIMIT}
 use Rattle.dutch_player.specs.Prelude.{Facts}
-use Rattle.dutch_bracket.specs.Prelude.{Quality, psd, Reached, Seated, seat_of, score_at, all_pairs, fixed, in_both, fixed_lists, is_of_shape, has_s1, wants, wants_firmly, lonely, psd_with, is_uniform, floor_over}
+use Rattle.dutch_bracket.specs.Prelude.{Quality, psd, Reached, Seated, seat_of, score_at, fixed, in_both, fixed_lists, is_of_shape, has_s1, wants, wants_firmly, lonely, psd_with, is_uniform, floor_over}
 use Rattle.dutch_floors.specs.Behind.{Basis}
 use Rattle.dutch_floors.specs.Outlooks.{awaited}
 use Rattle.dutch_floors.specs.declared.colour_floor.Wants.{Wants}
-use Rattle.dutch_floors.specs.declared.premise.Premise.{Premise}
-use Rattle.dutch_floors.specs.Premises.{seated_given}
 
 -- S1; the first one, if none is chosen
 abbrev pub s1_by : Filling → Shape → List ℕ → List ℕ
@@ -77,18 +75,9 @@ floor_by basis s1 more known =
     floor_over basis.facts (psd_over basis s1 known) (awaited basis.facts basis.reached basis.shape basis.outlook s1) more
     (more_in true basis.facts basis.reached basis.shape known) known
 
--- the same by these alone
-unfoldable pub floor_by_seats : Basis → List ℕ → Seated → Quality
-floor_by_seats basis s1 known = floor_by basis s1 (more_in false basis.facts basis.reached basis.shape known) known
-
 -- S1 of a beginning; the first one, if none is chosen [with IsOutlook]
 abbrev pub s1_of : Basis → Beginning → List ℕ
 s1_of basis b = s1_by b.filling basis.shape (fixed_lists b).s1
-
--- the floor of a beginning under a premise
-unfoldable pub floor_given : Basis → Premise → Beginning → Quality
-floor_given basis premise b =
-    floor_by_seats basis (s1_of basis b) (seated_given basis.facts basis.reached premise (all_pairs basis.reached.seats (fixed_lists b)))
 
 -- the floor of a beginning
 unfoldable pub floor_of : Basis → Beginning → Quality

@@ -1,7 +1,6 @@
--- What the contracts of dutch_floors name: `Behind` and `Premises` what floors promise, the others how they are counted.
+-- What the contracts of dutch_floors name: `Behind` what floors promise, the others how they are counted.
 pub mod GhostRules
 pub mod GhostValues
 pub mod Behind
 pub mod FloorOf
 pub mod Outlooks
-pub mod Premises

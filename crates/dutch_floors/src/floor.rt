@@ -9,13 +9,12 @@ ghost use Rattle.dutch_bracket.specs.Prelude.{IsOf, frame_of, floor_over, has_s1
 ghost use Rattle.dutch_bracket.specs.Prelude.{IsNoBetter};
 ghost use Rattle.dutch_floors.specs.Outlooks.{IsOutlook, IsOutlookFrom, awaited};
 ghost use Rattle.dutch_floors.specs.FloorOf.{AreWants, is_flat, is_known, residents_score, psd_over, more_by, s1_of};
-ghost use Rattle.dutch_floors.specs.FloorOf.{floor_by, floor_by_seats, floor_given, floor_of};
-ghost use Rattle.dutch_floors.specs.Behind.{IsBasisFor, NoneBeats, NoneGivenBeats, NoneHasBetterNext};
+ghost use Rattle.dutch_floors.specs.FloorOf.{floor_by, floor_of};
+ghost use Rattle.dutch_floors.specs.Behind.{IsBasisFor, NoneBeats, NoneHasBetterNext};
 
 use crate::colour_floor::{Wants, missed, missed_strong, more_missed, wants_in};
 use crate::lonely::lonely;
 use crate::outlook::{Outlook, is_flat, leaves_first};
-use crate::premise::{Premise, fill_given};
 use dutch_bracket::differences::fill_psd;
 use dutch_bracket::fixed_lists::{FixedLists, fill_fixed, fixed_lists, has_s1, is_of_shape};
 use dutch_bracket::psd_floor::{FlatShape, is_uniform};
@@ -239,21 +238,6 @@ impl<'a> Floors<'a> {
         fill_others(context.field(), seated, quality);
     }
 
-    /// Fills the floor by S1 and by what is known by seats alone.
-    #[tactic(auto, unfolding(crate::specs::FloorOf::floor_by_seats))]
-    fn fill_by_seats(&self, s1: &[u16], room: &mut Room)
-        requires few { length s1.now ≤ self.now.shape.mdps }
-        ensures { quality_in room.new.quality ≡ floor_by_seats self.now s1.now room.old.seated }
-    {
-        let more = more_missed(
-            self.shaped.context,
-            self.shape(),
-            &room.seated,
-            self.wants(false),
-        );
-        self.fill_over(s1, more, room);
-    }
-
     /// Whether a floor of a beginning is known. None is if its lists are not of the bracket and the shape, or if S1 is
     /// not chosen and it matters which one is.
     #[tactic(auto, using(crate::proofs::FloorLemmas::known_pairs, crate::proofs::FloorLemmas::s1_few))]
@@ -293,38 +277,11 @@ impl<'a> Floors<'a> {
         self.fill_known(prefix, room)
     }
 
-    /// Fills what is known by counts behind a beginning under a premise, if something is.
-    #[tactic(auto, unfolding(crate::specs::FloorOf::floor_given))]
-    fn fill_known_given(&self, premise: Premise, prefix: &Prefix<'_>, room: &mut Room) -> bool
-        ensures known { result ≡ true → is_known self.now prefix.now ≡ true }
-        ensures of { IsOf self.now.facts self.now.reached }
-        ensures outlook { IsOutlook self.now.facts self.now.reached self.now.lower self.now.shape self.now.outlook }
-        ensures value { result ≡ true → quality_in room.new.quality ≡ floor_given self.now premise prefix.now }
-    {
-        if !self.is_known(prefix) {
-            return false;
-        }
-        let lists = fixed_lists(prefix);
-        if !fill_given(self.shaped.context, &lists, premise, &mut room.seated) {
-            return false;
-        }
-        self.fill_by_seats(self.s1(prefix), room);
-        true
-    }
-
-    /// Fills a quality that no candidate with a beginning is better than for which a premise holds. A no says that none
-    /// is known.
-    pub fn floor_given(&self, premise: Premise, prefix: &Prefix<'_>, room: &mut Room) -> bool
-        ensures { result ≡ true → NoneGivenBeats self.now prefix.now premise (quality_in room.new.quality) }
-    {
-        self.fill_known_given(premise, prefix, room)
-    }
-
-    /// The quality that a first pass aims at, if all residents have one score: what a beginning with the first S1, and
-    /// what a premise gives beside it, promises up to C.11. Any aim serves: the choice among the candidates that it is
-    /// not better than is the choice of all.
+    /// The quality that a first pass aims at, if all residents have one score: what a beginning with the first S1
+    /// promises up to C.11. Any aim serves: the choice among the candidates that it is not better than is the choice of
+    /// all.
     #[tactic(auto, using(dutch_bracket::proofs::ShapeNumbers::first_length))]
-    pub fn aim(&self, premise: Option<Premise>) -> Option<Quality> {
+    pub fn aim(&self) -> Option<Quality> {
         if !self.flat {
             return None;
         }
@@ -335,15 +292,14 @@ impl<'a> Floors<'a> {
             s2r: &[],
         };
         let mut room = Room::default();
-        match premise {
-            Some(premise) => {
-                if !fill_given(self.shaped.context, &lists, premise, &mut room.seated) {
-                    return None;
-                }
-            }
-            None => fill_fixed(self.shaped.context, &lists, &mut room.seated),
-        }
-        self.fill_by_seats(&self.first, &mut room);
+        fill_fixed(self.shaped.context, &lists, &mut room.seated);
+        let more = more_missed(
+            self.shaped.context,
+            self.shape(),
+            &room.seated,
+            self.wants(false),
+        );
+        self.fill_over(&self.first, more, &mut room);
         Some(room.quality.with_the_worst_floats())
     }
 }

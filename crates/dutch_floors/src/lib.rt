@@ -11,4 +11,3 @@ mod ghost_value;
 mod ghosts;
 mod lonely;
 mod outlook;
-pub mod premise;

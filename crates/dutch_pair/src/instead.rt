@@ -6,8 +6,8 @@ ghost use Rattle.std.specs.Result.{MatchResult};
 ghost use Rattle.dutch_order.specs.Prelude.{MatchDrawn, Spends};
 ghost use Rattle.dutch_pair.specs.Lower.{above_lower};
 ghost use Rattle.dutch_pair.specs.Outcomes.{IsStage};
-ghost use Rattle.dutch_bracket.specs.Prelude.{candidates_in, eligible_in, shape_here, Decides};
-ghost use Rattle.dutch_choice.specs.Prelude.{NoneGrants, SomeGrants, grants, some_grants, with_mdps};
+ghost use Rattle.dutch_bracket.specs.Prelude.{candidates_in, eligible_in, shape_here, Decides, grants};
+ghost use Rattle.dutch_choice.specs.Prelude.{NoneGrants, SomeGrants, some_grants, with_mdps};
 ghost use Rattle.dutch_pair.specs.Instead.{IsInstead};
 
 use crate::lower::lower_of;
@@ -17,9 +17,9 @@ use dutch_bracket::fault::PairFault;
 use dutch_bracket::greatest::has_room;
 use dutch_bracket::quality::Quality;
 use dutch_bracket::shaped::ShapedBracket;
+use dutch_bracket::wish::Wish;
 use dutch_choice::barred::rules_out;
 use dutch_choice::finder::Finder;
-use dutch_choice::wish::Wish;
 use dutch_order::{Bound, Budget, Candidate, Candidates, Exchange, Prefix, Shape, Step, Stopped};
 use dutch_player::Field;
 use std::alloc::Global;
@@ -58,8 +58,7 @@ impl<'a> Bound for Wished<'a> {
     type Room = ();
 
     ghost use Rattle.std.specs.Prelude.{not};
-    ghost use Rattle.dutch_bracket.specs.Prelude.{frame_here, numbers_meet, number_may_be_left};
-    ghost use Rattle.dutch_choice.specs.Prelude.{grants};
+    ghost use Rattle.dutch_bracket.specs.Prelude.{frame_here, numbers_meet, number_may_be_left, grants};
 
     ghost frame = { λ w. frame_here w.shaped.context.now };
 

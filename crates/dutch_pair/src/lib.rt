@@ -31,11 +31,12 @@ mod stage;
 mod walk;
 
 pub use barrier::{Barrier, barrier_of, lacks_bye};
+pub use dutch_bracket::wish::Wish;
 pub use dutch_bracket::{
     Answer, BracketKind, ByNumber, ITEMS, Item, NextValue, Pair, PairFault, Quality, Reached,
     Seats, are_left, completes, is_next, seats, split_first_group,
 };
-pub use dutch_choice::{Choice, Finder, Look, LookAhead, Wish, choose};
+pub use dutch_choice::{Choice, Finder, Look, LookAhead, choose};
 pub use dutch_shape::lookahead;
 pub use instead::{Instead, best_instead};
 pub use items::who_counts;

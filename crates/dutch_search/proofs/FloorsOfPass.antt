@@ -5,10 +5,7 @@ use Rattle.dutch_order.specs.Prelude.{Arrangement, Begins, Beginning, IsIn}
 use Rattle.dutch_player.specs.Prelude.{Facts}
 use Rattle.dutch_bracket.specs.declared.shaped.ShapedBracket.{ShapedBracket}
 use Rattle.dutch_bracket.specs.Prelude.{HasNoBetter, NextValue, OfEachWithBeginning, Quality, Reached, candidates_of, is_better, quality_here, quality_of}
-use Rattle.dutch_floors.specs.Behind.{Basis, IsBasis, IsBasisFor, NoneBeats, NoneGivenBeats, NoneHasBetterNext}
-use Rattle.dutch_floors.specs.declared.premise.Premise.{Premise}
-use Rattle.dutch_floors.specs.Premises.{Holds}
-use Rattle.dutch_search.specs.Prelude.{HoldsHere}
+use Rattle.dutch_floors.specs.Behind.{Basis, IsBasis, IsBasisFor, NoneBeats, NoneHasBetterNext}
 
 from_basis : (facts : Facts) (reached : Reached) (lower : List ℕ) (shape : Shape) (basis : Basis) → IsBasis facts reached lower shape basis
     → (P : Facts → Reached → List ℕ → Shape → Type 0) → P basis.facts basis.reached basis.lower basis.shape → P facts reached lower shape
@@ -28,10 +25,6 @@ module _ (shaped : ShapedBracket) (basis : Basis) (is : IsBasisFor shaped basis)
 
   pub none_beats : (floor : Quality) → NoneBeats basis b floor → OfEachWithBeginning shaped b (λ a. is_better (quality_here shaped.context.now a) floor ≡ false)
   none_beats floor = of_each (λ fs st low a. is_better (quality_of fs st low a) floor ≡ false)
-
-  pub none_given_beats : (premise : Premise) (floor : Quality) → NoneGivenBeats basis b premise floor
-      → OfEachWithBeginning shaped b (λ a. HoldsHere shaped.context.now premise a → is_better (quality_here shaped.context.now a) floor ≡ false)
-  none_given_beats premise floor = of_each (λ fs st low a. Holds fs st premise a → is_better (quality_of fs st low a) floor ≡ false)
 
   pub none_has_better_next : (other : NextValue) → NoneHasBetterNext basis b other → OfEachWithBeginning shaped b (λ a. HasNoBetter (quality_here shaped.context.now a) other)
   none_has_better_next other = of_each (λ fs st low a. HasNoBetter (quality_of fs st low a) other)

@@ -1,12 +1,8 @@
 -- What a search for a bracket's choice stands on. Only private functions' clauses cite these.
 use Rattle.std.specs.Prelude.{ℕ, ◌+◌, ◌/◌, if◌then◌else◌, Bool, Option}
 use Rattle.std.specs.Option.{ForSome}
-use Rattle.dutch_order.specs.Prelude.{Arrangement}
-use Rattle.dutch_bracket.specs.Prelude.{Context}
 use Rattle.dutch_choice.specs.declared.pass.Pass.{Pass}
 use Rattle.dutch_floors.specs.Behind.{IsBasisFor}
-use Rattle.dutch_floors.specs.declared.premise.Premise.{Premise}
-use Rattle.dutch_floors.specs.Premises.{Holds}
 use Rattle.dutch_weights.specs.Prelude.{AreOf, Weighed}
 use Rattle.dutch_search.specs.declared.both.BothFloors.{BothFloors}
 use Rattle.dutch_search.specs.declared.both.TheConstants.{PAIRS_FOR_A_STEP}
@@ -15,14 +11,10 @@ use Rattle.dutch_search.specs.declared.both.TheConstants.{PAIRS_FOR_A_STEP}
 abbrev pub price : Bool → ℕ → ℕ
 price is_long pairs = if is_long then 1 + pairs / PAIRS_FOR_A_STEP else 1
 
--- floors by weight, if there are any, are those of the bracket and the shape of a pass
+-- floors by weight, if there are any, are those of the bracket, the shape and the wish of a pass
 abbrev pub HasWeights : Pass → Option Weighed → Type 0
-HasWeights pass weights = ForSome weights (AreOf pass.shaped.context.now pass.shaped.shape)
+HasWeights pass weights = ForSome weights (AreOf pass.shaped.context.now pass.shaped.shape pass.wish)
 
 -- so are floors of both kinds
 abbrev pub AreFor : Pass → BothFloors → Type 0
 AreFor pass floors = IsBasisFor pass.shaped floors.counts × HasWeights pass floors.weights
-
--- it is so in a candidate of a bracket
-abbrev pub HoldsHere : Context → Premise → Arrangement → Type 0
-HoldsHere context premise a = Holds context.facts context.reached premise a

@@ -3,12 +3,10 @@
 // Whoever finds a matching is not trusted, and nothing is promised of an aim: a pass that finds no candidate near it is
 // made again without one.
 use crate::both::BothFloors;
-use crate::skipper::premise_with;
 use dutch_bracket::context::Context;
 use dutch_bracket::differences::put;
 use dutch_bracket::quality::{NextValue, Quality, fill_seated};
 use dutch_bracket::seated::{Pair, Seated, difference_down};
-use dutch_choice::wish::Wish;
 use dutch_order::{LIMIT, Numbers};
 use dutch_weights::asking::Matched;
 use dutch_weights::unpaired_graph::is_in;
@@ -115,15 +113,14 @@ impl<'a> BothFloors<'a> {
         }
     }
 
-    /// What a pass aims at: the quality of a matching, if one was found that has as many pairs as the shape, and
-    /// nothing is wished; else what floors by counts tell.
-    pub(crate) fn aim_for(&self, wish: Option<Wish>, found: &Option<Matched>) -> Option<Quality> {
-        let (context, pairs) = (self.shaped.context, self.shaped.shape.pairs);
-        match (found, wish) {
-            (Some(matched), None) if matched.pairs.len() == pairs => {
-                Some(self.aim_by(context, matched))
+    /// What a pass aims at: the quality of a matching, if one was found that has as many pairs as the shape; else what
+    /// floors by counts tell.
+    pub(crate) fn aim_for(&self, found: &Option<Matched>) -> Option<Quality> {
+        match found {
+            Some(matched) if matched.pairs.len() == self.shaped.shape.pairs => {
+                Some(self.aim_by(self.shaped.context, matched))
             }
-            _ => self.counts.aim(premise_with(context, wish)),
+            _ => self.counts.aim(),
         }
     }
 }

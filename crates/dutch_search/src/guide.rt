@@ -6,20 +6,18 @@ ghost use Rattle.std.specs.Result.{MatchResult};
 ghost use Rattle.dutch_order.specs.Prelude.{MatchStep, Spends};
 ghost use Rattle.dutch_choice.specs.Prelude.{Draws, ListsFor, PassesUnwanted};
 ghost use Rattle.dutch_search.specs.Searching.{AreFor, price};
-ghost use Rattle.dutch_weights.specs.Prelude.{AreOf};
 
 use crate::bars::{Skipper, bars_of};
 use crate::both::{BothFloors, PAIRS_FOR_A_STEP, is_weighed};
 use crate::last_beginning::LastBeginning;
-use crate::skipper::premise_with;
 use cheapest::LOOKS_IN_A_STEP;
 use dutch_bracket::greatest::Lister;
 use dutch_bracket::quality::Quality;
 use dutch_bracket::reached::ByNumber;
 use dutch_bracket::spending::spend;
+use dutch_bracket::wish::Wish;
 use dutch_choice::guide::{Guide, Workroom};
 use dutch_choice::pass::Search;
-use dutch_choice::wish::Wish;
 use dutch_order::{BoundWithRoom, Budget, Shape, Step, Stopped};
 use dutch_weights::asking::FloorRequest;
 use dutch_weights::scope::Scope;
@@ -103,15 +101,13 @@ impl<'a> BothFloors<'a> {
     fn weigh_by(
         &mut self,
         weights: WeightFloors<'a>,
-        wish: Option<Wish>,
         budget: &mut Budget,
     ) -> Result<Option<Quality>, Stopped>
-        requires of { AreOf self.old.shaped.context.now self.old.shaped.shape weights }
         requires none { self.old.weights ≡ None }
         ensures context { self.new.shaped.context.now ≡ self.old.shaped.context.now }
         ensures shape { self.new.shaped.shape ≡ self.old.shaped.shape }
         ensures counts { self.new.counts ≡ self.old.counts }
-        ensures weights { ForSome self.new.weights (AreOf self.old.shaped.context.now self.old.shaped.shape) }
+        ensures weights { ForSome self.new.weights (λ w. w ≡ weights.entry) }
         ensures stopped { MatchResult result (λ _. Unit {0}) (λ _. budget.new.used ≡ budget.new.limit) }
         ensures spends { Spends budget.old budget.new }
     {
@@ -124,7 +120,7 @@ impl<'a> BothFloors<'a> {
         let found = weights.ask(&all, budget)?;
         weights.note(before, budget.used);
         self.weights = Some(weights);
-        Ok(self.aim_for(wish, &found))
+        Ok(self.aim_for(&found))
     }
 
     /// Behind a turn, where steps are left: floors by weight are asked for more, if there are any.
@@ -164,9 +160,9 @@ impl<'a> Guide for BothFloors<'a> {
     ghost use Rattle.dutch_floors.specs.Behind.{IsBasis};
     ghost use Rattle.dutch_weights.specs.Prelude.{AreOf};
 
-    ghost knows = { λ floors context shape. (floors.shaped.context.now ≡ context) × ((floors.shaped.shape ≡ shape)
+    ghost knows = { λ floors context shape wish. (floors.shaped.context.now ≡ context) × ((floors.shaped.shape ≡ shape)
         × (IsBasis context.facts context.reached context.lower shape floors.counts
-        × ForSome floors.weights (AreOf context shape))) };
+        × ForSome floors.weights (AreOf context shape wish))) };
 
     fn draw(
         &mut self,
@@ -209,10 +205,10 @@ impl<'a> Guide for BothFloors<'a> {
         if is_weighed(context, next) {
             spend((count * count) as u64 / LOOKS_IN_A_STEP, budget)?;
             // (where memory is refused or a weight does not fit, no floors are found)
-            if let Ok(Some(weights)) = WeightFloors::weighed(context, shape, next) {
-                return self.weigh_by(weights, wish, budget);
+            if let Ok(Some(weights)) = WeightFloors::weighed(context, shape, wish, next) {
+                return self.weigh_by(weights, budget);
             }
         }
-        Ok(self.counts.aim(premise_with(context, wish)))
+        Ok(self.counts.aim())
     }
 }

@@ -4,60 +4,22 @@
 // A candidate is of no interest if it does not grant what is wished, if the aim of the pass is better than it, or if it
 // is not better than the candidate that is kept. The first is true of each candidate with a beginning that rules the
 // wish out. The others are true of each candidate with a beginning if they are true of its floor, a quality that none
-// of these candidates is better than. With a wish, a floor is enough that holds only for those that grant it: it counts
-// the pair that is wished, or the one who is to go down, from the first question on.
-ghost use Rattle.std.specs.Prelude.{◌≡◌, ◌⊎◌, IfSome, true, false};
-ghost use Rattle.dutch_order.specs.Prelude.{Arrangement};
+// of these candidates is better than. With a wish, a floor is enough that holds only for those that grant it, as floors
+// by weight do.
+ghost use Rattle.std.specs.Prelude.{◌≡◌, true, false};
 ghost use Rattle.dutch_bracket.specs.Prelude.{quality_here, HasNoBetter, is_better, next_in, quality_in};
-ghost use Rattle.dutch_floors.specs.Premises.{turned};
-ghost use Rattle.dutch_choice.specs.Prelude.{IsIdle, IsIdleIfFit, grants, is_unwanted_to};
-ghost use Rattle.dutch_search.specs.Searching.{HoldsHere};
+ghost use Rattle.dutch_choice.specs.Prelude.{IsIdle, IsIdleIfOpen, is_unwanted_to};
 ghost use Rattle.dutch_search.specs.Skips.{HasNoBetterNext, IsBehindAim, IsBehindKept, OfEach, OfEachWith, Weighs};
 ghost use Rattle.dutch_search.specs.Skips.{context_of};
 
 use crate::bars::Skipper;
 use crate::last_beginning::LastBeginning;
 use dual::Wide;
-use dutch_bracket::context::Context;
 use dutch_bracket::quality::{Quality, Room};
 use dutch_choice::barred::is_barred;
 use dutch_choice::guide::Workroom;
 use dutch_choice::pass::is_idle;
-use dutch_choice::wish::Wish;
-use dutch_floors::premise::Premise;
 use dutch_order::{Bound, Exchange, Prefix};
-
-/// What holds for each candidate that grants a wish, or for a pair in its order or in the other one. There is none
-/// if the wish names a number that the bracket does not have.
-#[tactic(auto, using(crate::proofs::PremiseOfWish::they_meet, crate::proofs::PremiseOfWish::goes_down))]
-pub(crate) fn premise_of_wish(context: &Context<'_>, wish: Wish) -> Option<Premise>
-    ensures { IfSome result (λ premise. (a : Arrangement) → grants wish a ≡ true
-        → HoldsHere context.now premise a ⊎ HoldsHere context.now (turned premise) a) }
-{
-    let reached = context.reached();
-    match wish {
-        Wish::Pair(p, q) => {
-            if !reached.has(p) || !reached.has(q) {
-                return None;
-            }
-            Some(Premise::Meet(reached.seat(p), reached.seat(q)))
-        }
-        Wish::LeftOver(p) => {
-            if !reached.has(p) {
-                return None;
-            }
-            Some(Premise::Down(reached.seat(p)))
-        }
-    }
-}
-
-/// The same if there may be no wish.
-pub(crate) fn premise_with(context: &Context<'_>, wish: Option<Wish>) -> Option<Premise> {
-    match wish {
-        Some(wish) => premise_of_wish(context, wish),
-        None => None,
-    }
-}
 
 impl<'a, 'k> Skipper<'a, 'k> {
     /// Fills a quality that no candidate with a beginning is better than. No says that none is known.
@@ -66,15 +28,6 @@ impl<'a, 'k> Skipper<'a, 'k> {
             (λ a. is_better (quality_here (context_of self.now) a) (quality_in room.new.quality) ≡ false) }
     {
         self.counts.floor(prefix, room)
-    }
-
-    /// The same of a candidate for which a premise holds.
-    fn fill_floor_given(&self, premise: Premise, prefix: &Prefix<'_>, room: &mut Room) -> bool
-        ensures { result ≡ true → OfEach self.now prefix.now
-            (λ a. HoldsHere (context_of self.now) premise a
-            → is_better (quality_here (context_of self.now) a) (quality_in room.new.quality) ≡ false) }
-    {
-        self.counts.floor_given(premise, prefix, room)
     }
 
     /// Whether no candidate with a beginning has a better value of the next bracket than a quality says (C.7). A no says
@@ -86,21 +39,9 @@ impl<'a, 'k> Skipper<'a, 'k> {
         self.counts.has_no_better_next(prefix, quality)
     }
 
-    /// Whether no candidate with a beginning for which a premise holds is of interest.
+    /// Whether no candidate with a beginning is of interest by what is known by counts.
     #[tactic(auto, using(dutch_choice::proofs::AimLemmas::idle_floor))]
-    fn is_idle_given(&self, premise: Premise, prefix: &Prefix<'_>, room: &mut Room) -> bool
-        ensures { result ≡ true → OfEach self.now prefix.now
-            (λ a. HoldsHere (context_of self.now) premise a → IsIdle self.now.search a) }
-    {
-        if !self.fill_floor_given(premise, prefix, room) {
-            return false;
-        }
-        is_idle(&room.quality, &self.search.pass.aim, self.search.kept)
-    }
-
-    /// Whether no candidate with a beginning is of interest, whatever it grants.
-    #[tactic(auto, using(dutch_choice::proofs::AimLemmas::idle_floor))]
-    fn is_idle_all(&self, prefix: &Prefix<'_>, room: &mut Room) -> bool
+    fn is_idle_by_counts(&self, prefix: &Prefix<'_>, room: &mut Room) -> bool
         ensures { result ≡ true → OfEach self.now prefix.now (IsIdle self.now.search) }
     {
         if !self.fill_floor(prefix, room) {
@@ -150,10 +91,10 @@ impl<'a, 'k> Skipper<'a, 'k> {
         bar.is_above(least) || (bar.is_reached(least) && self.knows_next(prefix, &best.quality))
     }
 
-    /// Whether no candidate with a beginning that can be chosen is of interest by what all of them weigh at least by
-    /// one of the floors.
+    /// Whether no candidate with a beginning that can be chosen and grants what is wished is of interest by what all of
+    /// them weigh at least by one of the floors.
     fn is_idle_by(&self, place: usize, prefix: &Prefix<'_>) -> bool
-        ensures { result ≡ true → OfEach self.now prefix.now (IsIdleIfFit self.now.search) }
+        ensures { result ≡ true → OfEach self.now prefix.now (IsIdleIfOpen self.now.search) }
     {
         let Some(weights) = self.weights else {
             return false;
@@ -164,9 +105,9 @@ impl<'a, 'k> Skipper<'a, 'k> {
         self.is_behind_kept(prefix, least) || self.is_behind_aim(prefix, least)
     }
 
-    /// Whether no candidate with a beginning that can be chosen is of interest by what all of them weigh at least.
+    /// The same by any of the floors.
     fn is_idle_by_weight(&self, prefix: &Prefix<'_>) -> bool
-        ensures { result ≡ true → OfEach self.now prefix.now (IsIdleIfFit self.now.search) }
+        ensures { result ≡ true → OfEach self.now prefix.now (IsIdleIfOpen self.now.search) }
     {
         let Some(weights) = self.weights else {
             return false;
@@ -181,10 +122,9 @@ impl<'a, 'k> Skipper<'a, 'k> {
         false
     }
 
-    /// Whether no candidate with a beginning that can be chosen, and with such an S1R, is of interest by one of the
-    /// floors.
+    /// The same of the candidates with such an S1R, by one of the floors.
     fn is_idle_with(&self, place: usize, prefix: &Prefix<'_>, exchange: &Exchange<'_>) -> bool
-        ensures { result ≡ true → OfEachWith self.now prefix.now exchange.now (IsIdleIfFit self.now.search) }
+        ensures { result ≡ true → OfEachWith self.now prefix.now exchange.now (IsIdleIfOpen self.now.search) }
     {
         let Some(weights) = self.weights else {
             return false;
@@ -195,10 +135,9 @@ impl<'a, 'k> Skipper<'a, 'k> {
         self.is_behind_kept(prefix, least) || self.is_behind_aim(prefix, least)
     }
 
-    /// Whether no candidate with a beginning that can be chosen, and with such an S1R, is of interest by a floor that
-    /// counts the order of S1R.
+    /// The same by any of the floors that counts the order of S1R.
     fn is_idle_by_order(&self, prefix: &Prefix<'_>, exchange: &Exchange<'_>) -> bool
-        ensures { result ≡ true → OfEachWith self.now prefix.now exchange.now (IsIdleIfFit self.now.search) }
+        ensures { result ≡ true → OfEachWith self.now prefix.now exchange.now (IsIdleIfOpen self.now.search) }
     {
         let Some(weights) = self.weights else {
             return false;
@@ -209,21 +148,6 @@ impl<'a, 'k> Skipper<'a, 'k> {
             }
         }
         false
-    }
-
-    /// Whether no candidate with a beginning that grants what is wished is of interest.
-    fn is_idle_granted(&self, prefix: &Prefix<'_>, room: &mut Room) -> bool
-        ensures { result ≡ true → OfEach self.now prefix.now (λ a. is_unwanted_to self.now.search a ≡ true) }
-    {
-        let pass = self.search.pass;
-        let Some(wish) = pass.wish else {
-            return false;
-        };
-        let Some(premise) = premise_of_wish(pass.shaped.context, wish) else {
-            return false;
-        };
-        self.is_idle_given(premise, prefix, room)
-            && self.is_idle_given(premise.turned(), prefix, room)
     }
 }
 
@@ -244,7 +168,7 @@ impl<'a, 'k> Bound for Skipper<'a, 'k> {
 
     ghost is_unwanted = { λ s. is_unwanted_to s.search };
 
-    #[tactic(auto, using(dutch_choice::proofs::AimLemmas::unwished_is_unwanted, dutch_choice::proofs::AimLemmas::idle_is_unwanted, dutch_choice::proofs::AimLemmas::idle_if_fit_is_unwanted), unfolding(dutch_bracket::specs::Brackets::candidates_of))]
+    #[tactic(auto, using(dutch_choice::proofs::AimLemmas::unwished_is_unwanted, dutch_choice::proofs::AimLemmas::idle_is_unwanted, dutch_choice::proofs::AimLemmas::idle_if_open_is_unwanted), unfolding(dutch_bracket::specs::Brackets::candidates_of))]
     fn cannot_win(&self, prefix: &Prefix<'_>, work: &mut Workroom<LastBeginning>) -> bool {
         if is_barred(self.search.pass, prefix) {
             return true;
@@ -256,12 +180,10 @@ impl<'a, 'k> Bound for Skipper<'a, 'k> {
         if self.search.pass.aim.is_none() && self.search.kept.is_none() {
             return false;
         }
-        self.is_idle_by_weight(prefix)
-            || self.is_idle_all(prefix, &mut work.room)
-            || self.is_idle_granted(prefix, &mut work.room)
+        self.is_idle_by_weight(prefix) || self.is_idle_by_counts(prefix, &mut work.room)
     }
 
-    #[tactic(auto, using(dutch_choice::proofs::AimLemmas::idle_if_fit_is_unwanted), unfolding(dutch_bracket::specs::Brackets::candidates_of))]
+    #[tactic(auto, using(dutch_choice::proofs::AimLemmas::idle_if_open_is_unwanted), unfolding(dutch_bracket::specs::Brackets::candidates_of))]
     fn cannot_win_with(
         &self,
         prefix: &Prefix<'_>,

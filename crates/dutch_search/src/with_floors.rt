@@ -5,17 +5,16 @@ ghost use Rattle.dutch_order.specs.Prelude.{Spends};
 ghost use Rattle.dutch_floors.specs.Behind.{IsBasisFor};
 
 use crate::both::BothFloors;
-use crate::skipper::premise_with;
 use dutch_bracket::eligible::at_most;
 use dutch_bracket::fault::PairFault;
 use dutch_bracket::reached::Seats;
 use dutch_bracket::shaped::ShapedBracket;
+use dutch_bracket::wish::Wish;
 use dutch_choice::finder::Finder;
 use dutch_choice::guide::Workroom;
 use dutch_choice::pass::{Best, Pass};
 use dutch_choice::passes::best_in_time;
 use dutch_choice::remembered::{Judge, look_below};
-use dutch_choice::wish::Wish;
 use dutch_floors::floor::Floors;
 use dutch_order::{Budget, Step, Stopped};
 
@@ -54,7 +53,7 @@ impl Finder for WithFloors {
         let mut pass = Pass {
             shaped: *shaped,
             wish,
-            aim: counts.aim(premise_with(shaped.context, wish)),
+            aim: counts.aim(),
         };
         let mut judge = Judge {
             look,

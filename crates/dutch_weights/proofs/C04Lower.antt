@@ -1,6 +1,6 @@
 -- In the penultimate bracket those whom a candidate leaves over can be paired out with all lower players, if it can be chosen (C.04.3 C.4). So
 -- its pairs and those of the rest are a matching of all these players, which costs no more than the candidate weighs.
-use Rattle.std.proofs.Common.{◌≡◌, ℕ, ◌+◌, ◌-◌, ◌<◌, ◌≤◌, Bool, true, false, not, cond, ◌||◌, nat_lt, nat_le, List, [], ◌∷◌, ◌++◌, map, length, get_or, sum_by, refl, ap, ◌∙◌, arith}
+use Rattle.std.proofs.Common.{◌≡◌, ℕ, ◌+◌, ◌-◌, ◌<◌, ◌≤◌, Bool, true, false, not, cond, ◌||◌, nat_lt, nat_le, List, [], ◌∷◌, ◌++◌, map, length, get_or, sum_by, Option, refl, ap, ◌∙◌, arith}
 use Rattle.std.specs.Prelude.{◌%◌, ◌^◌}
 use Rattle.std.specs.List.{AllByRecursion}
 use Rattle.std.proofs.lemmas.Bool.{and_from, and_parts, or_left, or_right}
@@ -15,10 +15,11 @@ use Rattle.dutch_order.specs.Prelude.{Arrangement, Fits, down, numbers_from, IsI
 use Rattle.dutch_sequence.proofs.Lists.{map-numbers_from}
 use Rattle.dutch_sequence.proofs.Members.{length-numbers, numbers-append}
 use Rattle.dutch_player.specs.Prelude.{Facts}
+use Rattle.dutch_bracket.specs.declared.wish.Wish.{Wish}
 use Rattle.dutch_weights.specs.declared.scoped.Reach.TheVariants.{Lower}
 use Rattle.dutch_bracket.specs.Completion.{Completable, MayBeLeftOut}
-use Rattle.dutch_bracket.specs.Prelude.{fixed_lists, IsOf, Reached, frame_of, candidates_of, completable, downfloaters, quality_of, AllNumbers, seat_of, seats_may_be_left, seats_meet, number_pairs}
-use Rattle.dutch_weights.specs.Prelude.{Covers, Scope, may_stay, Order, Scoped, any_seat, both_go, both_weigh, bracket_costs, costs_in, goes_down, going_weight, is_inside, least_of, lower_costs, may_pair_out, side_in, added_in}
+use Rattle.dutch_bracket.specs.Prelude.{fixed_lists, IsOf, Reached, frame_of, candidates_of, completable, downfloaters, quality_of, AllNumbers, seat_of, seats_may_be_left, seats_meet, number_pairs, is_wished}
+use Rattle.dutch_weights.specs.Prelude.{Covers, Scope, may_stay, Order, Scoped, any_seat, both_go, both_weigh, bracket_costs, costs_in, goes_down, going_weight, is_inside, least_of, lower_costs, may_pair_out, side_in, added_in, stays_in}
 use Rattle.dutch_weighing.specs.Prelude.{Scale, weight_of, weighing}
 use Rattle.dutch_bracket.proofs.AllLemmas.{all_join}
 use Rattle.dutch_bracket.proofs.ArrangementParts.{numbers_above}
@@ -48,9 +49,9 @@ no_more : (t : Bool) (x y : ℕ) → cond t (x + y) x ≤ x + y
 no_more true x y = omega arith
 no_more false x y = omega arith
 
-module _ (facts : Facts) (reached : Reached) (scale : Scale) (lower : List ℕ) (scope : Scope) (order : Order) where
+module _ (facts : Facts) (reached : Reached) (scale : Scale) (lower : List ℕ) (scope : Scope) (wish : Option Wish) (order : Order) where
   abbrev s : Scoped
-  s = record { weighing = record { facts = facts; reached = reached; lower = lower; scale = scale }; scope = scope; reach = Lower; order = order }
+  s = record { weighing = record { facts = facts; reached = reached; lower = lower; scale = scale }; scope = scope; wish = wish; reach = Lower; order = order }
 
   -- the numbers of the lower players
   abbrev lowers : List ℕ
@@ -93,7 +94,7 @@ module _ (facts : Facts) (reached : Reached) (scale : Scale) (lower : List ℕ) 
 
   lowers_go : AllByRecursion Goes lowers
   lowers_go =
-      all_so (λ v. length reached.seats < v) Goes (λ v h. ap (λ t. not t || may_stay (side_in s v)) (outside v h)) lowers
+      all_so (λ v. length reached.seats < v) Goes (λ v h. ap (λ t. not t || stays_in s v) (outside v h)) lowers
       (numbers_above (length reached.seats) (1 + length reached.seats) (length lower) (omega arith))
 
   lowers_weigh : sum_by (going_weight s) lowers ≡ 0
@@ -117,18 +118,18 @@ module _ (facts : Facts) (reached : Reached) (scale : Scale) (lower : List ℕ) 
       omega (arith, going, no_more (nat_lt (going_weight s u + going_weight s v) (2 ^ 512)) (going_weight s u) (going_weight s v))
 
   module _ (shape : Shape) (a : Arrangement) (of' : IsOf facts reached) (fits : Fits (frame_of facts reached) shape)
-      (m : IsIn a (candidates_of facts reached shape)) (b : Beginning) (begins : Begins b a) (covers : Covers scope b) where
+      (m : IsIn a (candidates_of facts reached shape)) (b : Beginning) (begins : Begins b a) (covers : Covers scope b) (granted : is_wished wish a ≡ true) where
     abbrev left : List ℕ
     left = down (frame_of facts reached) a
 
     -- the pairs of a candidate in the bracket
     inside : IsMatching (bracket_costs s) (numbers_from 1 (length reached.seats)) (number_pairs a) left
-    inside = is_matching_in facts reached scale lower shape a of' fits m b begins scope covers order
+    inside = is_matching_in facts reached scale lower shape a of' fits m b begins scope covers wish granted order
 
     left_goes : AllByRecursion Goes left
     left_goes =
         all_so (λ v. (bracket_costs s).may_be_left v ≡ true) Goes
-        (λ v may. or_right (not (is_inside s v)) (may_stay (side_in s v)) (and_parts (may_stay (side_in s v)) _ may).0) left
+        (λ v may. or_right (not (is_inside s v)) (stays_in s v) (and_parts (stays_in s v) _ may).0) left
         (one_by_one (λ v. (bracket_costs s).may_be_left v ≡ true) left inside.may_be_left)
 
     abbrev Pairs : List ℕ → Type 0

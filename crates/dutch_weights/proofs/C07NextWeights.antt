@@ -15,10 +15,11 @@ use Rattle.dutch_order.specs.Prelude.{Arrangement, Fits, down, numbers_from, IsI
 use Rattle.dutch_sequence.proofs.Members.{length-numbers, numbers-append}
 use Rattle.dutch_sequence.proofs.Orders.{member_has}
 use Rattle.dutch_player.specs.Prelude.{Facts}
+use Rattle.dutch_bracket.specs.declared.wish.Wish.{Wish}
 use Rattle.dutch_bracket.specs.declared.reached.BracketKind.TheVariants.{Ordinary}
 use Rattle.dutch_weights.specs.declared.scoped.Reach.TheVariants.{Next}
-use Rattle.dutch_bracket.specs.Prelude.{fixed_lists, IsNext, GoesBelow, JoinsBelow, MayPairBelow, count_below, group_below, score_below, seat_below, NextValue, Quality, IsAbove, Reached, frame_of, is_number, numbers_meet, candidates_of, quality_of, difference, difference_down, score_at, number_pairs}
-use Rattle.dutch_weights.specs.Prelude.{Covers, Scope, is_joined, may_stay, Order, Scoped, are_inside, both_go, bracket_costs, costs_in, goes_down, is_inside, is_number_below, may_meet_below, next_costs, pair_weight_below, side_in, added_in}
+use Rattle.dutch_bracket.specs.Prelude.{fixed_lists, IsNext, GoesBelow, JoinsBelow, MayPairBelow, count_below, group_below, score_below, seat_below, NextValue, Quality, IsAbove, Reached, frame_of, is_number, numbers_meet, candidates_of, quality_of, difference, difference_down, score_at, number_pairs, is_wished}
+use Rattle.dutch_weights.specs.Prelude.{Covers, Scope, is_joined, may_stay, Order, Scoped, are_inside, both_go, bracket_costs, costs_in, goes_down, is_inside, is_number_below, may_meet_below, next_costs, pair_weight_below, side_in, added_in, joins_in, stays_in}
 use Rattle.dutch_weighing.specs.Prelude.{IsNextScale, IsScaleFor, NextScale, Scale, alone_by, weight_below, weight_of, weighing, alone_weight, met_weight, own_weight}
 use Rattle.dutch_bracket.proofs.AllLemmas.{all_join}
 use Rattle.dutch_bracket.proofs.ArrangementParts.{numbers_above}
@@ -61,9 +62,9 @@ pairs_same f g (x ∷ xs) all = omega (arith, sum_by-cons f x xs, sum_by-cons g 
 at_most : (x y : ℕ) → (x ≤ y) ⊎ (y < x)
 at_most x y = grind arith
 
-module _ (facts : Facts) (reached : Reached) (scale : Scale) (lower : List ℕ) (scope : Scope) (order : Order) where
+module _ (facts : Facts) (reached : Reached) (scale : Scale) (lower : List ℕ) (scope : Scope) (wish : Option Wish) (order : Order) where
   abbrev s : Scoped
-  s = record { weighing = record { facts = facts; reached = reached; lower = lower; scale = scale }; scope = scope; reach = Next; order = order }
+  s = record { weighing = record { facts = facts; reached = reached; lower = lower; scale = scale }; scope = scope; wish = wish; reach = Next; order = order }
 
   abbrev n : ℕ
   n = length reached.seats
@@ -168,7 +169,7 @@ module _ (facts : Facts) (reached : Reached) (scale : Scale) (lower : List ℕ) 
     ]
 
     module _ (shape : Shape) (a : Arrangement) (fits : Fits (frame_of facts reached) shape) (m : IsIn a (candidates_of facts reached shape))
-        (b : Beginning) (begins : Begins b a) (covers : Covers scope b) where
+        (b : Beginning) (begins : Begins b a) (covers : Covers scope b) (granted : is_wished wish a ≡ true) where
       abbrev left : List ℕ
       left = down (frame_of facts reached) a
 
@@ -177,17 +178,17 @@ module _ (facts : Facts) (reached : Reached) (scale : Scale) (lower : List ℕ) 
 
       -- the pairs of a candidate in the bracket
       inside : IsMatching (bracket_costs s) (numbers_from 1 n) (number_pairs a) left
-      inside = is_matching_in facts reached scale lower shape a above.bracket fits m b begins scope covers order
+      inside = is_matching_in facts reached scale lower shape a above.bracket fits m b begins scope covers wish granted order
 
       left_goes : AllByRecursion Goes left
       left_goes =
           all_so (λ v. (bracket_costs s).may_be_left v ≡ true) Goes
-          (λ v may. or_right (not (is_inside s v)) (may_stay (side_in s v)) (and_parts (may_stay (side_in s v)) _ may).0) left
+          (λ v may. or_right (not (is_inside s v)) (stays_in s v) (and_parts (stays_in s v) _ may).0) left
           (one_by_one (λ v. (bracket_costs s).may_be_left v ≡ true) left inside.may_be_left)
 
       goes : (v : ℕ) → GoesBelow facts reached a v → Goes v
       goes v (inl member) = member_has Goes left left_goes v member
-      goes v (inr beyond) = ap (λ t. not t || may_stay (side_in s v)) (outside v beyond)
+      goes v (inr beyond) = ap (λ t. not t || stays_in s v) (outside v beyond)
 
       some_of : (v : ℕ) → GoesBelow facts reached a v → 0 < v
       some_of v (inl member) = (member_has (λ x. (0 < x) × (x ≤ n)) left (down_numbers facts reached a) v member).0
@@ -196,7 +197,7 @@ module _ (facts : Facts) (reached : Reached) (scale : Scale) (lower : List ℕ) 
       -- a pair of the candidate is one of two inside
       pair_inside : (pair : ℕ × ℕ) → (bracket_costs s).meets pair.0 pair.1 ≡ true → are_inside s pair.0 pair.1 ≡ true
       pair_inside pair e =
-          let both = numbers_inside pair.0 pair.1 (and_parts (is_joined (side_in s pair.0) (side_in s pair.1)) _ e).1 in
+          let both = numbers_inside pair.0 pair.1 (and_parts (joins_in s pair.0 pair.1) _ e).1 in
           and_from (is_inside s pair.0) (is_inside s pair.1) (within pair.0 both.0) (within pair.1 both.1)
 
       pairs_inside : AllByRecursion (λ (pair : ℕ × ℕ). are_inside s pair.0 pair.1 ≡ true) (number_pairs a)
@@ -369,13 +370,13 @@ module _ (facts : Facts) (reached : Reached) (scale : Scale) (lower : List ℕ) 
             omega (arith, bound, costs_no_more some scaled)
 
 -- C.7: no candidate weighs less than a floor says that is for the next lower scoregroup too, however many are left over there
-pub weighs_more_next : (facts : Facts) (reached : Reached) (scale : Scale) (lower : List ℕ) (scope : Scope) (order : Order) (shape : Shape)
-    (a : Arrangement) → Fits (frame_of facts reached) shape → IsIn a (candidates_of facts reached shape)
+pub weighs_more_next : (facts : Facts) (reached : Reached) (scale : Scale) (lower : List ℕ) (scope : Scope) (wish : Option Wish) (order : Order) (shape : Shape)
+    (a : Arrangement) → Fits (frame_of facts reached) shape → IsIn a (candidates_of facts reached shape) → is_wished wish a ≡ true
     → (b : Beginning) → Begins b a → Covers scope b → is_some scale.next ≡ true → IsScaleFor facts reached lower shape scale → (floor : FloorTable)
-    → ((left : ℕ) → IsFloor (costs_in (record { weighing = record { facts = facts; reached = reached; lower = lower; scale = scale }; scope = scope; reach = Next; order = order }))
+    → ((left : ℕ) → IsFloor (costs_in (record { weighing = record { facts = facts; reached = reached; lower = lower; scale = scale }; scope = scope; wish = wish; reach = Next; order = order }))
     (numbers_from 1 (count_below facts reached lower)) left floor)
     → floor.base + sum_by (extra_in floor) (number_pairs (fixed_lists b)) ≤ floor.debt + (weight_of scale (quality_of facts reached lower a) + added_in order a)
-weighs_more_next facts reached scale lower scope order shape a fits m b begins covers some scaled floor is =
+weighs_more_next facts reached scale lower scope wish order shape a fits m granted b begins covers some scaled floor is =
     let known = measured facts reached lower shape scale.next some scaled.next in
-    bound_of facts reached scale lower scope order known.0 shape a fits m b begins covers (joins_below facts reached lower shape a known.0 known.1 m) some scaled
+    bound_of facts reached scale lower scope wish order known.0 shape a fits m b begins covers granted (joins_below facts reached lower shape a known.0 known.1 m) some scaled
     floor is

@@ -1,28 +1,31 @@
 -- Where the players of an arrangement stand in a scope that covers it: two of a pair may be one there, and a downfloater may be left over
--- (C.04.3 B.3, B.6, B.7). So the pairs of a candidate are a matching by the costs of the scope.
-use Rattle.std.proofs.Common.{◌≡◌, ℕ, suc, ◌+◌, ◌<◌, ◌≤◌, Bool, true, false, not, cond, ◌&&◌, ◌||◌, nat_lt, List, [], ◌∷◌, length, inl, inr, refl, sym, ap, ◌∙◌, arith}
+-- (C.04.3 B.3, B.6, B.7). So the pairs of a candidate that grants what is wished are a matching by the costs of the scope.
+use Rattle.std.proofs.Common.{◌≡◌, ℕ, suc, ◌+◌, ◌<◌, ◌≤◌, Bool, true, false, not, cond, ◌&&◌, ◌||◌, nat_lt, List, [], ◌∷◌, Option, length, inl, inr, refl, sym, ap, ◌∙◌, arith}
 use Rattle.std.specs.List.{AllByRecursion, zip}
-use Rattle.std.proofs.lemmas.Bool.{and_parts, cases_Bool, true≢false}
+use Rattle.std.proofs.lemmas.Bool.{cases_Bool, true≢false}
 use Rattle.std.proofs.lemmas.Bool.Decides.{nat_tests}
 use Rattle.dual.specs.Prelude.{Costs, IsMatching}
 use Rattle.dutch_order.specs.declared.bracket.Shape.{Shape}
 use Rattle.dutch_order.specs.declared.prefix.Filling.{Filling}
 use Rattle.dutch_order.specs.declared.prefix.Filling.TheVariants.{S1, S2, S2r}
-use Rattle.dutch_order.specs.Prelude.{Arrangement, Fits, Frame, arrangements, down, left_of, paired, players_of, remainder_pairs, residents_of, all_meet, is_member, IsIn, Begins, BeginsAt, Beginning}
+use Rattle.dutch_order.specs.Prelude.{Arrangement, Fits, Frame, arrangements, down, left_of, paired, players_of, remainder_pairs, residents_of, is_member, IsIn, Begins, BeginsAt, Beginning}
 use Rattle.dutch_sequence.proofs.Counts.{member-four}
 use Rattle.dutch_sequence.proofs.Orders.{in-member, member-in, IsIn-filter, all_members, member_has}
 use Rattle.dutch_sequence.proofs.HalfWalks.{Climbs}
 use Rattle.dutch_player.specs.Prelude.{Facts}
 use Rattle.dutch_weights.specs.declared.scoped.Reach.TheVariants.{Bracket}
+use Rattle.dutch_bracket.specs.declared.wish.Wish.{Wish}
 use Rattle.dutch_weights.specs.declared.scope.Standing.{Standing}
 use Rattle.dutch_weights.specs.declared.scope.Standing.TheVariants.{Any, Outside, First, Resident, FirstResident, OtherResident}
 use Rattle.dutch_weights.specs.Prelude.{Order, costs_in, Covers, CoversBy, Scope, is_joined, may_stay, moved_down_standing, resident_standing}
-use Rattle.dutch_bracket.specs.Prelude.{IsOf, Reached, frame_of, numbers_meet, candidates_of, number_pairs}
+use Rattle.dutch_bracket.specs.Prelude.{IsOf, Reached, frame_of, numbers_meet, candidates_of, number_pairs, fits_as_left, fits_as_pair, is_wished}
 use Rattle.dutch_weighing.specs.Prelude.{Scale, numbers, weighing}
 use Rattle.dutch_bracket.proofs.AllLemmas.{all_join}
 use Rattle.dutch_bracket.proofs.ArrangementParts.{lists_of, parts_of, subset_members, tuple_members}
 use Rattle.dutch_weighing.proofs.CandidateMatchings.{candidate_is_matching, each, left_legal}
 use Rattle.dutch_bracket.proofs.LegalPairs.{legal_of}
+use Rattle.dutch_bracket.proofs.PairedOut.{one_by_one}
+use Rattle.dutch_bracket.proofs.WishFits.{left_fits, pairs_fit}
 
 -- ---- where the members of the four lists stand, as far as a scope tells
 
@@ -213,49 +216,60 @@ module _ (frame : Frame) (shape : Shape) (a : Arrangement) (within : frame.mdps 
 
 -- ---- two at once
 
-joined_at : (one other : Standing) (p q : Standing) (t : Bool) → p ≡ one → q ≡ other → is_joined one other ≡ true → t ≡ true → (is_joined p q && t) ≡ true
-joined_at one other p q t e e' join m = ap (λ s. is_joined s q && t) e ∙ ap (λ s. is_joined one s && t) e' ∙ ap (λ b. b && t) join ∙ m
+joined_at : (one other : Standing) (p q : Standing) → p ≡ one → q ≡ other → is_joined one other ≡ true → is_joined p q ≡ true
+joined_at one other p q e e' join = ap (λ s. is_joined s q) e ∙ ap (is_joined one) e' ∙ join
 
-all_joined : (S : ℕ → Standing) (meets : ℕ → ℕ → Bool) (one other : Standing) → is_joined one other ≡ true → (xs ys : List ℕ)
-    → AllByRecursion (λ x. S x ≡ one) xs → AllByRecursion (λ y. S y ≡ other) ys → all_meet meets xs ys ≡ true
-    → AllByRecursion (λ (pair : ℕ × ℕ). (is_joined (S pair.0) (S pair.1) && meets pair.0 pair.1) ≡ true) (zip xs ys)
-all_joined S meets one other join [] ys first second meet = tt
-all_joined S meets one other join (x ∷ xs) [] first second meet = tt
-all_joined S meets one other join (x ∷ xs) (y ∷ ys) first second meet =
-    let both = and_parts (meets x y) (all_meet meets xs ys) meet in (
-      joined_at one other (S x) (S y) (meets x y) first.0 second.0 join both.0,
-      all_joined S meets one other join xs ys first.1 second.1 both.1,
-    )
+all_joined : (S : ℕ → Standing) (one other : Standing) → is_joined one other ≡ true → (xs ys : List ℕ)
+    → AllByRecursion (λ x. S x ≡ one) xs → AllByRecursion (λ y. S y ≡ other) ys
+    → AllByRecursion (λ (pair : ℕ × ℕ). is_joined (S pair.0) (S pair.1) ≡ true) (zip xs ys)
+all_joined S one other join [] ys first second = tt
+all_joined S one other join (x ∷ xs) [] first second = tt
+all_joined S one other join (x ∷ xs) (y ∷ ys) first second =
+    (joined_at one other (S x) (S y) first.0 second.0 join, all_joined S one other join xs ys first.1 second.1)
 
-all_stay : (stay may : ℕ → Bool) (xs : List ℕ) → AllByRecursion (λ x. stay x ≡ true) xs → AllByRecursion (λ x. may x ≡ true) xs → AllByRecursion (λ x. (stay x && may x) ≡ true) xs
-all_stay stay may [] first second = tt
-all_stay stay may (x ∷ xs) first second = (ap (λ b. b && may x) first.0 ∙ second.0, all_stay stay may xs first.1 second.1)
+both_hold : {X : Type 0} (p q : X → Bool) (xs : List X) → AllByRecursion (λ x. p x ≡ true) xs → AllByRecursion (λ x. q x ≡ true) xs
+    → AllByRecursion (λ x. (p x && q x) ≡ true) xs
+both_hold p q [] first second = tt
+both_hold p q (x ∷ xs) first second = (ap (λ b. b && q x) first.0 ∙ second.0, both_hold p q xs first.1 second.1)
 
--- B.3, B.6, B.7: the pairs of a candidate behind a beginning, and those whom it leaves over, are a matching in each scope that covers the
--- beginning
+-- B.3, B.6, B.7: the pairs of a candidate behind a beginning that grants what is wished, and those whom it leaves over, are a matching in each
+-- scope that covers the beginning
 pub is_matching_in : (facts : Facts) (reached : Reached) (scale : Scale) (lower : List ℕ) (shape : Shape) (a : Arrangement) → IsOf facts reached
-    → Fits (frame_of facts reached) shape → IsIn a (candidates_of facts reached shape) → (b : Beginning) → Begins b a → (scope : Scope) → Covers scope b → (order : Order)
-    → IsMatching (costs_in (record { weighing = record { facts = facts; reached = reached; lower = lower; scale = scale }; scope = scope; reach = Bracket; order = order }))
+    → Fits (frame_of facts reached) shape → IsIn a (candidates_of facts reached shape) → (b : Beginning) → Begins b a → (scope : Scope) → Covers scope b
+    → (wish : Option Wish) → is_wished wish a ≡ true → (order : Order)
+    → IsMatching (costs_in (record { weighing = record { facts = facts; reached = reached; lower = lower; scale = scale }; scope = scope; wish = wish; reach = Bracket; order = order }))
     (numbers reached) (number_pairs a)
     (down (frame_of facts reached) a)
-is_matching_in facts reached scale lower shape a of' fits m b begins scope covers order =
+is_matching_in facts reached scale lower shape a of' fits m b begins scope covers wish granted order =
     let frame : Frame = frame_of facts reached in
     let costs : Costs = weighing facts reached scale in
     let plain = candidate_is_matching facts reached scale lower shape a of' fits m in
     let legal = legal_of facts reached shape a m in
     let has = has_lists scope.filling scope b.filling b.lists a covers begins in
     let side : ℕ → Standing = side_by reached.mdps scope.filling scope.s1 scope.s1r in
-    let Joined : ℕ × ℕ → Type 0 = λ pair. (is_joined (side pair.0) (side pair.1) && numbers_meet facts reached pair.0 pair.1) ≡ true in
+    let joined : ℕ × ℕ → Bool = λ pair. is_joined (side pair.0) (side pair.1) in
+    let fit : ℕ × ℕ → Bool = λ pair. fits_as_pair wish pair.0 pair.1 in
+    let meet : ℕ × ℕ → Bool = λ pair. numbers_meet facts reached pair.0 pair.1 in
+    let stay : ℕ → Bool = λ v. may_stay (side v) in
+    let may : ℕ → Bool = λ v. fits_as_left wish v in
+    let pairs : List (ℕ × ℕ) = number_pairs a in
+    let left : List ℕ = down frame a in
+    let joined_all : AllByRecursion (λ pair. joined pair ≡ true) pairs = all_join (λ pair. joined pair ≡ true) (zip a.s1 a.s2) (zip a.s1r a.s2r)
+    (all_joined side (first_standing scope.filling) (second_standing scope.filling) (pairs_join scope.filling) a.s1 a.s2
+    (firsts frame shape a of'.sound.within legal.arranged scope.filling scope.s1 scope.s1r has)
+    (seconds frame shape a of'.sound.within legal.arranged scope.filling scope.s1 scope.s1r has))
+    (all_joined side (first_resident_standing scope.filling) (second_standing scope.filling) (residents_join scope.filling) a.s1r a.s2r
+    (first_residents frame shape a of'.sound.within legal.arranged scope.filling scope.s1 scope.s1r has)
+    (other_residents frame shape a of'.sound.within legal.arranged scope.filling scope.s1 scope.s1r has)) in
+    let stay_all : AllByRecursion (λ v. stay v ≡ true) left = stays frame shape a of'.sound.within legal.arranged scope.filling scope.s1 scope.s1r has in
     record {
       whole = plain.whole;
-      may_meet = each Joined (number_pairs a) (all_join Joined (zip a.s1 a.s2) (zip a.s1r a.s2r)
-          (all_joined side (numbers_meet facts reached) (first_standing scope.filling) (second_standing scope.filling) (pairs_join scope.filling) a.s1 a.s2
-          (firsts frame shape a of'.sound.within legal.arranged scope.filling scope.s1 scope.s1r has)
-          (seconds frame shape a of'.sound.within legal.arranged scope.filling scope.s1 scope.s1r has) legal.moved_down)
-          (all_joined side (numbers_meet facts reached) (first_resident_standing scope.filling) (second_standing scope.filling) (residents_join scope.filling) a.s1r a.s2r
-          (first_residents frame shape a of'.sound.within legal.arranged scope.filling scope.s1 scope.s1r has)
-          (other_residents frame shape a of'.sound.within legal.arranged scope.filling scope.s1 scope.s1r has) legal.residents));
-      may_be_left = each (λ v. (may_stay (side v) && costs.may_be_left v) ≡ true) (down frame a)
-          (all_stay (λ v. may_stay (side v)) costs.may_be_left (down frame a)
-          (stays frame shape a of'.sound.within legal.arranged scope.filling scope.s1 scope.s1r has) (left_legal facts reached scale lower shape a of' fits m));
+      may_meet = each (λ pair. ((joined pair && fit pair) && meet pair) ≡ true) pairs
+          (both_hold (λ pair. joined pair && fit pair) meet pairs
+          (both_hold joined fit pairs joined_all (pairs_fit frame shape a of'.sound.within fits.within_pairs legal.arranged wish granted))
+          (one_by_one (λ pair. meet pair ≡ true) pairs plain.may_meet));
+      may_be_left = each (λ v. ((stay v && may v) && costs.may_be_left v) ≡ true) left
+          (both_hold (λ v. stay v && may v) costs.may_be_left left
+          (both_hold stay may left stay_all (left_fits frame shape a of'.sound.within fits.within_pairs legal.arranged wish granted))
+          (one_by_one (λ v. costs.may_be_left v ≡ true) left plain.may_be_left));
     }

@@ -1,6 +1,6 @@
 -- No candidate behind a beginning weighs less than a floor says (C.04.3 C.6, C.8 to C.19). So none is better than a quality that weighs no
 -- more, and one that weighs less is better than all.
-use Rattle.std.proofs.Common.{◌≡◌, ℕ, zero, suc, ◌+◌, ◌-◌, ◌*◌, ◌%◌, ◌<◌, ◌≤◌, true, false, not, cond, ◌||◌, List, [], ◌∷◌, ◌++◌, All, sum_by, map, drop, length, inl, inr, refl, sym, ap, subst, ◌∙◌, arith}
+use Rattle.std.proofs.Common.{◌≡◌, ℕ, zero, suc, ◌+◌, ◌-◌, ◌*◌, ◌%◌, ◌<◌, ◌≤◌, true, false, not, cond, ◌||◌, List, [], ◌∷◌, ◌++◌, All, sum_by, map, drop, length, Option, inl, inr, refl, sym, ap, subst, ◌∙◌, arith}
 use Rattle.std.specs.List.{AllByRecursion}
 use Rattle.std.specs.Option.{ForSome}
 use Rattle.std.proofs.lemmas.Bool.{eq-eqb, ne_eqb}
@@ -13,7 +13,8 @@ use Rattle.dutch_order.specs.Prelude.{Arrangement, Fits, Frame, arrangements, do
 use Rattle.dutch_sequence.proofs.Members.{length-numbers}
 use Rattle.dutch_sequence.proofs.Orders.{IsIn-append, IsIn-map}
 use Rattle.dutch_player.specs.Prelude.{Facts}
-use Rattle.dutch_bracket.specs.Prelude.{fixed_lists, Quality, is_better, next_in, IsOf, Reached, frame_of, candidates_of, completable, downfloaters, is_penultimate, quality_of, number_pairs}
+use Rattle.dutch_bracket.specs.declared.wish.Wish.{Wish}
+use Rattle.dutch_bracket.specs.Prelude.{fixed_lists, Quality, is_better, next_in, IsOf, Reached, frame_of, candidates_of, completable, downfloaters, is_penultimate, quality_of, number_pairs, is_wished}
 use Rattle.dutch_weights.specs.Prelude.{Covers, Scope, Order, IsFloorBy, MeasuresNext, Scoped, all_numbers, costs_in, kept_by, without_left, AreFloors, IsChoosable, IsScaled, IsWeightFloor, ScopedFloor, Weighed, added_in, bound_behind, is_first, left_known, passed_over, weighing_of, weight_in}
 use Rattle.dutch_weighing.specs.Prelude.{HasDigits, IsOn, IsScale, IsScaleFor, Scale, numbers, weighing, weight_above, weight_of, HasNoBetterOn}
 use Rattle.dutch_weights.specs.declared.scoped.Reach.{Reach}
@@ -113,16 +114,17 @@ module _ (frame : Frame) (shape : Shape) (a : Arrangement) (within : frame.mdps 
 
 module _ (facts : Facts) (reached : Reached) (scale : Scale) (lower : List ℕ) (shape : Shape) (a : Arrangement) (of' : IsOf facts reached)
     (fits : Fits (frame_of facts reached) shape) (m : IsIn a (candidates_of facts reached shape)) where
-  -- C.6, C.8 to C.19: a candidate behind a beginning weighs no less than a floor says
-  pub weighs_more : (b : Beginning) → Begins b a → (scope : Scope) → Covers scope b → (order : Order) → (floor : FloorTable)
-      → IsFloor (costs_in (record { weighing = record { facts = facts; reached = reached; lower = lower; scale = scale }; scope = scope; reach = Bracket; order = order }))
+  -- C.6, C.8 to C.19: a candidate behind a beginning that grants what is wished weighs no less than a floor says
+  pub weighs_more : (b : Beginning) → Begins b a → (scope : Scope) → Covers scope b → (wish : Option Wish) → is_wished wish a ≡ true → (order : Order)
+      → (floor : FloorTable)
+      → IsFloor (costs_in (record { weighing = record { facts = facts; reached = reached; lower = lower; scale = scale }; scope = scope; wish = wish; reach = Bracket; order = order }))
       (numbers reached) (length reached.seats - 2 * shape.pairs) floor
       → bound_behind floor reached.mdps b ≤ floor.debt + (weight_of scale (quality_of facts reached lower a) + added_in order a)
-  weighs_more b begins scope covers order floor is =
+  weighs_more b begins scope covers wish granted order floor is =
       let frame : Frame = frame_of facts reached in
-      let costs : Costs = costs_in (record { weighing = record { facts = facts; reached = reached; lower = lower; scale = scale }; scope = scope; reach = Bracket; order = order }) in
+      let costs : Costs = costs_in (record { weighing = record { facts = facts; reached = reached; lower = lower; scale = scale }; scope = scope; wish = wish; reach = Bracket; order = order }) in
       let bound : bound_behind floor reached.mdps b ≤ floor.debt + cost costs (number_pairs a) (down frame a) =
-      is (number_pairs a) (down frame a) (is_matching_in facts reached scale lower shape a of' fits m b begins scope covers order)
+      is (number_pairs a) (down frame a) (is_matching_in facts reached scale lower shape a of' fits m b begins scope covers wish granted order)
       (left_over facts reached scale lower shape a of' fits m)
       (number_pairs (fixed_lists b)) (left_known b.filling reached.mdps b.lists.s1)
       (part_of (fixed_lists b) a (has_fixed_pairs b.filling b.lists a begins))
@@ -184,28 +186,28 @@ kept_put w scope order floor bound = λ b a is_one begins covers.
 -- what is kept of a floor by matchings of a scope is one of the bracket's weights
 put_by : (w : Weighed) → IsScaled w → (reach : Reach) → (reach ≡ Lower → is_penultimate w.reached.kind ≡ true) → MeasuresNext reach w.scale
     → (scope : Scope) (order : Order) (floor : FloorTable)
-    → IsFloorBy reach (record { weighing = weighing_of w; scope = scope; reach = reach; order = order }) (length w.reached.seats - 2 * w.shape.pairs) floor
+    → IsFloorBy reach (record { weighing = weighing_of w; scope = scope; wish = w.wish; reach = reach; order = order }) (length w.reached.seats - 2 * w.shape.pairs) floor
     → IsWeightFloor w (record { scope = scope; order = order; floor = kept_by reach floor })
 put_by w scaled Bracket penultimate next scope order floor is = λ b a is_one begins covers.
-    weighs_more w.facts w.reached w.scale w.lower w.shape a is_one.of is_one.fits is_one.listed b begins scope covers order floor is
+    weighs_more w.facts w.reached w.scale w.lower w.shape a is_one.of is_one.fits is_one.listed b begins scope covers w.wish is_one.wished order floor is
 put_by w scaled Lower penultimate next scope order floor is =
-    let s : Scoped = record { weighing = weighing_of w; scope = scope; reach = Lower; order = order } in
+    let s : Scoped = record { weighing = weighing_of w; scope = scope; wish = w.wish; reach = Lower; order = order } in
     let held = subst (λ (n : ℕ). IsFloor (costs_in s) (all_numbers s) (n % 2) floor) (length-numbers 1 (length w.reached.seats + length w.lower)) is in
     kept_put w scope order floor (λ b a is_one begins covers.
     let can : completable w.facts (downfloaters w.facts w.reached a ++ w.lower) ≡ true =
     subst (λ t. (not t || completable w.facts (downfloaters w.facts w.reached a ++ w.lower)) ≡ true) (penultimate refl) is_one.can in
-    weighs_more_below w.facts w.reached w.scale w.lower scope order w.shape a is_one.of is_one.fits is_one.listed b begins covers can floor held)
+    weighs_more_below w.facts w.reached w.scale w.lower scope w.wish order w.shape a is_one.of is_one.fits is_one.listed b begins covers is_one.wished can floor held)
 put_by w scaled Next penultimate next scope order floor is =
     kept_put w scope order floor (λ b a is_one begins covers.
-    weighs_more_next w.facts w.reached w.scale w.lower scope order w.shape a is_one.fits is_one.listed b begins covers next scaled floor is)
+    weighs_more_next w.facts w.reached w.scale w.lower scope w.wish order w.shape a is_one.fits is_one.listed is_one.wished b begins covers next scaled floor is)
 
 -- the same where the scope that is kept is a copy
 pub floor_put : (w : Weighed) → IsScaled w → (reach : Reach) → (reach ≡ Lower → is_penultimate w.reached.kind ≡ true) → MeasuresNext reach w.scale
     → (kept : ScopedFloor) (s : Scoped) (left : ℕ) (floor : FloorTable)
-    → s ≡ record { weighing = weighing_of w; scope = kept.scope; reach = reach; order = kept.order }
+    → s ≡ record { weighing = weighing_of w; scope = kept.scope; wish = w.wish; reach = reach; order = kept.order }
     → left ≡ length w.reached.seats - 2 * w.shape.pairs → kept.floor ≡ kept_by reach floor → IsFloorBy s.reach s left floor → IsWeightFloor w kept
 floor_put w scaled reach penultimate next kept s left floor scoped count kept_is is =
-    let here : Scoped = record { weighing = weighing_of w; scope = kept.scope; reach = reach; order = kept.order } in
+    let here : Scoped = record { weighing = weighing_of w; scope = kept.scope; wish = w.wish; reach = reach; order = kept.order } in
     let held = subst (λ (n : ℕ). IsFloorBy reach here n floor) count (subst (λ (s : Scoped). IsFloorBy s.reach s left floor) scoped is) in
     subst (λ (f : FloorTable). IsWeightFloor w (record { scope = kept.scope; order = kept.order; floor = f })) (sym kept_is)
     (put_by w scaled reach penultimate next kept.scope kept.order floor held)

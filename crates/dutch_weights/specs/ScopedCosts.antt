@@ -1,23 +1,25 @@
 -- What pairs and downfloaters weigh in the arrangements of a bracket that a floor is for (C.04.3 B.3, B.6, B.7), also where those who go down
--- are paired out with all lower players (C.4), or meet the next lower scoregroup (C.7). What bounds the choice by beginnings stands on
--- these; a reader of its promise may pass them by.
-use Rattle.std.specs.Prelude.{◌≡◌, ℕ, ◌+◌, ◌-◌, ◌^◌, ◌%◌, ◌<◌, ◌≤◌, [], length, min, Bool, true, ◌&&◌, ◌||◌, not, ◌==◌, if◌then◌else◌, nat_lt, nat_le, List, ◌++◌, slice_index_or, is_some}
+-- are paired out with all lower players (C.4), or meet the next lower scoregroup (C.7). Where something is wished, the bracket's pairs and
+-- those left over fit it. What bounds the choice by beginnings stands on these; a reader of its promise may pass them by.
+use Rattle.std.specs.Prelude.{◌≡◌, ℕ, ◌+◌, ◌-◌, ◌^◌, ◌%◌, ◌<◌, ◌≤◌, [], length, min, Bool, true, ◌&&◌, ◌||◌, not, ◌==◌, if◌then◌else◌, nat_lt, nat_le, List, ◌++◌, slice_index_or, is_some, Option}
 use Rattle.dual.specs.Prelude.{FloorTable, IsFloor, Costs}
 use Rattle.dutch_order.specs.Prelude.{numbers_from}
 use Rattle.dutch_player.specs.Prelude.{may_meet}
 use Rattle.dutch_weights.specs.declared.scoped.Reach.{Reach}
 use Rattle.dutch_weights.specs.declared.scoped.Reach.TheVariants.{Bracket, Lower, Next}
+use Rattle.dutch_bracket.specs.declared.wish.Wish.{Wish}
 use Rattle.dutch_weights.specs.declared.scope.Standing.{Standing}
 use Rattle.dutch_weights.specs.Orders.{Order, with_lesser}
 use Rattle.dutch_weights.specs.Scopes.{Scope, is_joined, may_stay, standing_of}
-use Rattle.dutch_bracket.specs.Prelude.{seat_of, seats_meet, seats_may_be_left, count_below, seat_below}
+use Rattle.dutch_bracket.specs.Prelude.{seat_of, seats_meet, seats_may_be_left, count_below, seat_below, fits_as_left, fits_as_pair}
 use Rattle.dutch_weighing.specs.Prelude.{Scale, Weighing, weighing, alone_weight, met_weight}
 
--- a bracket whose pairs are weighed, a scope of its arrangements, over whom their matchings go, and what is added to pairs of residents
--- [own]
+-- a bracket whose pairs are weighed, a scope of its arrangements, what is wished of them, over whom their matchings go, and what is added to
+-- pairs of residents [own]
 pub record Scoped : Type 0 where
   pub weighing : Weighing
   pub scope : Scope
+  pub wish : Option Wish
   pub reach : Reach
   pub order : Order
 
@@ -25,18 +27,27 @@ pub record Scoped : Type 0 where
 abbrev pub side_in : Scoped → ℕ → Standing
 side_in s = standing_of s.weighing.reached.mdps s.scope
 
+-- two may be a pair by where they stand, and by what is wished [B.3, B.6, B.7; own]
+abbrev pub joins_in : Scoped → ℕ → ℕ → Bool
+joins_in s a b = is_joined (side_in s a) (side_in s b) && fits_as_pair s.wish a b
+
+-- one may be in no pair by where they stand, and by what is wished [with joins_in]
+abbrev pub stays_in : Scoped → ℕ → Bool
+stays_in s a = may_stay (side_in s a) && fits_as_left s.wish a
+
 -- what a pair costs that weighs so much: of two residents also the lesser of what both add
 abbrev pub with_order : ℕ → Order → ℕ → ℕ → ℕ → ℕ
 with_order mdps order a b weight = if nat_lt mdps a && nat_lt mdps b then with_lesser order weight a b else weight
 
--- C.1 to C.3: who may meet and who may be left over in the arrangements of a scope, and what each pair and each downfloater costs
+-- C.1 to C.3: who may meet and who may be left over in the arrangements of a scope that grant what is wished, and what each pair and each
+-- downfloater costs
 abbrev pub bracket_costs : Scoped → Costs
 bracket_costs s =
     let costs = weighing s.weighing.facts s.weighing.reached s.weighing.scale in
     record {
-      meets = λ a b. is_joined (side_in s a) (side_in s b) && costs.meets a b;
+      meets = λ a b. joins_in s a b && costs.meets a b;
       weight = λ a b. with_order s.weighing.reached.mdps s.order a b (costs.weight a b);
-      may_be_left = λ a. may_stay (side_in s a) && costs.may_be_left a;
+      may_be_left = λ a. stays_in s a && costs.may_be_left a;
       left_cost = costs.left_cost;
     }
 
@@ -52,7 +63,7 @@ is_inside s a = nat_le a (length s.weighing.reached.seats)
 
 -- a lower player, or one who may be in no pair of the bracket
 abbrev pub goes_down : Scoped → ℕ → Bool
-goes_down s a = not (is_inside s a) || may_stay (side_in s a)
+goes_down s a = not (is_inside s a) || stays_in s a
 
 -- what one who goes down weighs; a lower player weighs nothing
 abbrev pub going_weight : Scoped → ℕ → ℕ
@@ -128,7 +139,7 @@ costs_by Bracket = bracket_costs
 costs_by Lower = lower_costs
 costs_by Next = next_costs
 
--- who may meet and who may be left over in the arrangements of a scope, and what that costs [C.1 to C.4, C.7; own]
+-- who may meet and who may be left over in the arrangements of a scope that grant what is wished, and what that costs [C.1 to C.4, C.7; own]
 abbrev pub costs_in : Scoped → Costs
 costs_in s = costs_by s.reach s
 

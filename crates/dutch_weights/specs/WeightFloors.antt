@@ -8,23 +8,25 @@ use Rattle.dutch_order.specs.declared.prefix.Filling.{Filling}
 use Rattle.dutch_order.specs.declared.prefix.Filling.TheVariants.{S1, S2, S2r}
 use Rattle.dutch_order.specs.Prelude.{Arrangement, Fits, IsExchange, ExchangeClass, IsIn, Begins, Beginning}
 use Rattle.dutch_player.specs.Prelude.{Facts}
-use Rattle.dutch_bracket.specs.Prelude.{Context, fixed_lists, NextValue, Quality, IsOf, Reached, frame_of, can_be_chosen, candidates_of, quality_of, number_pairs}
+use Rattle.dutch_bracket.specs.declared.wish.Wish.{Wish}
+use Rattle.dutch_bracket.specs.Prelude.{Context, fixed_lists, NextValue, Quality, IsOf, Reached, frame_of, can_be_chosen, candidates_of, quality_of, number_pairs, is_wished, next_in}
 use Rattle.dutch_weights.specs.Scopes.{Covers, Scope}
 use Rattle.dutch_weighing.specs.Prelude.{HasNoBetterOn, IsOn, IsScale, IsScaleFor, IsScaleHere, Scale, Weighing, weight_above, weight_of}
 use Rattle.dutch_weights.specs.Orders.{Order, added}
 use Rattle.dutch_weights.specs.declared.weight_floor.Bar.{Bar}
 
--- a bracket of a field above lower seats, a shape of its arrangements, and a scale
+-- a bracket of a field above lower seats, a shape of its arrangements, what is wished of them, and a scale
 pub record Weighed : Type 0 where
   pub facts : Facts
   pub reached : Reached
   pub lower : List ℕ
   pub shape : Shape
+  pub wish : Option Wish
   pub scale : Scale
 
--- a bracket whose pairs are weighed, for a shape
-abbrev pub weighed_for : Weighing → Shape → Weighed
-weighed_for w shape = record { facts = w.facts; reached = w.reached; lower = w.lower; shape = shape; scale = w.scale }
+-- a bracket whose pairs are weighed, for a shape and a wish
+abbrev pub weighed_for : Weighing → Shape → Option Wish → Weighed
+weighed_for w shape wish = record { facts = w.facts; reached = w.reached; lower = w.lower; shape = shape; wish = wish; scale = w.scale }
 
 -- a floor, which arrangements it is for, and what the members of their S1R add to it [own]
 pub record ScopedFloor : Type 0 where
@@ -62,19 +64,20 @@ weighing_of weighed = record { facts = weighed.facts; reached = weighed.reached;
 abbrev pub weight_in : Weighed → Arrangement → ℕ
 weight_in w a = weight_of w.scale (quality_of w.facts w.reached w.lower a)
 
--- an arrangement is a candidate of a bracket's shape that can be chosen
+-- an arrangement is a candidate of a bracket's shape that can be chosen, and grants what is wished
 pub record IsChoosable (w : Weighed) (a : Arrangement) : Type 0 where
   pub of : IsOf w.facts w.reached
   pub fits : Fits (frame_of w.facts w.reached) w.shape
   pub listed : IsIn a (candidates_of w.facts w.reached w.shape)
   pub can : can_be_chosen w.facts w.reached w.lower a ≡ true
+  pub wished : is_wished w.wish a ≡ true
 
 -- what the members of an arrangement's S1R add [with Order]
 abbrev pub added_in : Order → Arrangement → ℕ
 added_in order a = sum_by (added order) a.s1r
 
--- a floor of the weights of a bracket in a scope: behind a beginning that the scope covers no candidate that can be chosen weighs less,
--- with what the members of its S1R add [own]
+-- a floor of the weights of a bracket in a scope: behind a beginning that the scope covers no candidate weighs less that can be chosen and
+-- grants what is wished, with what the members of its S1R add [own]
 abbrev pub IsWeightFloor : Weighed → ScopedFloor → Type 0
 IsWeightFloor w kept =
     (b : Beginning) (a : Arrangement) → IsChoosable w a → Begins b a → Covers kept.scope b
@@ -93,12 +96,12 @@ pub record AreFloors (weighed : Weighed) (floors : List ScopedFloor) : Type 0 wh
   pub scaled : IsScaled weighed
   pub hold : All (IsWeightFloor weighed) floors
 
--- of some arrangements no candidate that can be chosen weighs less, on a scale for them [with IsLeast]
+-- of some arrangements no candidate weighs less that can be chosen and grants what is wished, on a scale for them [with IsLeast]
 pub record IsLeastOf (Among : Arrangement → Type 0) (weighed : Weighed) (least : ℕ) : Type 0 where
   pub scaled : IsScaled weighed
   pub none_less : (a : Arrangement) → IsChoosable weighed a → Among a → least ≤ weight_in weighed a
 
--- no candidate with a beginning that can be chosen weighs less, on a scale for them [C.6 to C.19; own]
+-- no candidate with a beginning weighs less that can be chosen, and that grants the wish if there is one, on a scale for them [C.6 to C.19; own]
 abbrev pub IsLeast : Weighed → Beginning → ℕ → Type 0
 IsLeast weighed b = IsLeastOf (Begins b) weighed
 
@@ -106,16 +109,17 @@ IsLeast weighed b = IsLeastOf (Begins b) weighed
 abbrev pub BeginsWith : Beginning → ExchangeClass → Arrangement → Type 0
 BeginsWith b exchange a = Begins b a × IsExchange exchange a.s1r
 
--- no candidate with a beginning, whose S1R is such an exchange, and that can be chosen weighs less [D.2; own]
+-- no candidate with a beginning weighs less whose S1R is such an exchange, that can be chosen, and that grants the wish if there is one [D.2; own]
 abbrev pub IsLeastWith : Weighed → Beginning → ExchangeClass → ℕ → Type 0
 IsLeastWith weighed b exchange = IsLeastOf (BeginsWith b exchange) weighed
 
--- floors by weight are those of a bracket above lower seats and a shape [own]
-pub record AreOf (context : Context) (shape : Shape) (weighed : Weighed) : Type 0 where
+-- floors by weight are those of a bracket above lower seats, a shape and a wish [own]
+pub record AreOf (context : Context) (shape : Shape) (wish : Option Wish) (weighed : Weighed) : Type 0 where
   pub facts_are : weighed.facts ≡ context.facts
   pub reached_is : weighed.reached ≡ context.reached
   pub lower_are : weighed.lower ≡ context.lower
   pub shape_is : weighed.shape ≡ shape
+  pub wish_is : weighed.wish ≡ wish
 
 -- if there are floors by weight, a quality weighs no less than this on their scale, which is one for the candidates of a shape
 abbrev pub WeighsNoLess : Context → Shape → Option Weighed → ℕ → Quality → Type 0

@@ -1,7 +1,7 @@
 // Floors of a bracket by weight, asked for where a walk is stuck (C.04.3 B.8).
 //
 // Whoever finds a matching is not trusted: of its certificate a floor is kept only if the check confirms it. A floor
-// holds for all candidates of the bracket; where it was asked for only makes it high there.
+// holds for all candidates of the bracket that grant what is wished; where it was asked for only makes it high there.
 ghost use Rattle.std.specs.Prelude.{◌≡◌, ◌<◌, ◌≤◌, length};
 ghost use Rattle.std.specs.Result.{MatchResult};
 ghost use Rattle.dutch_sequence.specs.declared.numbers.TheConstants.{LIMIT};
@@ -10,7 +10,7 @@ ghost use Rattle.dutch_order.specs.Prelude.{Spends};
 use crate::certificate_table::table_of;
 use crate::order::{Halves, Order};
 use crate::scope::Scope;
-use crate::scoped::Scoped;
+use crate::scoped::{Scoped, Sought};
 use crate::trail::Stuck;
 use crate::unpaired_graph::{LeftOverCost, UnpairedGraph, is_in};
 use crate::weight_floor::{Bar, WeightFloors};
@@ -156,7 +156,11 @@ impl<'a> WeightFloors<'a> {
         let Some(left_over) = self.left_over_cost() else {
             return Ok(None);
         };
-        let scoped = Scoped::new(&self.weighing, request.scope, self.reach(), order);
+        let sought = Sought {
+            scope: request.scope,
+            wish: self.wish,
+        };
+        let scoped = Scoped::new(&self.weighing, sought, self.reach(), order);
         let Ok(graph) = UnpairedGraph::beside(&scoped, request.pairs, left_over) else {
             return Ok(None);
         };

@@ -6,6 +6,9 @@
 //
 // In an ordinary bracket they can go over the next lower scoregroup (C.7). There those who go down meet its members,
 // and what is in no pair, and the differences, weigh by the digits of C.7.
+//
+// Where something is wished, the bracket's pairs and those left over are those that fit the wish alone. So the floor is
+// one for candidates that grant it.
 ghost use Rattle.std.specs.Prelude.{◌≡◌, ◌+◌, ◌<◌, ◌≤◌, ◌^◌, true, All, IfOk, IfSome, length, min, slice_index};
 ghost use Rattle.std.specs.Prelude.{if◌then◌else◌, nat_lt};
 ghost use Rattle.dutch_sequence.specs.declared.numbers.TheConstants.{LIMIT};
@@ -13,7 +16,7 @@ ghost use Rattle.dutch_weights.specs.declared.scoped.Reach.TheVariants.{Next};
 ghost use Rattle.dutch_weights.specs.ScopedCosts.{IsReached, MeasuresNext, TellsSides, any_seat, are_inside, both_go};
 ghost use Rattle.dutch_weights.specs.ScopedCosts.{IsFloorBy, all_numbers, bracket_costs, kept_by, is_number_below};
 ghost use Rattle.dutch_weights.specs.ScopedCosts.{may_meet_below, pair_weight_below, going_weight, goes_down};
-ghost use Rattle.dutch_weights.specs.ScopedCosts.{is_inside, lower_costs, may_pair_out, side_in, size_by};
+ghost use Rattle.dutch_weights.specs.ScopedCosts.{is_inside, joins_in, lower_costs, may_pair_out, side_in, size_by, stays_in};
 ghost use Rattle.dutch_weights.specs.Scopes.{is_joined, may_stay};
 ghost use Rattle.dutch_weighing.specs.Prelude.{IsNumber};
 
@@ -23,6 +26,7 @@ use arrayvec::ArrayVec;
 use dual::{Floor, Pool, Rule, Table, Wide};
 use dutch_bracket::context::Context;
 use dutch_bracket::seats::{BySeat, seats};
+use dutch_bracket::wish::{Wish, fits_as_left, fits_as_pair};
 use dutch_order::{LIMIT, Numbers, numbered_from};
 use dutch_weighing::Weighing;
 use std::alloc::AllocError;
@@ -52,12 +56,20 @@ impl Reach {
     }
 }
 
-/// What pairs and downfloaters weigh in the arrangements of a scope, and what an order adds to pairs of residents
-/// (D.2).
+/// Which arrangements a floor is for: those of a scope that grant what is wished.
+#[derive(Clone, Copy)]
+pub(crate) struct Sought<'b> {
+    pub(crate) scope: &'b Scope,
+    pub(crate) wish: Option<Wish>,
+}
+
+/// What pairs and downfloaters weigh in the arrangements of a scope that grant what is wished, and what an order adds to
+/// pairs of residents (D.2).
 #[derive(Drop)]
 pub(crate) struct Scoped<'a, 'b> {
     weighing: &'b Weighing<'a>,
     scope: &'b Scope,
+    wish: Option<Wish>,
     reach: Reach,
     // what is added to pairs of residents
     order: &'b Order,
@@ -73,6 +85,7 @@ impl<'a, 'b> Model for Scoped<'a, 'b> {
     ghost view = { λ s. record {
       weighing = s.weighing.now;
       scope = s.scope.now;
+      wish = s.wish;
       reach = s.reach;
       order = s.order.now;
     } };
@@ -118,20 +131,28 @@ fn sum_or_first(one: Wide, other: Wide) -> Wide
 }
 
 impl<'a, 'b> Scoped<'a, 'b> {
-    /// What they weigh in the arrangements of a scope, with what an order adds to pairs of residents.
+    /// What they weigh in the arrangements that are sought, with what an order adds to pairs of residents.
     pub(crate) fn new(
         weighing: &'b Weighing<'a>,
-        scope: &'b Scope,
+        sought: Sought<'b>,
         reach: Reach,
         order: &'b Order,
     ) -> Scoped<'a, 'b>
         requires { MeasuresNext reach weighing.now.scale }
-        ensures { result ≡ record { weighing = weighing.now; scope = scope.now; reach = reach; order = order.now } }
+        ensures { result ≡ record {
+          weighing = weighing.now;
+          scope = sought.entry.scope.now;
+          wish = sought.entry.wish;
+          reach = reach;
+          order = order.now;
+        } }
     {
+        let Sought { scope, wish } = sought;
         let sides = sides(weighing.context(), scope);
         Scoped {
             weighing,
             scope,
+            wish,
             reach,
             order,
             sides,
@@ -200,6 +221,20 @@ impl<'a, 'b> Scoped<'a, 'b> {
         }
     }
 
+    /// Whether two may be a pair by where they stand, and by what is wished.
+    fn are_joined(&self, a: u16, b: u16) -> bool
+        ensures { result ≡ joins_in self.now a b }
+    {
+        self.standing(a).is_joined(self.standing(b)) && fits_as_pair(self.wish, a, b)
+    }
+
+    /// Whether one may be in no pair by where they stand, and by what is wished.
+    fn may_stay(&self, number: u16) -> bool
+        ensures { result ≡ stays_in self.now number }
+    {
+        self.standing(number).may_stay() && fits_as_left(self.wish, number)
+    }
+
     /// Whether a number is that of a resident.
     fn is_resident(&self, number: u16) -> bool
         ensures { result ≡ nat_lt self.now.weighing.reached.mdps number }
@@ -226,14 +261,14 @@ impl<'a, 'b> Scoped<'a, 'b> {
         ensures first { result ≡ true → IsNumber self.now.weighing.reached a }
         ensures second { result ≡ true → IsNumber self.now.weighing.reached b }
     {
-        self.standing(a).is_joined(self.standing(b)) && self.weighing.may_meet(a, b)
+        self.are_joined(a, b) && self.weighing.may_meet(a, b)
     }
 
     /// Whether a number is a lower player's, or may be in no pair of the bracket.
     fn goes_down(&self, number: u16) -> bool
         ensures { result ≡ goes_down self.now number }
     {
-        !self.is_inside(number) || self.standing(number).may_stay()
+        !self.is_inside(number) || self.may_stay(number)
     }
 
     /// Whether two are both of those who may go down.
@@ -399,7 +434,7 @@ impl Rule for Scoped<'_, '_> {
 
     fn may_be_left(&self, a: u16) -> bool {
         match self.reach {
-            Reach::Bracket => self.standing(a).may_stay() && self.weighing.may_be_left(a),
+            Reach::Bracket => self.may_stay(a) && self.weighing.may_be_left(a),
             Reach::Lower => self.may_have_bye(a),
             Reach::Next => self.goes_down(a),
         }

@@ -15,12 +15,13 @@ ghost use Rattle.dutch_weights.specs.WeightFloors.{left_known, passed_over, weig
 
 use crate::order::{Halves, Order};
 use crate::scope::Scope;
-use crate::scoped::{Reach, Scoped};
+use crate::scoped::{Reach, Scoped, Sought};
 use crate::trail::Trail;
 use dual::{Floor, Table, Wide};
 use dutch_bracket::context::Context;
 use dutch_bracket::fixed_lists::fixed_lists;
 use dutch_bracket::quality::Quality;
+use dutch_bracket::wish::Wish;
 use dutch_order::{Exchange, Filling, LIMIT, Prefix, Shape};
 use dutch_weighing::{DigitPlan, Scale, Weighing};
 use std::alloc::AllocError;
@@ -59,11 +60,12 @@ impl Model for ScopedFloor {
     ghost view = { λ f. record { scope = f.scope; order = f.order; floor = f.floor } };
 }
 
-/// Floors of a bracket and a shape by weight.
+/// Floors of a bracket and a shape by weight, for the candidates that grant what is wished.
 #[derive(Drop)]
 pub struct WeightFloors<'a> {
     pub(crate) weighing: Weighing<'a>,
     pub(crate) shape: Shape,
+    pub(crate) wish: Option<Wish>,
     pub(crate) floors: Vec<ScopedFloor>,
     pub(crate) trail: Trail,
 }
@@ -73,9 +75,9 @@ impl<'a> Model for WeightFloors<'a> {
 
     ghost Value = { Weighed };
 
-    ghost view = { λ w. weighed_for w.weighing w.shape };
+    ghost view = { λ w. weighed_for w.weighing w.shape w.wish };
 
-    ghost invariant = { λ w. AreFloors (weighed_for w.weighing w.shape) w.floors.items };
+    ghost invariant = { λ w. AreFloors (weighed_for w.weighing w.shape w.wish) w.floors.items };
 }
 
 /// A sum with what the pairs of two lists add to a floor; none if it does not fit.
@@ -270,14 +272,15 @@ impl<'a> WeightFloors<'a> {
     ghost use Rattle.dutch_weights.specs.WeightFloors.{AreOf, IsBar, IsLeast, IsLeastWith};
 
     /// The floors of a bracket and a shape: none so far.
-    fn new(weighing: Weighing<'a>, shape: Shape) -> WeightFloors<'a>
+    fn new(weighing: Weighing<'a>, shape: Shape, wish: Option<Wish>) -> WeightFloors<'a>
         requires { IsScaleFor weighing.facts weighing.reached weighing.lower shape weighing.scale }
-        ensures { result ≡ weighed_for weighing.entry shape }
+        ensures { result ≡ weighed_for weighing.entry shape wish }
     {
         let alloc = weighing.context().alloc();
         WeightFloors {
             weighing,
             shape,
+            wish,
             floors: Vec::new(alloc),
             trail: Trail::new(alloc),
         }
@@ -288,13 +291,14 @@ impl<'a> WeightFloors<'a> {
     pub(crate) fn read(
         context: &'a Context<'a>,
         shape: Shape,
+        wish: Option<Wish>,
         scale: Scale,
     ) -> Result<Option<WeightFloors<'a>>, AllocError>
         requires { IsScaleHere context.now shape scale }
-        ensures { IfOk result (λ found. IfSome found (AreOf context.now shape)) }
+        ensures { IfOk result (λ found. IfSome found (AreOf context.now shape wish)) }
     {
         match Weighing::read(context, scale)? {
-            Some(weighing) => return Ok(Some(WeightFloors::new(weighing, shape))),
+            Some(weighing) => return Ok(Some(WeightFloors::new(weighing, shape, wish))),
             None => return Ok(None),
         }
     }
@@ -303,11 +307,12 @@ impl<'a> WeightFloors<'a> {
     pub fn weighed(
         context: &'a Context<'a>,
         shape: Shape,
+        wish: Option<Wish>,
         next: bool,
     ) -> Result<Option<WeightFloors<'a>>, AllocError>
-        ensures { IfOk result (λ found. IfSome found (AreOf context.now shape)) }
+        ensures { IfOk result (λ found. IfSome found (AreOf context.now shape wish)) }
     {
-        WeightFloors::read(context, shape, scale_for(context, shape, next))
+        WeightFloors::read(context, shape, wish, scale_for(context, shape, next))
     }
 
     /// How many steps a walk still makes before it is told more, that has made so many.
@@ -373,7 +378,8 @@ impl<'a> WeightFloors<'a> {
         ensures { IfOk result (λ found. IfSome found (IsWeightFloor self.now)) }
     {
         let reach = self.reach();
-        let scoped = Scoped::new(&self.weighing, scope, reach, &order);
+        let wish = self.wish;
+        let scoped = Scoped::new(&self.weighing, Sought { scope, wish }, reach, &order);
         let Some(floor) = scoped.floor(table, self.left())? else {
             return Ok(None);
         };

@@ -1,16 +1,17 @@
 // Laws of the weight of a candidate (C.04.3 C.6 to C.19). It has the items that are sums, C.6 and C.8 to C.19, and what
 // the next bracket can be where that is measured, C.7, as the digits of one number. A floor of `dual` bounds it for all
 // candidates with a beginning.
-ghost use Rattle.std.specs.Prelude.{◌≡◌, ℕ, true, ◌+◌, ◌≤◌, is_some, sum_by, nat_lt};
+ghost use Rattle.std.specs.Prelude.{◌≡◌, ℕ, Option, true, ◌+◌, ◌≤◌, is_some, sum_by, nat_lt};
 ghost use Rattle.dutch_order.specs.Prelude.{Arrangement, down, IsIn, numbers_from, NoneTwice, Begins, Beginning};
 ghost use Rattle.dutch_order.specs.declared.bracket.Shape.{Shape};
 ghost use Rattle.dutch_bracket.specs.Prelude.{Context, fixed_lists, FitsHere, candidates_here, frame_here};
 ghost use Rattle.dutch_bracket.specs.Prelude.{quality_here, IsSmall, JoinsBelow, MayPairBelow, count_below};
 ghost use Rattle.dutch_bracket.specs.Prelude.{players_below, seat_below, Quality, is_better, next_in, IsAbove};
-ghost use Rattle.dutch_bracket.specs.Prelude.{seats_meet, number_pairs};
+ghost use Rattle.dutch_bracket.specs.Prelude.{is_wished, seats_meet, number_pairs};
 ghost use Rattle.dutch_weights.specs.Prelude.{Covers, Scope, Order, added_in};
 ghost use Rattle.dutch_weighing.specs.Prelude.{HasDigits, IsOn, IsScale, IsScaleFor, Scale, alone_by, weighing};
 ghost use Rattle.dutch_weighing.specs.Prelude.{weight_below, weight_of, HasSameNextOn};
+ghost use Rattle.dutch_bracket.specs.declared.wish.Wish.{Wish};
 ghost use Rattle.dutch_bracket.specs.declared.reached.BracketKind.TheVariants.{Ordinary};
 ghost use Rattle.dutch_weights.specs.declared.scoped.Reach.TheVariants.{Next};
 ghost use Rattle.pairing_laws.specs.Costs.{costs_here};
@@ -36,16 +37,16 @@ pub fn the_lighter_is_better()
         → HasSameNextOn scale.next q r → is_better q r ≡ nat_lt (weight_of scale q) (weight_of scale r) }
 {}
 
-/// C.6 to C.19: on a scale that measures the next bracket (C.7), a candidate of an ordinary bracket weighs no less than
-/// a floor says that goes over the next lower scoregroup too, however many are left over there: its base, and what the
-/// pairs of the beginning add, each once, without its debt.
+/// C.6 to C.19: on a scale that measures the next bracket (C.7), a candidate of an ordinary bracket that grants what is
+/// wished, if something is, weighs no less than a floor says that goes over the next lower scoregroup too, however many
+/// are left over there: its base, and what the pairs of the beginning add, each once, without its debt.
 #[tactic(auto, using(dutch_weights::proofs::C07NextWeights::weighs_more_next))]
 pub fn a_floor_for_the_next_group_bounds_the_weight()
-    ensures { (context : Context) (scale : Scale) (scope : Scope) (order : Order) (shape : Shape) (a : Arrangement)
-        → FitsHere context shape → IsIn a (candidates_here context shape)
+    ensures { (context : Context) (scale : Scale) (scope : Scope) (wish : Option Wish) (order : Order) (shape : Shape)
+        (a : Arrangement) → FitsHere context shape → IsIn a (candidates_here context shape) → is_wished wish a ≡ true
         → (b : Beginning) → Begins b a → Covers scope b → is_some scale.next ≡ true
         → IsScaleFor context.facts context.reached context.lower shape scale → (floor : FloorTable)
-        → ((left : ℕ) → IsFloor (costs_here context scale scope Next order)
+        → ((left : ℕ) → IsFloor (costs_here context scale scope wish Next order)
         (numbers_from 1 (count_below context.facts context.reached context.lower)) left floor)
         → floor.base + sum_by (extra_in floor) (number_pairs (fixed_lists b))
         ≤ floor.debt + (weight_of scale (quality_here context a) + added_in order a) }

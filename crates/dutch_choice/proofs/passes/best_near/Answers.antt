@@ -64,7 +64,7 @@ loop-judge-preserved g c =
       shape = c.in_ok-draw.ensures.shape ∙ c.loop-judge.invariant.shape;
       spends = spends-more c.loop-judge.invariant.spends (spends-more c.in_ok-draw.ensures.spends c.consider.ensures.spends);
       look = c.consider.ensures.look;
-      guide = subst (λ guide. g.G.Guide.knows guide pass.shaped.context.now pass.shaped.shape) (sym c.consider.ensures.guide) c.in_ok-draw.ensures.known;
+      guide = subst (λ guide. g.G.Guide.knows guide pass.shaped.context.now pass.shaped.shape pass.wish) (sym c.consider.ensures.guide) c.in_ok-draw.ensures.known;
     }
 
 pub returns-clause-answer : goal.returns-clause-answer

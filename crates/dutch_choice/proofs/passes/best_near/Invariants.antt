@@ -16,6 +16,6 @@ invariant-loop-judge g l = record {
   lists : ListsFor l.pass l.lister.listing;
   shape : l.lister.listing.shape ≡ l.pass.shaped.shape;
   look : LooksFor l.pass l.judge.look;
-  guide : g.G.Guide.knows l.judge.guide l.pass.shaped.context.now l.pass.shaped.shape;
+  guide : g.G.Guide.knows l.judge.guide l.pass.shaped.context.now l.pass.shaped.shape l.pass.wish;
   spends : Spends l.initial.budget l.budget;
 }

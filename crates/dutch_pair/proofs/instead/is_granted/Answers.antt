@@ -3,7 +3,7 @@ use Rattle.std.proofs.Common.{◌||◌, [], ◌∷◌, sym, ap, ◌∙◌}
 use Rattle.std.specs.List.{list_any}
 use Rattle.dutch_sequence.proofs.Spending.{spends-more}
 use Rattle.dutch_bracket.specs.declared.reached.ByNumber.{ByNumber}
-use Rattle.dutch_choice.specs.Prelude.{grants}
+use Rattle.dutch_bracket.specs.Prelude.{grants}
 use Rattle.dutch_pair.proofs.InsteadLemmas.{skipped_same}
 use Rattle.dutch_pair.proofs.instead.is_granted.Goals as goal
 

@@ -1,0 +1,80 @@
+// Which beginnings rule a wish out (C.04.3 B.3), by the pairs that they have, and by their first halves: of two who
+// meet, one is in S1 or in S1R, and the other is not. So behind halves that keep the two apart no permutation is looked
+// at.
+ghost use Rattle.std.specs.Prelude.{◌≡◌, nat_le};
+ghost use Rattle.std.specs.List.{list_any, zip};
+ghost use Rattle.dutch_order.specs.Prelude.{pairs_by_number};
+ghost use Rattle.dutch_bracket.specs.Prelude.{parts};
+ghost use Rattle.dutch_choice.specs.RuledOut.{has_one_of, s1_bars, s1r_bars, halves_bar, rules_out};
+
+use dutch_bracket::fixed_lists::{FixedLists, fixed_lists};
+use dutch_bracket::wish::{Wish, leave_over, parts};
+use dutch_order::{Filling, Prefix};
+
+/// Whether one of two players meets another one in two lists, place by place.
+fn part_in(p: u16, q: u16, firsts: &[u16], seconds: &[u16]) -> bool
+    ensures { result ≡ list_any (parts p q) (zip firsts.now seconds.now) }
+{
+    firsts
+        .iter()
+        .zip(seconds.iter())
+        .any(|(first, second)| parts(p, q, (*first, *second)))
+}
+
+/// Whether one of two players meets another one in lists.
+#[tactic(auto, using(dutch_bracket::proofs::WishLemmas::pairs_found))]
+fn have_others(p: u16, q: u16, lists: &FixedLists<'_>) -> bool
+    ensures { result ≡ list_any (parts p q) (pairs_by_number lists.now) }
+{
+    part_in(p, q, lists.s1, lists.s2) || part_in(p, q, lists.s1r, lists.s2r)
+}
+
+/// Whether of two players one alone is in a list.
+fn has_one_of(p: u16, q: u16, numbers: &[u16]) -> bool
+    ensures { result ≡ has_one_of p q numbers.now }
+{
+    let (has_p, has_q) = (numbers.contains(&p), numbers.contains(&q));
+    (has_p && !has_q) || (has_q && !has_p)
+}
+
+/// Whether S1 is chosen, and has both or neither of two players.
+fn s1_bars(p: u16, q: u16, prefix: &Prefix<'_>) -> bool
+    ensures { result ≡ s1_bars prefix.now.filling p q prefix.now.lists }
+{
+    match prefix.filling() {
+        Filling::S1 => false,
+        Filling::S2 | Filling::S2r => !has_one_of(p, q, prefix.s1()),
+    }
+}
+
+/// Whether S1R is chosen, and has both or neither of two players.
+fn s1r_bars(p: u16, q: u16, prefix: &Prefix<'_>) -> bool
+    ensures { result ≡ s1r_bars prefix.now.filling p q prefix.now.lists }
+{
+    match prefix.filling() {
+        Filling::S1 | Filling::S2 => false,
+        Filling::S2r => !has_one_of(p, q, prefix.s1r()),
+    }
+}
+
+/// Whether the first halves rule out that two players meet, in a bracket with so many moved-down players.
+fn halves_bar(mdps: usize, p: u16, q: u16, prefix: &Prefix<'_>) -> bool
+    ensures { result ≡ halves_bar (nat_le p mdps) (nat_le q mdps) prefix.now.filling p q prefix.now.lists }
+{
+    match (usize::from(p) <= mdps, usize::from(q) <= mdps) {
+        (true, true) => true,
+        (true, false) | (false, true) => s1_bars(p, q, prefix),
+        (false, false) => s1r_bars(p, q, prefix),
+    }
+}
+
+/// Whether a beginning in a bracket with so many moved-down players rules a wish out.
+pub(crate) fn is_ruled_out(wish: Wish, mdps: usize, prefix: &Prefix<'_>) -> bool
+    ensures { result ≡ rules_out mdps wish prefix.now }
+{
+    let lists = fixed_lists(prefix);
+    match wish {
+        Wish::Pair(p, q) => have_others(p, q, &lists) || halves_bar(mdps, p, q, prefix),
+        Wish::LeftOver(p) => !leave_over(p, &lists),
+    }
+}
