@@ -189,7 +189,9 @@ fn best_within<G: Guide>(
 }
 
 /// Keeps what the passes end with by weights that are found now. A no says that the steps for it do not suffice. Where
-/// C.7 counts and they do not tell of the next bracket, these are a quarter of the steps that are left, else all.
+/// C.7 counts and they do not tell of the next bracket, these are a quarter of the steps that are left, else all. (Apart
+/// from its caller, as most brackets do not come to it.)
+#[inline(never)]
 fn best_by_weight<G: Guide>(
     pass: &mut Pass<'_>,
     judge: &mut Judge<'_, G>,

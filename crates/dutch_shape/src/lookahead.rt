@@ -101,7 +101,9 @@ fn greatest_drawn<'b>(
     greatest_shape(legal, lister, budget)
 }
 
-/// What a bracket is by the first arrangement of its shape; nothing if it has none.
+/// What a bracket is by the first arrangement of its shape; nothing if it has none. (Apart from its caller, which has two
+/// ways to it.)
+#[inline(never)]
 fn value_drawn(
     legal: &Legal<'_, ByNumber<'_>>,
     found: Option<Shape>,
