@@ -23,10 +23,10 @@ has_room facts reached shape count fits of le =
     omega (arith, length-map reached.seats (score_at facts), of.sound.few, of.sound.within, fits.residents_enough, le)
 
 -- how long lists that have room in a shape are
-counts_fit : (reached : Reached) (shape : Shape) (lists : Arrangement) → is_of_shape reached shape lists ≡ true
+counts_fit : (shape : Shape) (lists : Arrangement) → is_of_shape shape lists ≡ true
     → (length lists.s1 ≤ shape.mdps) × (length lists.s2 ≤ length lists.s1) × (length lists.s1r ≤ remainder_pairs shape) × (length lists.s2r ≤ length lists.s1r)
-counts_fit reached shape lists e =
-    let counts = and_parts _ _ (and_parts _ _ e).1 in
+counts_fit shape lists e =
+    let counts = and_parts _ _ e in
     let first = and_parts _ _ counts.0 in
     let second = and_parts _ _ counts.1 in (
       leb-true (length lists.s1) shape.mdps first.0,
@@ -35,13 +35,13 @@ counts_fit reached shape lists e =
       leb-true (length lists.s2r) (length lists.s1r) second.1,
     )
 
-pub first_few : (reached : Reached) (shape : Shape) (lists : Arrangement) → is_of_shape reached shape lists ≡ true → length lists.s1 ≤ shape.mdps
-first_few reached shape lists e = (counts_fit reached shape lists e).0
+pub first_few : (shape : Shape) (lists : Arrangement) → is_of_shape shape lists ≡ true → length lists.s1 ≤ shape.mdps
+first_few shape lists e = (counts_fit shape lists e).0
 
 pub numbers_fit : (facts : Facts) (reached : Reached) (shape : Shape) (lists : Arrangement) → Fits (frame_of facts reached) shape → IsOf facts reached
-    → is_of_shape reached shape lists ≡ true → HasFewPairs lists
+    → is_of_shape shape lists ≡ true → HasFewPairs lists
 numbers_fit facts reached shape lists fits of e =
-    let counts = counts_fit reached shape lists e in
+    let counts = counts_fit shape lists e in
     let small = small_pairs facts reached shape fits of in
     let less : shape.mdps ≤ shape.pairs = fits.within_pairs in
     record {

@@ -1,14 +1,13 @@
 -- Beginnings of arrangements by the seats of a bracket: which pairs are fixed, and what is still free (C.04.3 B.6, B.7). What bounds
 -- the choice by beginnings stands on these; a reader of its promise may pass them by.
 use Rattle.std.specs.Prelude.{◌≡◌, ℕ, ◌+◌, ◌-◌, ◌*◌, ◌⊎◌, List, [], length, sum_by, ◌≤◌, Bool, true, false, ◌&&◌, nat_le}
-use Rattle.std.specs.List.{list_all}
 use Rattle.dutch_order.specs.declared.bracket.Shape.{Shape}
 use Rattle.dutch_order.specs.Prelude.{Arrangement, remainder_pairs, GoesOn, Beginning}
 use Rattle.dutch_order.specs.declared.prefix.Filling.{Filling}
 use Rattle.dutch_order.specs.declared.prefix.Filling.TheVariants.{S1, S2, S2r}
 use Rattle.dutch_sequence.specs.declared.numbers.TheConstants.{LIMIT}
 use Rattle.dutch_player.specs.Prelude.{Facts}
-use Rattle.dutch_bracket.specs.Reached.{Reached, is_number}
+use Rattle.dutch_bracket.specs.Reached.{Reached}
 use Rattle.dutch_bracket.specs.Seated.{Seated, all_pairs, lowest}
 
 -- an arrangement begins with the pairs of another; if S2 or S2R has begun, with the same S1 or S1R
@@ -55,16 +54,11 @@ lists_by S2r lists = record { s1 = lists.s1; s2 = lists.s2; s1r = lists.s1r; s2r
 abbrev pub fixed_lists : Beginning → Arrangement
 fixed_lists b = lists_by b.filling b.lists
 
--- all are numbers of a bracket
-abbrev pub are_numbers : Reached → List ℕ → Bool
-are_numbers reached numbers = list_all (is_number reached) numbers
-
--- lists of numbers of a bracket that have room in a shape, and of those who meet the second is not the longer one [B.1]
-abbrev pub is_of_shape : Reached → Shape → Arrangement → Bool
-is_of_shape reached shape lists =
-    (are_numbers reached lists.s1 && (are_numbers reached lists.s2 && (are_numbers reached lists.s1r && are_numbers reached lists.s2r)))
-    && ((nat_le (length lists.s1) shape.mdps && nat_le (length lists.s2) (length lists.s1))
-    && (nat_le (length lists.s1r) (remainder_pairs shape) && nat_le (length lists.s2r) (length lists.s1r)))
+-- lists that have room in a shape, and of those who meet the second is not the longer one [B.1]
+abbrev pub is_of_shape : Shape → Arrangement → Bool
+is_of_shape shape lists =
+    (nat_le (length lists.s1) shape.mdps && nat_le (length lists.s2) (length lists.s1))
+    && (nat_le (length lists.s1r) (remainder_pairs shape) && nat_le (length lists.s2r) (length lists.s1r))
 
 -- S1 is chosen [with fixed_lists]
 abbrev pub has_s1 : Filling → Bool

@@ -3,10 +3,9 @@ ghost use Rattle.std.specs.Prelude.{◌≡◌, ◌≤◌, ◌&&◌, true, length
 ghost use Rattle.arrayvec.specs.ArrayVec.{array_vec_len};
 ghost use Rattle.dutch_sequence.specs.declared.numbers.TheConstants.{LIMIT};
 ghost use Rattle.dutch_bracket.specs.Seated.{all_pairs};
-ghost use Rattle.dutch_bracket.specs.Beginnings.{HasFewPairs, are_numbers, fixed, fixed_lists, has_s1, is_of_shape};
+ghost use Rattle.dutch_bracket.specs.Beginnings.{HasFewPairs, fixed, fixed_lists, has_s1, is_of_shape};
 
 use crate::context::Context;
-use crate::reached::Reached;
 use crate::seated::{Pair, Seated, push_pairs};
 use arrayvec::ArrayVec;
 use dutch_order::{Filling, LIMIT, Prefix, Shape};
@@ -71,25 +70,14 @@ pub fn has_s1(filling: Filling) -> bool
     }
 }
 
-/// Whether all members of a list are numbers of a bracket.
-fn are_numbers(reached: &Reached, numbers: &[u16]) -> bool
-    ensures { result ≡ are_numbers reached.now numbers.now }
+/// Yes if lists have room in a shape, and of those who meet the second is not the longer one (B.1).
+pub fn is_of_shape(shape: Shape, lists: &FixedLists<'_>) -> bool
+    ensures { result ≡ is_of_shape shape lists.now }
 {
-    numbers.iter().all(|number| reached.has(*number))
-}
-
-/// Whether lists are of numbers of the bracket, and have room in a shape.
-pub fn is_of_shape(reached: &Reached, shape: Shape, lists: &FixedLists<'_>) -> bool
-    ensures { result ≡ is_of_shape reached.now shape lists.now }
-{
-    let numbers = are_numbers(reached, lists.s1)
-        && are_numbers(reached, lists.s2)
-        && are_numbers(reached, lists.s1r)
-        && are_numbers(reached, lists.s2r);
     let moved_down = lists.s1.len() <= shape.mdps && lists.s2.len() <= lists.s1.len();
     let residents = lists.s1r.len() <= shape.pairs.saturating_sub(shape.mdps)
         && lists.s2r.len() <= lists.s1r.len();
-    numbers && (moved_down && residents)
+    moved_down && residents
 }
 
 /// Fills a list with the pairs that lists make, by seats.

@@ -10,16 +10,16 @@ use Rattle.dutch_floors.specs.Behind.{Basis}
 use Rattle.dutch_floors.specs.FloorOf.{is_known, s1_by, s1_of}
 use Rattle.dutch_bracket.proofs.ShapeNumbers.{first_few, first_length, numbers_fit}
 
--- where a floor is known, its lists are of the bracket and the shape
-of_shape : (basis : Basis) (b : Beginning) → is_known basis b ≡ true → is_of_shape basis.reached basis.shape (fixed_lists b) ≡ true
-of_shape basis b h = (and_parts (is_of_shape basis.reached basis.shape (fixed_lists b)) _ h).0
+-- where a floor is known, its lists have room in the shape
+of_shape : (basis : Basis) (b : Beginning) → is_known basis b ≡ true → is_of_shape basis.shape (fixed_lists b) ≡ true
+of_shape basis b h = (and_parts (is_of_shape basis.shape (fixed_lists b)) _ h).0
 
 pub known_pairs : (basis : Basis) (b : Beginning) → Fits (frame_of basis.facts basis.reached) basis.shape → IsOf basis.facts basis.reached → is_known basis b ≡ true
     → HasFewPairs (fixed_lists b)
 known_pairs basis b fits of' h = numbers_fit basis.facts basis.reached basis.shape (fixed_lists b) fits of' (of_shape basis b h)
 
 known_few : (basis : Basis) (b : Beginning) → is_known basis b ≡ true → length (fixed_lists b).s1 ≤ basis.shape.mdps
-known_few basis b h = first_few basis.reached basis.shape (fixed_lists b) (of_shape basis b h)
+known_few basis b h = first_few basis.shape (fixed_lists b) (of_shape basis b h)
 
 -- S1, or the first one where none is chosen
 first_or : (P : List ℕ → Type 0) (filling : Filling) (shape : Shape) (s1 : List ℕ) → P (numbers_from 1 shape.mdps) → P s1 → P (s1_by filling shape s1)

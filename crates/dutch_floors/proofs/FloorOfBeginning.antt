@@ -120,7 +120,7 @@ module _ (basis : Basis) (lower : List ℕ) (a : Arrangement) (of' : IsOf basis.
       (beside reached.seats (fixed_lists b) a pairs) (none_known (downfloaters facts reached a)))
 
 known_s1 : (basis : Basis) (b : Beginning) → is_known basis b ≡ true → (has_s1 b.filling || is_uniform basis.facts basis.reached basis.shape) ≡ true
-known_s1 basis b h = (and_parts (is_of_shape basis.reached basis.shape (fixed_lists b)) _ h).1
+known_s1 basis b h = (and_parts (is_of_shape basis.shape (fixed_lists b)) _ h).1
 
 -- so it is a floor
 pub none_beats : (basis : Basis) (b : Beginning) (floor : Quality) → IsOf basis.facts basis.reached

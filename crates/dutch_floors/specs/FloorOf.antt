@@ -87,4 +87,4 @@ floor_of basis b =
 -- a floor is known: the lists are those of the bracket and the shape, and S1 is chosen, or it does not matter which is
 abbrev pub is_known : Basis → Beginning → Bool
 is_known basis b =
-    is_of_shape basis.reached basis.shape (fixed_lists b) && (has_s1 b.filling || is_uniform basis.facts basis.reached basis.shape)
+    is_of_shape basis.shape (fixed_lists b) && (has_s1 b.filling || is_uniform basis.facts basis.reached basis.shape)

@@ -238,7 +238,7 @@ impl<'a> Floors<'a> {
         fill_others(context.field(), seated, quality);
     }
 
-    /// Whether a floor of a beginning is known. None is if its lists are not of the bracket and the shape, or if S1 is
+    /// Whether a floor of a beginning is known. None is if its lists have no room in the shape, or if S1 is
     /// not chosen and it matters which one is.
     #[tactic(auto, using(crate::proofs::FloorLemmas::known_pairs, crate::proofs::FloorLemmas::s1_few))]
     fn is_known(&self, prefix: &Prefix<'_>) -> bool
@@ -249,8 +249,7 @@ impl<'a> Floors<'a> {
         ensures few { is_known self.now prefix.now ≡ true → length (s1_of self.now prefix.now) ≤ self.now.shape.mdps }
     {
         let lists = fixed_lists(prefix);
-        is_of_shape(self.shaped.context.reached(), self.shape(), &lists)
-            && (has_s1(prefix.filling()) || self.uniform)
+        is_of_shape(self.shape(), &lists) && (has_s1(prefix.filling()) || self.uniform)
     }
 
     /// Fills what is known by counts behind a beginning, if something is.
