@@ -88,7 +88,7 @@ fn told(is_right: bool, text: &'static str) -> Option<&'static str> {
     if is_right { None } else { Some(text) }
 }
 
-// Whether a text is the one that must come, or where none is told, whether there is one.
+// Where a case tells no text, it is enough that there is one.
 fn is_right(wanted: Option<&[u8]>, came: &[u8]) -> bool
     ensures told { IfSome wanted.entry (λ text. IsTrue result ↔ text.now ≡ came.now) }
     ensures not_told { IsNone wanted.entry → (IsTrue result ↔ 0 < length came.now) }

@@ -12,7 +12,7 @@ use round_lines::put_board;
 use round_lines::telling::Telling;
 use std::alloc::AllocError;
 
-// Whether it is told of a seat.
+// Where no seat is asked about, all are told.
 fn is_told(seat: u16, whose: Option<u16>) -> bool
     ensures { result ≡ is_told whose seat }
 {

@@ -35,7 +35,7 @@ pub fn put_stages(
     Ok(())
 }
 
-// Whether it is told of a bracket.
+// Where a seat is asked about, only the brackets are told in which it stands; otherwise all are.
 fn is_bracket_told(reached: &Reached, whose: Option<u16>) -> bool
     ensures { result ≡ is_bracket_told whose reached.now }
 {

@@ -151,21 +151,19 @@ fn stands_against(
     Ok(Reply::bytes(Status::Done, text.into_bytes()))
 }
 
-// Whether a seat stands in a bracket.
 fn stands_in(stage: &Stage, seat: u16) -> bool
     ensures { result ≡ stands_in seat stage.now }
 {
     stage.reached().seats().contains(&seat)
 }
 
-// Whether a seat stands in one of some brackets.
 fn stands_in_one(stages: &[Stage], seat: u16) -> bool
     ensures { result ≡ stands_in_one stages.now seat }
 {
     stages.iter().any(|stage| stands_in(stage, seat))
 }
 
-// Whether who is asked for stands in one of the brackets that follow; the bye is given behind all of them.
+// The bye is given behind all brackets.
 fn goes_on(stages: &[Stage], rival: Rival) -> bool
     ensures { result ≡ goes_on stages.now rival }
 {

@@ -1,5 +1,5 @@
-// Matchings of small graphs with costs, beside the least cost that a table over all sets of vertices gives, and what the
-// checks of `dual` say of their certificates.
+// Matchings of small graphs with costs, beside the least cost that a table over all sets of vertices gives, and what
+// the checks of `dual` say of their certificates.
 ghost use Rattle.std.specs.Prelude.{◌≡◌, ◌+◌, ◌*◌, get_or, nat_lt, is_some};
 
 use cheapest::{Costs, Fault, Found, cheapest};
@@ -157,8 +157,8 @@ fn cost_of(graph: &Graph, found: &Found) -> u32 {
     cost
 }
 
-// The floor that a certificate is for as many vertices left over as the matching leaves, if it is feasible, and also one
-// for any number of them.
+// The floor that a certificate is for as many vertices left over as the matching leaves, if it is feasible, and also
+// one for any number of them.
 fn floor_of(alloc: Global, graph: &Graph, found: &Found) -> Result<Option<Floor>, AllocError> {
     let rule = Doubled {
         costs: graph.costs,
@@ -183,8 +183,8 @@ fn floor_of(alloc: Global, graph: &Graph, found: &Found) -> Result<Option<Floor>
     found.certificate.floor(alloc, &pool, left)
 }
 
-// Whether a certificate is feasible, and worth just what the matching costs, which is the least. Where some vertex is left
-// over that must not be, nothing is worth as much.
+// A certificate that is feasible, and worth just what the matching costs, shows that this is the least. Where some
+// vertex is left over that must not be, nothing is worth as much.
 fn is_shown(alloc: Global, graph: &Graph, found: &Found) -> Result<bool, Fail> {
     let least = least(alloc, graph)?;
     let cost = cost_of(graph, found);

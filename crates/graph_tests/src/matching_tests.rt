@@ -50,8 +50,8 @@ fn most_pairs(edges: &[(u16, u16)], taken: u64) -> usize
     without.max(1 + most_pairs(others, taken | ends))
 }
 
-// Whether labels show that no matching leaves fewer alone: no edge joins two groups, and more groups are odd than there
-// are blockers, by as many as are alone. Each number from 1 to the greatest is that of a group.
+// The labels show that no matching leaves fewer alone if no edge joins two groups, and if more groups are odd than
+// there are blockers, by as many as are alone. Each number from 1 to the greatest is that of a group.
 fn is_shown(edges: &[(u16, u16)], found: &Found) -> bool {
     let labels = &found.labels;
     let alone = found.partners.iter().filter(|o| o.is_none()).count();
@@ -216,7 +216,7 @@ fn graphs_of_seven_to_nine(rt: HostRuntime) -> Result<(), Fail> {
     Ok(())
 }
 
-// Whether a search finds a matching with the steps that are left, or stops for want of one; none if it fails otherwise.
+// A no is a stop for want of a step; none is any other failure.
 fn finds(alloc: Global, graph: &Edges, left: &mut u64) -> Option<bool> {
     match greatest(alloc, graph, left) {
         Ok(_) => Some(true),

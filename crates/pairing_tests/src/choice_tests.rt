@@ -39,7 +39,6 @@ fn choice_in_the_second(alloc: Global, field: &Field) -> Result<(Choice, Shape),
     ))
 }
 
-// Whether the pair of 1 and 2 was chosen, in a bracket of this shape.
 fn is_one_with_two(choice: &Choice, shape: Shape) -> bool {
     let Choice::Chosen {
         shape: chosen,

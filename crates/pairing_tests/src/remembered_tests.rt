@@ -108,7 +108,7 @@ fn value_of(
     }
 }
 
-// Whether a value takes steps at first and, with no step left, is there again; it fails where nothing was kept.
+// A value that was kept is there again with no step left; it fails where nothing was kept.
 fn is_kept(look: &mut LookAhead<'_>, reached: &Reached) -> Result<bool, Fail>
     requires reached { look.old.reached ≡ reached.now }
 {
@@ -192,7 +192,6 @@ fn the_last_64_values_are_kept(rt: HostRuntime) -> Result<(), Fail> {
     Ok(())
 }
 
-// Whether a value stays undecided without steps.
 fn is_undecided(look: &mut LookAhead<'_>, reached: &Reached) -> Result<bool, Fail>
     requires reached { look.old.reached ≡ reached.now }
 {

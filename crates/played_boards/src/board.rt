@@ -15,7 +15,7 @@ pub type Board = (u16, u16);
 pub struct RankedBoard {
     /// White and black.
     pub board: Board,
-    /// Whether white has the bye.
+    /// True if white has the bye.
     pub has_bye: bool,
     /// The score of the higher ranked player before the round, in half points.
     pub score: u16,
@@ -26,7 +26,6 @@ pub struct RankedBoard {
 }
 
 impl RankedBoard {
-    // Whether the board stands in front of another.
     pub(crate) fn goes_before(&self, other: &RankedBoard) -> bool
         ensures { result ≡ goes_before self.now other.now }
     {
@@ -91,7 +90,6 @@ fn score_before(report: &Report<'_>, round: u8, start: u16) -> u16
     report.points(start, round - 1)
 }
 
-// Whether one player ranks higher than another before the round.
 fn ranks_above(report: &Report<'_>, round: u8, one: u16, other: u16) -> bool
     requires { 0 < round }
     ensures { result ≡ ranks_above report.now round one other }

@@ -72,7 +72,6 @@ impl Key {
         }
     }
 
-    /// Whether whoever has this key goes before whoever has another one.
     pub(crate) fn is_before(&self, other: &Key) -> bool
         ensures { result ≡ is_before self.now other.now }
     {

@@ -58,7 +58,6 @@ fn put_words<W: Sink>(w: &mut W, new: &NewStarts, bytes: &[u8]) -> Result<(), Fa
     Ok(())
 }
 
-// Whether a line names start ranks: it is of the kind `XXZ` or `XXP`.
 fn names_start_ranks(line: &[u8], utf8: bool) -> bool
     ensures { result ≡ names_start_ranks (columns utf8 line.now) }
 {

@@ -4,7 +4,6 @@ ghost use Rattle.trf16.specs.Prelude.{columns, names_unread, first_unread};
 
 use trf16::{Report, is_word, split_kind};
 
-// Whether a line is of the kind `013` or `XXA`.
 fn names_unread(line: &[u8], utf8: bool) -> bool
     ensures { result ≡ names_unread (columns utf8 line.now) }
 {

@@ -192,7 +192,7 @@ fn line_in_bytes(
     }
 }
 
-// Whether a line of a text in UTF-8 breaks no rule on a line where it stands alone and its columns are bytes.
+// The byte 0xFF is in no UTF-8, so the columns of the line that stands alone are bytes.
 fn fits_in_bytes(alloc: Global, bytes: &[u8], bye: u16, n: usize) -> Result<bool, AllocError>
     requires { bye ≤ 2 }
     ensures { IfOk result (λ fits. fits ≡ fits_in_bytes bytes.now bye n) }
@@ -205,7 +205,6 @@ fn fits_in_bytes(alloc: Global, bytes: &[u8], bye: u16, n: usize) -> Result<bool
     is_read(alloc, alone.as_slice(), bye)
 }
 
-// Whether no rule on a line is broken in a text.
 fn is_read(alloc: Global, bytes: &[u8], bye: u16) -> Result<bool, AllocError>
     requires { bye ≤ 2 }
     ensures { IfOk result (λ read. read ≡ are_lines_read (verdict_unsummed bytes.now bye)) }

@@ -51,7 +51,7 @@ impl Status {
         }
     }
 
-    // Whether the text goes to standard output.
+    // The text then goes to standard output, and otherwise to standard error.
     fn is_output(self) -> bool
         ensures { result ≡ is_output self }
     {

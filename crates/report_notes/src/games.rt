@@ -4,7 +4,7 @@ ghost use Rattle.report_notes.specs.Games.{played_last};
 
 use trf16::{Cell, Report};
 
-/// Whether a player played in the last round that was paired: a game, and no forfeit.
+/// A forfeit is not played, and before the first round nobody has played.
 pub(crate) fn played_last(report: &Report<'_>, start: u16) -> bool
     ensures { result ≡ played_last report.now start }
 {

@@ -6,7 +6,6 @@ ghost use Rattle.report_notes.specs.Notes.{begins_blank, is_known, kind_in};
 
 use trf16::{is_word, next_word, split_kind, without_blanks};
 
-// Whether a kind is one of some words.
 fn is_among(kind: &[u8], kinds: &[u8]) -> bool
     ensures { result ≡ list_any (is_word kind.now) (words kinds.now) }
 {
@@ -20,7 +19,7 @@ fn is_among(kind: &[u8], kinds: &[u8]) -> bool
     false
 }
 
-/// Whether a kind is known: it is read, it refuses a command, or it is one of TRF16's that are carried.
+/// Known are the kinds that are read, those that refuse a command, and those of TRF16 that are carried.
 #[tactic(auto, unfolding(crate::specs::Notes::is_known))]
 pub(crate) fn is_known(kind: &[u8]) -> bool
     ensures { result ≡ is_known kind.now }
@@ -38,7 +37,6 @@ pub(crate) fn kind_in(line: &[u8], utf8: bool) -> &[u8]
     split_kind(without_blanks(line), utf8).0
 }
 
-/// Whether a blank stands in front.
 pub(crate) fn begins_blank(line: &[u8]) -> bool
     ensures { result ≡ begins_blank line.now }
 {

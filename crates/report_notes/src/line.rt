@@ -119,7 +119,7 @@ fn extension_left<'a>(report: &Report<'_>, n: usize, line: &'a [u8]) -> Left<'a>
     }
 }
 
-// Whether a line `XXR` names at least as many rounds as there are players.
+// So many rounds are more than a player has opponents.
 fn has_many_rounds(report: &Report<'_>) -> bool
     ensures { result ≡ has_many_rounds report.now }
 {

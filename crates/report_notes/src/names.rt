@@ -68,7 +68,6 @@ fn absent_note<'a>(report: &Report<'_>, n: usize, word: &[u8]) -> Option<Note<'a
     }
 }
 
-// Whether each word is a number.
 fn are_all(bytes: &[u8], number: u16) -> bool
     ensures { result ≡ are_all number (words bytes.now) }
 {
@@ -82,7 +81,7 @@ fn are_all(bytes: &[u8], number: u16) -> bool
     true
 }
 
-/// Whether there are words, and all of them are one number.
+/// A line `XXP` that names one number alone keeps nobody apart. Without words the answer is no.
 pub(crate) fn names_one(bytes: &[u8]) -> bool
     ensures { result ≡ names_one (words bytes.now) }
 {

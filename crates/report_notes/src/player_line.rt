@@ -139,7 +139,6 @@ fn last_column(report: &Report<'_>) -> usize
     101 + 10 * usize::from(report.rounds_played())
 }
 
-// Whether something stands behind that column.
 fn goes_on_behind(report: &Report<'_>, line: &[u8]) -> bool
     ensures { result ≡ goes_on_behind report.now (columns report.now.utf8 line.now) }
 {

@@ -131,7 +131,6 @@ fn opponent_of_game(cell: &Cell) -> Option<u16>
     }
 }
 
-// Whether a cell is a game against a player.
 fn is_game_against(cell: &Cell, player: u16) -> bool
     ensures { result ≡ is_game_against player cell.now }
 {
@@ -154,14 +153,13 @@ fn meeting_note(cells: &[Cell], round: u8) -> Option<RoundNote>
     }
 }
 
-// Whether one of some cells is a game against a player.
 fn is_met(cells: &[Cell], player: u16) -> bool
     ensures { result ≡ list_any (is_game_against player) cells.now }
 {
     cells.iter().any(|cell| is_game_against(cell, player))
 }
 
-// Whether a cell bars its player from the pairing-allocated bye (C.2).
+// By C.2 such a cell bars its player from the pairing-allocated bye.
 fn bars_bye(cell: &Cell) -> bool
     ensures { result ≡ bars_bye cell.now }
 {
@@ -172,7 +170,6 @@ fn bars_bye(cell: &Cell) -> bool
     }
 }
 
-/// Whether a cell is the pairing-allocated bye.
 pub(crate) fn is_allocated(cell: &Cell) -> bool
     ensures { result ≡ is_allocated cell.now }
 {
@@ -194,7 +191,6 @@ fn bye_note(cells: &[Cell], round: u8) -> Option<RoundNote>
     }
 }
 
-// Whether one of some cells bars the player from it.
 fn has_bar(cells: &[Cell]) -> bool
     ensures { result ≡ list_any bars_bye cells.now }
 {
@@ -223,7 +219,6 @@ fn few_points(halves: u16) -> Option<RoundNote>
     }
 }
 
-// Whether a cell says something.
 fn is_filled(cell: &Cell) -> bool
     ensures { result ≡ is_filled cell.now }
 {
@@ -249,7 +244,6 @@ fn cell_note(report: &Report<'_>, start: u16, cells: &[Cell], round: u8) -> Opti
     }
 }
 
-// Whether one of some cells says something.
 fn has_filled(cells: &[Cell]) -> bool
     ensures { result ≡ list_any is_filled cells.now }
 {

@@ -6,7 +6,7 @@ ghost use Rattle.report_notes.specs.Games.{counts_to_come};
 
 use trf16::{Player, Report, front};
 
-/// Whether the points field of the player with a start rank counts a round to come.
+/// Such a points field is accepted, but may not be meant.
 pub(crate) fn counts_to_come(report: &Report<'_>, start: u16) -> bool
     ensures { result ≡ option_map_or (counts_to_come report.now) (player_of report.now.players start) false }
 {
@@ -16,7 +16,6 @@ pub(crate) fn counts_to_come(report: &Report<'_>, start: u16) -> bool
     }
 }
 
-// The same of a player.
 fn field_counts_to_come(report: &Report<'_>, player: &Player<'_>) -> bool
     ensures { result ≡ counts_to_come report.now (entry_of player.now) }
 {

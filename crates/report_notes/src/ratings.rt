@@ -25,7 +25,7 @@ fn rating_of(player: &Player<'_>, utf8: bool) -> Option<u16>
     }
 }
 
-// Whether a player has a start rank and a rating below given ones.
+// Both the start rank and the rating are smaller; a player without a rating is not rated below anybody.
 fn is_rated_below(player: &Player<'_>, utf8: bool, start: u16, rating: u16) -> bool
     ensures { result ≡ is_rated_below utf8 start rating (entry_of player.now) }
 {
@@ -48,7 +48,7 @@ fn smaller(first: Option<u16>, start: u16) -> u16
     }
 }
 
-// The smallest start rank among those of the players who are rated so.
+// The smallest start rank of a player who is rated below.
 fn first_rated_below(report: &Report<'_>, start: u16, rating: u16) -> Option<u16>
     ensures { result ≡ first_rated_below report.now start rating }
 {
@@ -61,7 +61,7 @@ fn first_rated_below(report: &Report<'_>, start: u16, rating: u16) -> Option<u16
     first
 }
 
-// Whether a player has no cell, while some round was paired.
+// In front of the first round nobody is late.
 fn is_late(report: &Report<'_>, player: &Player<'_>) -> bool
     ensures { result ≡ is_late report.now (entry_of player.now) }
 {

@@ -99,7 +99,7 @@ pub fn columns_of(fault: Fault, bytes: &[u8]) -> Option<Columns>
     }
 }
 
-/// Whether a column of a text is a character: the text is UTF-8. Otherwise a column is a byte.
+/// Yes if a text is UTF-8: then a column of it is a character. Otherwise a column is a byte.
 pub fn has_characters(bytes: &[u8]) -> bool
     ensures { result ≡ is_utf8 (without_marks bytes.now) }
 {
@@ -151,7 +151,7 @@ pub fn line_of(fault: Fault) -> Option<usize>
     }
 }
 
-/// Whether each line of a refused text is read: it has not too many bytes, and no rule on a line is broken.
+/// Yes if each line of a refused text was read: it has not too many bytes, and no rule on a line is broken.
 pub fn are_lines_read(fault: Fault) -> bool
     ensures { result ≡ are_lines_read (Err fault) }
 {

@@ -79,7 +79,6 @@ pub(crate) fn next_of_rounds<'a>(
     }
 }
 
-// Whether nobody has an opponent in a round.
 fn has_no_game(report: &Report<'_>, round: u8) -> bool
     requires { 0 < round }
     ensures { result ≡ has_no_game report.now round }

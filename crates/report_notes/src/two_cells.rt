@@ -9,7 +9,6 @@ use crate::fields::{number_in, start_in};
 use crate::refusal::{columns_in, has_characters};
 use trf16::{next_line, skip_marks, split_kind};
 
-// Whether a line is that of the player with a start rank.
 fn is_line_of(line: &[u8], utf8: bool, start: u16) -> bool
     ensures { result ≡ (is_player (columns utf8 line.now) && (start_in (columns utf8 line.now) == start)) }
 {

@@ -115,14 +115,12 @@ fn key_named(name: &str) -> Option<Key>
     }
 }
 
-// Whether a key is one of some keys.
 fn is_among(key: Key, keys: &[Key]) -> bool
     ensures { result ≡ list_any (is_same key) keys.now }
 {
     keys.iter().any(|other| is_same(key, *other))
 }
 
-// Whether two keys are one.
 fn is_same(key: Key, other: Key) -> bool
     ensures { result ≡ is_same key other }
 {

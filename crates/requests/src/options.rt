@@ -30,16 +30,16 @@ pub enum WordFault {
 /// What is asked of `check`.
 #[derive(Clone, Copy)]
 pub struct CheckOptions {
-    /// Whether it is told too what looks like a mistake.
+    /// If set, what looks like a mistake is told too.
     pub notes: bool,
 }
 
 /// What is asked of `format`.
 #[derive(Clone, Copy)]
 pub struct FormatOptions {
-    /// Whether each points field is written as a sum, and compared with none.
+    /// If set, each points field is written as a sum, and compared with none.
     pub points: bool,
-    /// Whether the players get the start ranks that rating and title give.
+    /// If set, the players get the start ranks that rating and title give.
     pub renumber: bool,
     /// The round before which the report is taken as it stood, where the words name one: at most `MOST_ROUNDS`.
     pub round: Option<u8>,
@@ -74,9 +74,10 @@ pub enum Shown {
 /// What is asked of `boards`.
 #[derive(Clone, Copy)]
 pub struct BoardsOptions {
-    /// The round whose boards are wanted, where the words name one: at most `MOST_ROUNDS`; else the last that was paired.
+    /// The round whose boards are wanted, where the words name one: at most `MOST_ROUNDS`; else the last that was
+    /// paired.
     pub round: Option<u8>,
-    /// Whether names, scores and results are wanted, in columns for the wall.
+    /// If set, names, scores and results are wanted, in columns for the wall.
     pub names: bool,
 }
 
@@ -120,9 +121,9 @@ pub struct Question {
 pub struct StandingsOptions {
     /// What players of one score are told apart by.
     pub keys: Keys,
-    /// Whether the names are wanted, in columns for the wall.
+    /// If set, the names are wanted, in columns for the wall.
     pub names: bool,
-    /// Whether the games are wanted, in a column for each round.
+    /// If set, the games are wanted, in a column for each round.
     pub games: bool,
     /// The round before which the report is taken as it stood, where the words name one: at most `MOST_ROUNDS`.
     pub round: Option<u8>,
@@ -174,7 +175,7 @@ impl<'a> GivenCursor<'a> {
 pub trait CursorSyntax {
     ghost is_cursor: { List ℕ → Bool };
 
-    /// Whether a text is a cursor.
+    /// Yes if `--from` may have the text: it has the form of a cursor.
     fn is_cursor(text: &str) -> bool
         ensures { result ≡ is_cursor text.now };
 }
@@ -374,8 +375,8 @@ fn count_in(matches: &ArgMatches<'_>) -> usize
     matches.get_one::<usize>("count").unwrap_or(100)
 }
 
-// `--round`, the round that is asked for, or `--rounds`, the number of rounds of the tournament. No words with a greater
-// one come here.
+// `--round`, the round that is asked for, or `--rounds`, the number of rounds of the tournament. No words with a
+// greater one come here.
 fn few_rounds_in(matches: &ArgMatches<'_>, name: &str) -> Option<u8>
     ensures { result ≡ number_in MOST_ROUNDS name.now (rows_in matches.now) }
 {
@@ -391,14 +392,12 @@ fn steps_in(matches: &ArgMatches<'_>) -> u64
     matches.get_one::<u64>("steps").unwrap_or(10_000_000)
 }
 
-// Whether a flag is set.
 fn flag_in(matches: &ArgMatches<'_>, name: &str) -> bool
     ensures { result ≡ flag_in name.now (rows_in matches.now) }
 {
     matches!(text_in(matches, name), Some("true"))
 }
 
-// The text of an option.
 fn text_in<'a>(matches: &ArgMatches<'a>, name: &str) -> Option<&'a str>
     ensures { option_map (λ t. t.now) result ≡ first_of name.now (rows_in matches.now) }
 {

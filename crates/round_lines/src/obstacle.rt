@@ -48,7 +48,6 @@ impl fmt::Display for Obstacle {
     }
 }
 
-// Whether one has played a game against the other in a round.
 fn has_played(report: &Report<'_>, one: u16, other: u16, round: u8) -> bool
     requires { 0 < round }
     ensures { result ≡ has_played report.now one other round }
@@ -59,7 +58,7 @@ fn has_played(report: &Report<'_>, one: u16, other: u16, round: u8) -> bool
     }
 }
 
-// The first round in which they have played.
+// The first round in which two players have played against each other.
 #[tactic(auto, using(crate::proofs::ObstacleLemmas::passed, crate::proofs::ObstacleLemmas::found, crate::proofs::ObstacleLemmas::none))]
 fn first_meeting(report: &Report<'_>, one: u16, other: u16) -> Option<u8>
     ensures { result ≡ first_meeting report.now one other }

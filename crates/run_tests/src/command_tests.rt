@@ -112,12 +112,10 @@ pub(crate) fn check(alloc: Global, text: &[u8]) -> Ended {
     run_on(alloc, &["check"], text, 1000, 1000)
 }
 
-// Whether a run printed a text and did nothing else.
 pub(crate) fn has_printed(ended: &Ended, text: &str) -> bool {
     ended.status == Status::Done && ended.out.as_slice() == text.as_bytes() && ended.err.is_empty()
 }
 
-// Whether a run refused a report with a text and did nothing else.
 pub(crate) fn has_refused(ended: &Ended, text: &str) -> bool {
     ended.status == Status::Refused
         && ended.out.is_empty()
@@ -215,7 +213,6 @@ fn options_are_refused_before_reading(rt: HostRuntime) {
     }
 }
 
-// Whether a text has a part.
 fn contains(text: &[u8], part: &[u8]) -> bool {
     part.is_empty() || text.windows(part.len()).any(|window| window == part)
 }

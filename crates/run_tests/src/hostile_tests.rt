@@ -45,7 +45,7 @@ fn with_room(alloc: Global, room: usize, fails: bool) -> Counted<Narrow> {
     Counted::new(Narrow { held, room, fails })
 }
 
-// Whether `check` has a verdict on a text, and the same one where a call gives one byte.
+// The verdict must be the same where each call gives one byte.
 fn has_a_verdict(alloc: Global, text: &[u8]) -> bool {
     let whole = check(alloc, text);
     let dripped = run_on(alloc, &["check"], Dripping(text), 1000, 1000);
@@ -66,7 +66,7 @@ fn each_prefix_has_a_verdict(rt: HostRuntime) -> Result<(), AllocError> {
     Ok(())
 }
 
-// Whether `check` has a verdict on a text with any of its bytes replaced by one.
+// Each byte of the text in turn is replaced by the one given.
 fn has_verdicts_with(alloc: Global, text: &[u8], byte: u8) -> Result<bool, AllocError> {
     for place in 0..text.len() {
         let mut changed = Vec::from_slice(alloc, text)?;
@@ -122,7 +122,7 @@ fn run_into<'a>(
     Ok((status, out.into_inner().held))
 }
 
-// Whether an output of any room has the first bytes of the text, and the status says whether these are all.
+// An output that has room for only some bytes must get the first ones of the text; `Done` means that it got all.
 fn has_first_bytes<'a>(
     alloc: Global,
     words: &'a [&'a str],

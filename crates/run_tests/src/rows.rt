@@ -71,12 +71,10 @@ pub(crate) fn output(ended: &Ended) -> &str {
     str::from_utf8(ended.out.as_slice()).unwrap_or("")
 }
 
-// Whether a run ended so, with a text on standard output and nothing else.
 pub(crate) fn has_told(ended: &Ended, status: Status, text: &str) -> bool {
     ended.status == status && ended.out.as_slice() == text.as_bytes() && ended.err.is_empty()
 }
 
-// Whether a run refused its words with a text and did nothing else.
 pub(crate) fn has_refused_words(ended: &Ended, text: &str) -> bool {
     ended.status == Status::BadWords
         && ended.out.is_empty()

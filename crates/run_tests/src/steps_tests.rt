@@ -22,7 +22,7 @@ fn pair_within(alloc: Global, case: &Case<'_>, steps: u32) -> Result<Ended, Allo
     run_over(alloc, words.as_str(), case.report)
 }
 
-// Whether a run ended undecided at a limit of steps, in one of the first brackets.
+// Any of the first brackets may be the one in which the steps ran out.
 fn is_undecided(
     alloc: Global,
     ended: &Ended,
@@ -51,7 +51,7 @@ fn first_decided(alloc: Global, case: &Case<'_>) -> Result<(u32, Ended), AllocEr
     Ok((100_000, ended))
 }
 
-// Whether that answer is the case's boards, and stays.
+// The least limit that decides must give the case's boards, and greater ones the same.
 fn is_decided_for_good(alloc: Global, case: &Case<'_>) -> Result<bool, AllocError> {
     let (least, first) = first_decided(alloc, case)?;
     let next = pair_within(alloc, case, least.saturating_add(1))?;
@@ -63,7 +63,7 @@ fn is_decided_for_good(alloc: Global, case: &Case<'_>) -> Result<bool, AllocErro
     )
 }
 
-// Whether the case's last bracket is reached and no further one.
+// The case has the right number of brackets: the last of them is reached, and none behind it.
 fn has_brackets(alloc: Global, case: &Case<'_>) -> Result<bool, AllocError> {
     let rounds = case.rounds;
     let last = case.brackets;

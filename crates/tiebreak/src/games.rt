@@ -14,7 +14,7 @@ fn is_game_with(cell: &Cell, other: u16) -> bool
     }
 }
 
-/// Whether a game between two was played.
+/// A forfeit is no meeting.
 #[tactic(auto, using(crate::proofs::RoundLemmas::next))]
 pub(crate) fn have_met(report: &Report<'_>, a: u16, b: u16) -> bool
     ensures { result ≡ have_met report.now a b }

@@ -46,7 +46,6 @@ fn group_of(alloc: Global, rows: &[Row], row: &Row) -> Result<Vec<u16>, AllocErr
         .collect(alloc)
 }
 
-// Whether one of a group has met all others of it.
 fn has_met_all(report: &Report<'_>, start: u16, group: &[u16]) -> bool
     ensures { result ≡ list_all (λ other. (start == other) || have_met report.now start other) group.now }
 {
@@ -61,7 +60,6 @@ fn have_all_met(report: &Report<'_>, group: &[u16]) -> bool
     group.iter().all(|start| has_met_all(report, *start, group))
 }
 
-// Whether a game was played against one of a group.
 fn is_against(group: &[u16], cell: &Cell) -> bool
     ensures { result ≡ is_against group.now cell.now }
 {

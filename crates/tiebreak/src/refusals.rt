@@ -1,4 +1,4 @@
-// Whether a report has standings.
+// The reports that have no standings.
 ghost use Rattle.std.specs.Prelude.{◌≡◌, ◌≢◌, IfErr};
 ghost use Rattle.tiebreak.specs.declared.fault.TieFault.TheVariants.{OutOfMemory};
 ghost use Rattle.tiebreak.specs.Standings.{judged};

@@ -71,14 +71,12 @@ impl Row {
         })
     }
 
-    // Whether two rows have the same score and the same values.
     pub(crate) fn is_level(&self, other: &Row) -> bool
         ensures { result ≡ is_level self.now other.now }
     {
         self.score == other.score && self.values == other.values
     }
 
-    // Whether the row stands in front of another.
     pub(crate) fn goes_before(&self, other: &Row) -> bool
         ensures { result ≡ goes_before self.now other.now }
     {

@@ -94,7 +94,6 @@ fn cell_fits(report: &Report<'_>, player: u16, round: u8, cell: &Cell) -> Result
     pair_fits(player, round_number, cell, &theirs)
 }
 
-// Whether a cell names a player.
 fn names(cell: &Cell, player: u16) -> bool
     ensures { result ≡ option_map_or (λ o. o == player) (opponent_in_cell cell.now) false }
 {

@@ -66,7 +66,7 @@ pub(crate) fn last_paired(cells: &[Cell]) -> u8
     last
 }
 
-/// Whether a cell is a game without a result.
+/// Yes for a game without a result.
 pub fn is_unfinished(cell: &Cell) -> bool
     ensures { result ≡ is_unfinished cell.now }
 {

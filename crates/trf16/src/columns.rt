@@ -89,7 +89,7 @@ impl<'a> Line<'a> {
         front.split_at(place_at(&self.starts, first - 1, len)).1
     }
 
-    /// Whether the line has a column; each is taken to be there that is not known to be missing.
+    /// A no is certain; a column that is not known to be missing is taken to be there.
     pub(crate) fn reaches(&self, column: usize) -> bool
         requires from_one { 0 < column }
         requires in_reach { column ≤ LAST_COLUMN }
@@ -99,7 +99,7 @@ impl<'a> Line<'a> {
         place_at(&self.starts, column - 1, len) < len
     }
 
-    /// Whether something stands behind the last column that is read.
+    /// Blanks behind the last column that is read are allowed.
     pub(crate) fn is_too_long(&self) -> bool
         ensures { result ≡ not (is_blank (joined (drop LAST_COLUMN self.now))) }
     {
@@ -145,7 +145,7 @@ pub fn column_count(bytes: &[u8], utf8: bool) -> usize
     count
 }
 
-/// Whether there is nothing but blanks.
+/// Yes if there is nothing but blanks, and so if there is nothing.
 pub fn is_blank(bytes: &[u8]) -> bool
     ensures { result ≡ is_blank bytes.now }
 {

@@ -69,14 +69,13 @@ impl<'a> Draft<'a> {
         }
     }
 
-    /// Whether a column is a character, and not a byte.
+    /// If so, a column is a character; otherwise it is a byte.
     pub(crate) fn is_utf8(&self) -> bool
         ensures { result ≡ self.now.utf8 }
     {
         self.utf8
     }
 
-    /// Whether a start rank is that of a player.
     pub(crate) fn knows(&self, start: u16) -> bool
         ensures { result ≡ known self.now start }
     {
@@ -99,7 +98,6 @@ impl<'a> Draft<'a> {
         Ok(())
     }
 
-    /// Whether a line has named the total of rounds.
     pub(crate) fn has_total(&self) -> bool
         ensures { result ≡ is_some self.now.total }
     {
@@ -127,7 +125,6 @@ impl<'a> Draft<'a> {
         self.initial = initial;
     }
 
-    /// Whether more than `MOST_ROUNDS` rounds are named.
     pub(crate) fn names_too_many_rounds(&self) -> bool
         ensures { result ≡ names_too_many_rounds self.now }
     {

@@ -10,7 +10,7 @@ use crate::cell::Colour;
 use crate::columns::split_kind;
 use crate::fields::{next_word, number_in, number_of};
 
-/// Whether two words are the same but for the case of their letters.
+/// Yes if two words are the same but for the case of their letters.
 pub fn is_word(word: &[u8], capitals: &[u8]) -> bool
     ensures { result ≡ is_word word.now capitals.now }
 {
@@ -43,7 +43,7 @@ fn colour_named(word: &[u8]) -> Option<Option<Colour>>
     None
 }
 
-// What two name together, who do not name both colours.
+// White and black together are no answer; `rank` beside a colour changes nothing.
 fn named_together(front: Option<Colour>, named: Option<Colour>) -> Option<Option<Colour>>
     ensures { result ≡ named_together front named }
 {
@@ -83,7 +83,7 @@ pub(crate) fn colour_in(initial: Option<Colour>, rest: &[u8]) -> Option<Option<C
     colour_behind_all(initial, rest)
 }
 
-/// Whether each word of a line `XXZ` or `XXP` is a start rank.
+/// A line `XXZ` or `XXP` with another word is refused.
 pub(crate) fn are_start_ranks(bytes: &[u8]) -> bool
     ensures { result ≡ are_start_ranks (words bytes.now) }
 {
@@ -97,7 +97,7 @@ pub(crate) fn are_start_ranks(bytes: &[u8]) -> bool
     true
 }
 
-/// Whether one of the words is `rank`.
+/// A line `XXC` with this word is of a kind that is not supported.
 pub(crate) fn has_rank(bytes: &[u8]) -> bool
     ensures { result ≡ list_any (λ word. is_word word (codes "RANK")) (words bytes.now) }
 {
@@ -111,7 +111,6 @@ pub(crate) fn has_rank(bytes: &[u8]) -> bool
     false
 }
 
-// Whether one of the words is a number.
 fn is_named(bytes: &[u8], number: u16) -> bool
     ensures { result ≡ is_named (words bytes.now) number }
 {
@@ -125,7 +124,6 @@ fn is_named(bytes: &[u8], number: u16) -> bool
     false
 }
 
-/// Whether a line is of the kind `XXP` and names two numbers.
 pub(crate) fn names_both(line: &[u8], utf8: bool, a: u16, b: u16) -> bool
     ensures { result ≡ names_both a b (columns utf8 line.now) }
 {

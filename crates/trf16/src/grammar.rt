@@ -59,7 +59,7 @@ fn forfeit_cell(opponent: u16, colour: Option<Colour>, result_mark: u8) -> Optio
     })
 }
 
-// Whether a game is rated, and how it ended.
+// The first part tells that the game is rated; `W`, `D` and `L` are the results of games that are not.
 fn outcome_of(result_mark: u8) -> Option<(bool, GameOutcome)>
     ensures { result ≡ outcome_of result_mark }
 {

@@ -57,7 +57,6 @@ impl Apart {
         Ok(Apart { starts, marks })
     }
 
-    /// The same once more.
     pub(crate) fn copy(&self, alloc: Global) -> Result<Apart, AllocError>
         ensures both { IfOk result (λ apart. (i j : ℕ) → are_marked apart i j ≡ are_marked self.now i j) }
         ensures same { IfOk result (λ apart. apart.starts.items ≡ self.now.starts.items) }
@@ -69,7 +68,6 @@ impl Apart {
         })
     }
 
-    /// Whether two players are named together.
     pub(crate) fn has(&self, i: usize, j: usize) -> bool
         requires first { i < MOST_PLAYERS }
         requires second { j < MOST_PLAYERS }

@@ -22,7 +22,6 @@ impl StartRanks {
         })
     }
 
-    /// The same once more.
     pub(crate) fn copy(&self, alloc: Global) -> Result<StartRanks, AllocError>
         ensures { IfOk result (λ starts. (start : ℕ) → has_start starts start ≡ has_start self.now start) }
     {
@@ -31,7 +30,6 @@ impl StartRanks {
         })
     }
 
-    /// Whether a start rank is one of them.
     pub(crate) fn has(&self, start: u16) -> bool
         ensures { result ≡ has_start self.now start }
     {
@@ -41,7 +39,6 @@ impl StartRanks {
         }
     }
 
-    // One start rank more.
     fn mark(&mut self, start: u16)
         requires { start < 10000 }
         ensures { (i : ℕ) → has_start self.new i ≡ (has_start self.old i || (start == i)) }
@@ -49,7 +46,7 @@ impl StartRanks {
         self.marks[usize::from(start)] = true;
     }
 
-    // The start rank that a word is more, if it is one.
+    // A word that is no number adds nothing.
     fn mark_word(&mut self, word: &[u8])
         ensures { (i : ℕ) → has_start self.new i
             ≡ (has_start self.old i || option_map_or (λ n. n == i) (number_of word.now) false) }
@@ -59,7 +56,6 @@ impl StartRanks {
         }
     }
 
-    /// Each start rank among some words more.
     pub(crate) fn mark_words(&mut self, bytes: &[u8])
         ensures { (i : ℕ) → has_start self.new i ≡ (has_start self.old i || is_named (words bytes.now) i) }
     {

@@ -17,7 +17,7 @@ fn name_of(left: &[u8], utf8: bool) -> &[u8]
 }
 
 impl<'a> Report<'a> {
-    /// Whether a column is a character: the report is UTF-8. Otherwise a column is a byte.
+    /// Yes if the report is UTF-8: then a column is a character. Otherwise a column is a byte.
     pub fn is_utf8(&self) -> bool
         ensures { result ≡ self.now.utf8 }
     {

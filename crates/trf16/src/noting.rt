@@ -29,7 +29,6 @@ impl Notes {
         })
     }
 
-    /// The same once more.
     pub(crate) fn copy(&self, alloc: Global) -> Result<Notes, AllocError>
         ensures absent { IfOk result (λ notes. (start : ℕ) → is_marked notes start ≡ is_marked self.now start) }
         ensures firsts { IfOk result (λ notes. (kind : LineKind) → first_noted notes kind ≡ first_noted self.now kind) }
@@ -44,7 +43,7 @@ impl Notes {
         })
     }
 
-    /// The same, but that nobody is absent.
+    /// Forgets who is absent.
     pub(crate) fn without_absences(&mut self, alloc: Global) -> Result<(), AllocError>
         ensures absent { IfOk result (λ _. (start : ℕ) → is_marked self.new start ≡ false) }
         ensures firsts { (kind : LineKind) → first_noted self.new kind ≡ first_noted self.old kind }
@@ -120,7 +119,7 @@ impl Notes {
     }
 }
 
-// Whether a line begins as all extensions do.
+// All extensions begin so.
 fn begins_with_x(line: &[u8]) -> bool
     ensures { result ≡ begins_with_x line.now }
 {

@@ -28,28 +28,27 @@ fn is_absence(cell: &Cell) -> bool
 }
 
 impl<'a> Report<'a> {
-    /// Whether a line `XXZ` names a player: then they are absent from the next round, whatever their cells say.
+    /// Yes if a line `XXZ` names a player: then they are absent from the next round, whatever their cells say.
     pub fn is_named_absent(&self, start: u16) -> bool
         ensures { result ≡ is_named_absent self.now start }
     {
         self.notes.absent.has(start)
     }
 
-    // The first line of a kind.
     fn first_line(&self, kind: LineKind) -> Option<usize>
         ensures { result ≡ first_of (kind ∷ []) self.now }
     {
         self.notes.first(kind)
     }
 
-    // Whether a line `XXS` says that games have other points.
+    // A line `XXS` gives games other points: then a points field need not be the sum of the cells.
     pub(crate) fn has_other_points(&self) -> bool
         ensures { result ≡ has_other_points self.now }
     {
         self.first_line(LineKind::Xxs).is_some()
     }
 
-    /// Whether a player is absent from the round after the last one that was paired: a line `XXZ` names them, or their
+    /// Yes if a player is absent from the round after the last one that was paired: a line `XXZ` names them, or their
     /// cell there is `H`, `F` or `Z`.
     pub fn absent(&self, start: u16) -> bool
         ensures { result ≡ absent self.now start }
@@ -66,7 +65,7 @@ impl<'a> Report<'a> {
         self.players.get_index_of(&start)
     }
 
-    // Whether a line `XXP` names two numbers, found by walking the text.
+    // Found by walking the text, for a number that no player has.
     fn are_named_together(&self, a: u16, b: u16) -> bool
         ensures { result ≡ some_carried (names_both a b) self.now }
     {
@@ -94,8 +93,8 @@ impl<'a> Report<'a> {
         }
     }
 
-    /// Whether a line `XXP` names two different numbers: then the players with these start ranks do not meet in the
-    /// next round. For players it is looked up; for a number that no player has, the time grows with the text.
+    /// Yes if a line `XXP` names two different numbers: then the players with these start ranks do not meet in the next
+    /// round. For players it is looked up; for a number that no player has, the time grows with the text.
     pub fn apart(&self, a: u16, b: u16) -> bool
         ensures { result ≡ apart self.now a b }
     {

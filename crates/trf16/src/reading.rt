@@ -308,7 +308,7 @@ fn is_utf8(bytes: &[u8]) -> bool
     str::from_utf8(bytes).is_ok()
 }
 
-// Whether the report is not too large and has players.
+// Refuses a report that is too large, or that has no players.
 #[tactic(auto, unfolding(crate::specs::Verdict::sized))]
 fn has_size(draft: &Draft<'_>, too_long: bool) -> Result<(), Fault>
     ensures given { Gives (λ _. draft.now) result (sized draft.now too_long) }
@@ -328,7 +328,7 @@ fn has_size(draft: &Draft<'_>, too_long: bool) -> Result<(), Fault>
     Ok(())
 }
 
-// The report, if that is so.
+// The report, unless its size is refused.
 fn sized<'a>(
     alloc: Global,
     draft: Draft<'a>,

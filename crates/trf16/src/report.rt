@@ -123,7 +123,7 @@ impl<'a> Report<'a> {
         points_of(cells, self.bye)
     }
 
-    /// Whether a start rank is that of a player.
+    /// Yes if a player of the report has the start rank.
     pub fn knows(&self, start: u16) -> bool
         ensures { result ≡ known self.now start }
     {

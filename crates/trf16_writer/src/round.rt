@@ -85,7 +85,7 @@ fn cells_with(
     }
 }
 
-// Whether a board names a player.
+// Black 0 is nobody: white has the bye.
 fn is_naming(board: (u16, u16), start: u16) -> bool
     ensures { result ≡ list_any (nat_eq start) (named_by (board ∷ [])) }
 {
@@ -96,7 +96,6 @@ fn is_naming(board: (u16, u16), start: u16) -> bool
     black != 0 && start == black
 }
 
-// Whether some boards name a player.
 fn are_naming(boards: &[(u16, u16)], start: u16) -> bool
     ensures { result ≡ list_any (nat_eq start) (named_by boards.now) }
 {
@@ -108,7 +107,7 @@ fn are_naming(boards: &[(u16, u16)], start: u16) -> bool
     false
 }
 
-// Whether a start rank is that of a player who is present, and whom no later board names.
+// A round names each player once, so whoever a later board names is not free.
 fn is_free(report: &Report<'_>, start: u16, later: &[(u16, u16)]) -> bool
     ensures { result ≡ is_free report.now (named_by later.now) start }
 {
@@ -118,7 +117,7 @@ fn is_free(report: &Report<'_>, start: u16, later: &[(u16, u16)]) -> bool
     !are_naming(later, start)
 }
 
-// The same of both players of a board.
+// Both players of a board, who must be two, or the one who has the bye.
 fn are_free(report: &Report<'_>, board: (u16, u16), later: &[(u16, u16)]) -> bool
     ensures { (result && are_free report.now (named_by later.now))
         ≡ are_free report.now (named_by (board ∷ later.now)) }
@@ -172,8 +171,8 @@ pub(crate) fn player_with<'a>(
     })
 }
 
-/// Whether some boards can be the next round of a report: whoever they name is a player of it, is present, and is named
-/// once; and the last round that there can be is not paired yet.
+/// True exactly if the boards can be the next round of a report: whoever they name is a player of it, is present, and
+/// is named once; and the last round that there can be is not paired yet.
 pub fn can_be_paired(report: &Report<'_>, boards: &[(u16, u16)]) -> bool
     ensures { IsTrue result ↔ CanBePaired boards.now report.now }
 {

@@ -49,7 +49,7 @@ fn listing(
     Ok((numbers, budget.used))
 }
 
-// Whether the candidates have these numbers, with ample steps and, in as many, under limits that rise from 0.
+// Limits that rise from 0 must give the same candidates as ample steps, and in as many steps.
 fn are_listed(alloc: Global, bracket: &Bracket, shape: Shape, numbers: &[u16]) -> Result<bool, Fail>
     requires { Fits bracket.now shape }
 {
@@ -169,7 +169,7 @@ impl<'a> Bound for ByDifference<'a> {
     }
 }
 
-// Whether a listing within a bound gives candidates with these numbers and then ends.
+// The listing must also end: the right candidates alone are not enough.
 fn are_left<B: Bound<Room = ()>>(
     alloc: Global,
     mut candidates: Candidates<'_, Free>,

@@ -33,8 +33,8 @@ fn drawn<L: Generator + Drop>(
     Ok((numbers, budget.used))
 }
 
-// Whether two equal generators, one under an ample limit and one under limits that rise from 0, both hand out these
-// lists in as many steps.
+// The two generators are equal. One runs under an ample limit, the other under limits that rise from 0, and both must
+// take as many steps.
 fn are_drawn<L: Generator + Drop>(
     alloc: Global,
     one: L,
@@ -78,7 +78,7 @@ fn numbers_to(last: usize) -> Numbers
     numbered_from(1, last)
 }
 
-// Whether the next set of 512 numbers is 1 to 511 and this one.
+// The set must be 1 to 511 and the last number.
 fn is_next(sets: &mut Exchanges, last: u16, budget: &mut Budget) -> bool {
     let Step::Found(set) = sets.next(budget) else {
         return false;
