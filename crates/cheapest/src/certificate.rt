@@ -10,7 +10,7 @@ use dual::{MarkedSet, Table, Wide};
 use std::alloc::{AllocError, Global};
 
 impl Forest {
-    // Whether a vertex is in a blossom.
+    // A vertex is in all blossoms around its own one, so that each parent is looked at.
     fn is_inside(&self, v: u16, blossom: u16) -> bool {
         let mut node = v;
         for _ in 0..self.nodes {

@@ -35,7 +35,7 @@ fn sooner(first: Option<Event>, second: Option<Event>) -> Option<Event> {
 }
 
 impl Forest {
-    // Whether a node has a lower label than another one.
+    // Labels are compared; where there is no other one yet, any node is lower.
     fn is_lower(&self, node: u16, other: Option<u16>) -> bool {
         match other {
             Some(other) => self.label(node).is_less(self.label(other)),
@@ -58,13 +58,13 @@ impl Forest {
         })
     }
 
-    // Whether a vertex that is not inner knows an outer one that is nearest to it.
+    // An inner vertex notes its nearest one too, but is not joined to it while it is inner.
     fn can_join(&self, v: u16) -> bool {
         let place = usize::from(v);
         self.nearest.at(place).is_some() && self.noted.at(place) != Mark::Inner
     }
 
-    // Whether a vertex can be joined to the nearest one before another vertex can.
+    // Where there is no other one yet, any vertex comes first.
     fn joins_before(&self, v: u16, other: Option<u16>) -> bool {
         match other {
             Some(other) => {

@@ -91,7 +91,7 @@ impl Forest {
         self.reached.put(usize::from(node), Some(pair));
     }
 
-    // Whether the way along a circle from a node to another one is of even length.
+    // The way goes along a circle, from each node to its next one.
     fn is_even_way(&self, from: u16, end: u16) -> bool {
         let mut node = from;
         let mut is_even = true;

@@ -149,12 +149,11 @@ impl Forest {
         self.marks.put(usize::from(node), mark);
     }
 
-    /// Whether a node is a blossom that lies in no other.
     pub(crate) fn is_outermost_blossom(&self, node: u16) -> bool {
         self.live.at(usize::from(node)) && self.parent_of(node).is_none()
     }
 
-    /// Whether a vertex has no partner.
+    /// In a blossom only the base can be without a partner.
     pub(crate) fn is_alone(&self, v: u16) -> bool {
         self.base_of(self.outer_of(v)) == v && self.partner_of(v).is_none()
     }

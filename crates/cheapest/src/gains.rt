@@ -100,7 +100,7 @@ impl Gains {
         }
     }
 
-    /// Whether a pair gains something.
+    /// Only pairs that gain something are joined.
     pub(crate) fn joins(&self, a: u16, b: u16) -> bool {
         a < self.size && b < self.size && self.joined.at(self.place(a, b))
     }

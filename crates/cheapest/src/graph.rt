@@ -8,7 +8,7 @@ pub trait Costs {
     /// How many vertices there are.
     ghost vertices: { Self → ℕ };
 
-    /// Whether two vertices are joined.
+    /// Two vertices are joined.
     ghost joined: { Self → ℕ → ℕ → Bool };
 
     /// How many vertices there are.

@@ -17,12 +17,12 @@ impl Forest {
         Ok(rest(labels, self.gains.at(a, b)))
     }
 
-    /// Whether two vertices gain something as a pair, and are in no common blossom.
+    /// Two vertices of one blossom are not joined again.
     fn can_be_joined(&self, a: u16, b: u16) -> bool {
         self.gains.joins(a, b) && self.outer_of(a) != self.outer_of(b)
     }
 
-    /// Whether the vertex that was nearest to a vertex is in a common blossom with it by now.
+    /// The nearest vertex is stale once a blossom has taken in both.
     fn is_stale(&self, v: u16, nearest: u16) -> bool {
         self.outer_of(v) == self.outer_of(nearest)
     }

@@ -24,7 +24,7 @@ abbrev pub odd_groups : List ℕ → (ℕ → ℕ) → ℕ → ℕ
 odd_groups players label zero = 0
 odd_groups players label (suc k) = group_size players label (suc k) % 2 + odd_groups players label k
 
--- whether a player is of a group of an odd number of players [with IsTooNarrow]
+-- a player is of a group of an odd number of players [with IsTooNarrow]
 abbrev pub is_of_odd_group : List ℕ → (ℕ → ℕ) → ℕ → Bool
 is_of_odd_group players label v = not (label v == 0) && (group_size players label (label v) % 2 == 1)
 

@@ -44,7 +44,7 @@ fn is_of_odd_group(labels: &[u16], players: &[u16], v: u16) -> bool
     group != 0 && group_size(labels, players, group) % 2 == 1
 }
 
-// Whether somebody in an odd group may be left over.
+// One odd group needs no blocker if one of its players is left over.
 fn may_leave_odd<R: Rule>(labels: &[u16], rule: &R, players: &[u16]) -> bool
     ensures { result ≡ list_any (λ v. (R.costs rule.now).may_be_left v
         && is_of_odd_group players.now (slice_index labels.now) v) players.now }
@@ -84,9 +84,9 @@ fn is_barrier<R: Rule>(labels: &[u16], most: u16, rule: &R, players: &[u16]) -> 
     are_labelled(labels, most, players) && are_apart(labels, rule, players)
 }
 
-/// Whether a barrier tells that players are not completable: those with label 0 are the blockers, the others are in
+/// Yes if a barrier shows that players are not completable: those with label 0 are the blockers, the others are in
 /// groups from 1 to `most`, and more groups are odd than the blockers serve, and one player of an odd group who may be
-/// left over.
+/// left over. A no says only that this barrier does not show it.
 pub fn tells_incompletable<R: Rule>(labels: &[u16], most: u16, rule: &R, players: &[u16]) -> bool
     ensures sound { IsTrue result → ¬ Completable (R.costs rule.now).meets (R.costs rule.now).may_be_left players.now }
     ensures whole { IsTrue result ↔ IsTooNarrow (R.costs rule.now).meets (R.costs rule.now).may_be_left players.now

@@ -62,7 +62,7 @@ impl Half {
         }
     }
 
-    /// Whether it is less than another number.
+    /// Yes if it is the smaller number; two equal ones give a no.
     pub fn is_less(self, other: Half) -> bool
         ensures { IsTrue result ↔ (self < other) }
     {

@@ -13,7 +13,7 @@ pub trait Rule {
     /// A number of which costs are known.
     ghost knows: { Self → ℕ → Type 0 };
 
-    /// Whether `a` may meet `b`.
+    /// Yes if the two may be a pair. The answer need not be the same with `b` first.
     fn may_meet(&self, a: u16, b: u16) -> bool
         ensures { result ≡ (costs self.now).meets a b };
 
@@ -23,7 +23,7 @@ pub trait Rule {
         requires second { knows self.now b }
         ensures { result ≡ (costs self.now).weight a b };
 
-    /// Whether `a` may be left over.
+    /// Yes if a matching may leave `a` over.
     fn may_be_left(&self, a: u16) -> bool
         ensures { result ≡ (costs self.now).may_be_left a };
 

@@ -1,6 +1,6 @@
-// Numbers of two halves of 256 bits each, in which the costs and the sums of a certificate are counted. What does not fit
-// is answered by none: no sum wraps, and no difference stops at zero. A sum or a difference goes from the lower half to
-// the upper one, half of a number from the upper one to the lower one, and a carry goes with it.
+// Numbers of two halves of 256 bits each, in which the costs and the sums of a certificate are counted. What does not
+// fit is answered by none: no sum wraps, and no difference stops at zero. A sum or a difference goes from the lower
+// half to the upper one, half of a number from the upper one to the lower one, and a carry goes with it.
 ghost use Rattle.std.specs.Prelude.{◌≡◌, ◌≤◌, ◌<◌, ◌+◌, ◌-◌, ◌*◌, ◌/◌, ◌^◌, ◌↔◌, SomeIff, IsTrue};
 
 use crate::half::Half;
@@ -70,14 +70,14 @@ impl Wide {
         }
     }
 
-    /// Whether it is zero.
+    /// Yes for zero alone.
     pub fn is_zero(self) -> bool
         ensures { IsTrue result ↔ (self ≡ 0) }
     {
         self == Wide::zero()
     }
 
-    /// Whether it is less than another number.
+    /// Yes if it is the smaller number; two equal ones give a no.
     pub fn is_less(self, other: Wide) -> bool
         ensures { IsTrue result ↔ (self < other) }
     {

@@ -21,7 +21,6 @@ fn times_named(pairs: &[(u16, u16)], left: &[u16], v: u16) -> usize
     first + second + times(left, v)
 }
 
-// Whether two for each pair and those left over are as many as there are players.
 fn are_as_many(pairs: &[(u16, u16)], left: &[u16], players: &[u16]) -> bool
     ensures { IsTrue result ↔ (2 * length pairs.now + length left.now ≡ length players.now) }
 {
@@ -45,7 +44,6 @@ fn stand_as_often(pairs: &[(u16, u16)], left: &[u16], players: &[u16]) -> bool
         .all(|v| stands_as_often(pairs, left, players, *v))
 }
 
-// Whether pairs and those left over make up the players.
 #[tactic(auto, using(crate::proofs::Witnesses::make_up, crate::proofs::Witnesses::as_often))]
 fn make_up(pairs: &[(u16, u16)], left: &[u16], players: &[u16]) -> bool
     ensures { IsTrue result ↔ MakeUp players.now pairs.now left.now }
@@ -74,8 +72,8 @@ fn may_be_left<R: Rule>(rule: &R, left: &[u16]) -> bool
     left.iter().all(|v| rule.may_be_left(*v))
 }
 
-/// Whether pairs, and whoever is left over, are a witness that players are completable: each player stands in them as
-/// often as in the list, the two of each pair may meet, whoever comes first, and whoever is left over may be.
+/// Yes if pairs, and whoever is left over, show that players are completable: each player stands in them as often as in
+/// the list, the two of each pair may meet, whoever comes first, and whoever is left over may be.
 pub fn tells_completable<R: Rule>(
     pairs: &[(u16, u16)],
     left: Option<u16>,

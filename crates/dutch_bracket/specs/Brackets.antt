@@ -20,7 +20,7 @@ pub record Choice : Type 0 where
   pub shape : Shape
   pub lists : Arrangement
 
--- whether a bracket is the penultimate one, which is paired again by C.4 [A.9]
+-- a bracket is the penultimate one, which is paired again by C.4 [A.9]
 abbrev pub is_penultimate : BracketKind → Bool
 is_penultimate Ordinary = false
 is_penultimate Last = false
@@ -50,7 +50,7 @@ module _ (facts : Facts) where
   first_group [] = []
   first_group (group ∷ groups) = group
 
-  -- whether some seats can be paired out [A.9]
+  -- the seats can be paired out [A.9]
   unfoldable pub completable : List ℕ → Bool
   completable seats = can_complete (seats_meet facts) (seats_may_be_left facts) seats
 
@@ -62,7 +62,7 @@ module _ (facts : Facts) where
   unfoldable pub candidates_of : Reached → Shape → List Arrangement
   candidates_of reached shape = candidates (numbers_meet facts reached) (number_may_be_left facts reached) (frame_of facts reached) shape
 
-  -- whether a candidate can be chosen: in the penultimate bracket only if those whom it leaves over can be paired out with all lower
+  -- a candidate can be chosen: in the penultimate bracket only if those whom it leaves over can be paired out with all lower
   -- players [C.4]
   abbrev pub can_be_chosen : Reached → List ℕ → Arrangement → Bool
   can_be_chosen reached lower lists = not (is_penultimate reached.kind) || completable (downfloaters reached lists ++ lower)

@@ -45,7 +45,7 @@ all_pairings (a ∷ later) = flat_map (with_first a) (all_pairings later)
 abbrev pub is_complete : (ℕ → ℕ → Bool) → (ℕ → Bool) → Way → Bool
 is_complete meets may_be_left way = list_all (λ pair. meets pair.0 pair.1) way.pairs && leaves_one may_be_left way.out
 
--- whether players are completable: one of all ways to pair them is such [A.9, C.1 to C.3]
+-- players are completable: one of all ways to pair them is such [A.9, C.1 to C.3]
 abbrev pub can_complete : (ℕ → ℕ → Bool) → (ℕ → Bool) → List ℕ → Bool
 can_complete meets may_be_left players = list_any (is_complete meets may_be_left) (all_pairings players)
 

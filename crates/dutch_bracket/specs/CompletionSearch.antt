@@ -4,7 +4,7 @@ use Rattle.dutch_sequence.specs.declared.steps.Budget.{Budget}
 use Rattle.dutch_bracket.specs.declared.completion.Answer.{Answer}
 use Rattle.dutch_bracket.specs.Completion.{SpendsAtMost, IsStopped, Takes, Tells}
 
--- whether one of the later players, behind those between, may meet the first one and leaves players of whom something holds
+-- one of the later players, behind those between, may meet the first one and leaves players of whom something holds
 abbrev pub some_partner : (ℕ → Bool) → (List ℕ → Bool) → List ℕ → List ℕ → Bool
 some_partner meets holds between [] = false
 some_partner meets holds between (b ∷ after) = (meets b && holds (between ++ after)) || some_partner meets holds (between ++ b ∷ []) after
@@ -17,7 +17,7 @@ nobody a = false
 abbrev pub left_over : Bool → (ℕ → Bool) → ℕ → Bool
 left_over bye may_be_left a = bye && may_be_left a
 
--- whether players of a number can be paired out: the first of the players meets a later one, or is the one left out
+-- players of a number can be paired out: the first of the players meets a later one, or is the one left out
 abbrev pub can_cover : (ℕ → ℕ → Bool) → (ℕ → Bool) → ℕ → List ℕ → Bool
 can_cover meets may_be_left zero players = true
 can_cover meets may_be_left (suc n) [] = false
@@ -25,7 +25,7 @@ can_cover meets may_be_left (suc zero) (a ∷ later) = may_be_left a
 can_cover meets may_be_left (suc (suc n)) (a ∷ later) =
     some_partner (meets a) (can_cover meets may_be_left n) [] later || (may_be_left a && can_cover meets nobody (suc n) later)
 
--- whether players of a number can be paired out, where one may be left out (`bye`) or none
+-- players of a number can be paired out, where one may be left out (`bye`) or none
 abbrev pub can_go : (ℕ → ℕ → Bool) → (ℕ → Bool) → Bool → ℕ → List ℕ → Bool
 can_go meets may_be_left bye = λ n players. can_cover meets (left_over bye may_be_left) n players
 

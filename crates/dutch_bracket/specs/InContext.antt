@@ -26,7 +26,7 @@ FitsHere context shape = Fits (frame_here context) shape
 abbrev pub candidates_here : Context → Shape → List Arrangement
 candidates_here context shape = candidates_of context.facts context.reached shape
 
--- whether a candidate can be chosen in it [with Context]
+-- a candidate can be chosen in it [with Context]
 abbrev pub can_be_chosen_here : Context → Arrangement → Bool
 can_be_chosen_here context a = can_be_chosen context.facts context.reached context.lower a
 

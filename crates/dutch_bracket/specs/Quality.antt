@@ -75,15 +75,15 @@ unfoldable pub psd : Facts → Seated → List ℕ
 psd facts candidate =
     highest_first (map (difference facts) candidate.pairs ++ map (difference_down facts candidate.lowest) candidate.down)
 
--- whether with one colour more a player's own colour difference is over +2 or under -2 [C.8; own]
+-- with one colour more a player's own colour difference is over +2 or under -2 [C.8; own]
 abbrev pub is_wide : SeatFacts → Colour → Bool
 is_wide seat colour = nat_lt 2 (distance (colour ∷ seat.played))
 
--- whether a colour is that of the player's own last two games [C.9; own]
+-- a colour is that of the player's own last two games [C.9; own]
 abbrev pub is_third : SeatFacts → Colour → Bool
 is_third seat colour = option_map_or (is_same colour) (last_two seat.played) false
 
--- whether a colour is not that of the player's preference, of whatever strength [C.10; own]
+-- a colour is not that of the player's preference, of whatever strength [C.10; own]
 abbrev pub is_missed : SeatFacts → Colour → Bool
 is_missed seat colour = option_map_or (λ wanted. not (is_same wanted.colour colour)) (preference seat.played) false
 
@@ -93,12 +93,12 @@ is_strong Absolute = false
 is_strong Strong = true
 is_strong Mild = false
 
--- whether a colour is not that of a preference that is strong and not absolute [C.11; own]
+-- a colour is not that of a preference that is strong and not absolute [C.11; own]
 abbrev pub is_strong_missed : SeatFacts → Colour → Bool
 is_strong_missed seat colour =
     option_map_or (λ wanted. is_strong wanted.strength && not (is_same wanted.colour colour)) (preference seat.played) false
 
--- whether one of C.8 to C.11 counts a player who gets a colour [with count_in]
+-- one of C.8 to C.11 counts a player who gets a colour [with count_in]
 abbrev pub misses : Miss → SeatFacts → Colour → Bool
 misses Wide = is_wide
 misses Third = is_third
@@ -209,7 +209,7 @@ compared_in UpAgainBy = by_list (λ q. q.up_again_by)
 compared_in DownAgainBeforeBy = by_list (λ q. q.down_again_before_by)
 compared_in UpAgainBeforeBy = by_list (λ q. q.up_again_before_by)
 
--- whether two qualities differ in an item
+-- two qualities differ in an item
 abbrev pub differs : Item → Quality → Quality → Bool
 differs item a b = is_ne (compared_in item a b)
 

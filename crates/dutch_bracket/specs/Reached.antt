@@ -15,7 +15,7 @@ pub record Reached : Type 0 where
   pub mdps : ℕ
   pub seats : List ℕ
 
--- whether at most one player may be left over, as in the last bracket and in a collapsed one [A.9]
+-- at most one player may be left over, as in the last bracket and in a collapsed one [A.9]
 abbrev pub ends_round : BracketKind → Bool
 ends_round Ordinary = false
 ends_round Last = true
@@ -34,12 +34,12 @@ frame_of facts reached = record {
 abbrev pub is_number : Reached → ℕ → Bool
 is_number reached a = nat_le 1 a && nat_le a (length reached.seats)
 
--- whether two numbers of the bracket are different and their players may meet [C.1, C.3]
+-- two numbers of the bracket are different and their players may meet [C.1, C.3]
 unfoldable pub numbers_meet : Facts → Reached → ℕ → ℕ → Bool
 numbers_meet facts reached a b =
     (is_number reached a && is_number reached b) && (not (a == b) && may_meet facts (seat_of reached.seats a) (seat_of reached.seats b))
 
--- whether the player of a number may have the bye [C.2]
+-- the player of a number may have the bye [C.2]
 unfoldable pub number_may_be_left : Facts → Reached → ℕ → Bool
 number_may_be_left facts reached a = is_number reached a && (seat_at facts (seat_of reached.seats a)).may_bye
 

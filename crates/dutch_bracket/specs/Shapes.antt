@@ -8,7 +8,7 @@ abbrev pub down_from : ℕ → List ℕ
 down_from zero = 0 ∷ []
 down_from (suc n) = suc n ∷ down_from n
 
--- whether a bracket has room for a shape, as `Fits` says [B.1]
+-- a bracket has room for a shape, as `Fits` says [B.1]
 abbrev pub fits : Frame → Shape → Bool
 fits frame shape =
     not (nat_lt shape.pairs shape.mdps)

@@ -6,7 +6,7 @@ ghost use Rattle.dutch_bracket.specs.BitTables.{has_bit};
 /// The bits of a word.
 pub const WORD: usize = 64;
 
-/// Whether the bit at a place is set; it is not behind the last word.
+/// Yes if the bit at the place is set; behind the last word none is.
 #[tactic(auto, unfolding(crate::specs::BitTables::has_bit))]
 pub fn has_bit(words: &[u64], place: usize) -> bool
     ensures { result ≡ has_bit words.now place }

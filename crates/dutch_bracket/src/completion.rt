@@ -15,7 +15,7 @@ use crate::reached::push_all;
 use crate::spending::step;
 use dutch_order::{Budget, LIMIT, Numbers, Rule, Stopped};
 
-/// Whether players are completable.
+/// `Yes` if players are completable, `No` if they are not.
 #[derive(Debug, Clone, Copy, PartialEq, Eq)]
 pub enum Answer {
     Yes,
@@ -37,7 +37,7 @@ impl Answer {
     }
 }
 
-/// Whether some list of pairs of players who may meet leaves out at most one of the players, who may be left out (A.9).
+/// Yes if some list of pairs of players who may meet leaves out at most one of the players, who may be left out (A.9).
 /// A step is one partner or the bye tried for one player. It takes no memory.
 pub fn completes<R: Rule>(players: &[u16], rule: &R, budget: &mut Budget) -> Answer
     requires few { length players.now ≤ LIMIT }
@@ -69,8 +69,8 @@ struct First {
     bye: bool,
 }
 
-/// Whether players can be paired so that nobody is left out, or one at most, where one may be (`bye`). If they cannot,
-/// they stand as before.
+/// Nobody is left out, or one at most, where one may be (`bye`). If the players cannot be paired so, they stand as
+/// before.
 #[cycle(search)]
 fn can_pair<R: Rule>(rule: &R, players: &mut [u16], bye: bool, budget: &mut Budget) -> Answer
     ensures searched { Searched result
@@ -96,8 +96,7 @@ fn can_pair<R: Rule>(rule: &R, players: &mut [u16], bye: bool, budget: &mut Budg
     }
 }
 
-/// Whether the first player can be paired with one of the later ones, so that the others can be paired out. Each later
-/// one comes to the front in turn. If none serves, they stand as before.
+/// Each later player comes to the front in turn. If none serves, they stand as before.
 #[cycle(search)]
 fn pair_first<R: Rule>(rule: &R, first: First, later: &mut [u16], budget: &mut Budget) -> Answer
     ensures searched { Searched result
@@ -118,7 +117,6 @@ fn pair_first<R: Rule>(rule: &R, first: First, later: &mut [u16], budget: &mut B
     Answer::No
 }
 
-/// Whether the first player may meet the first of the later ones, so that the others can be paired out.
 #[cycle(search)]
 fn pair_with<R: Rule>(rule: &R, first: First, later: &mut [u16], budget: &mut Budget) -> Answer
     requires some { 0 < length later.old }
@@ -138,7 +136,6 @@ fn pair_with<R: Rule>(rule: &R, first: First, later: &mut [u16], budget: &mut Bu
     can_pair(rule, &mut later[1..], first.bye, budget)
 }
 
-/// Whether the first player may be left out, if one may be, so that all later ones can be paired out.
 #[cycle(search)]
 fn leave_first<R: Rule>(rule: &R, first: First, later: &mut [u16], budget: &mut Budget) -> Answer
     ensures searched { Searched result

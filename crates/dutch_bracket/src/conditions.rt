@@ -7,7 +7,7 @@ use crate::reached::{BracketKind, Reached};
 use dutch_order::LIMIT;
 use dutch_player::Field;
 
-/// Whether numbers are those of a bracket and ascend, as those of a candidate's downfloaters.
+/// Yes if the numbers are of the bracket and ascend, as those of a candidate's downfloaters do.
 pub fn are_left(reached: &Reached, down: &[u16]) -> bool
     ensures { (result ≡ true) ↔ AreLeft reached.now down.now }
 {
@@ -21,14 +21,12 @@ pub fn are_left(reached: &Reached, down: &[u16]) -> bool
     true
 }
 
-/// Whether these are seats of the field.
 fn are_seats(field: &Field, seats: &[u16]) -> bool
     ensures { (result ≡ true) ↔ AreSeats field.now seats.now }
 {
     seats.iter().all(|seat| usize::from(*seat) < field.len())
 }
 
-/// Whether all seats have a score.
 fn have_score(field: &Field, seats: &[u16], score: u16) -> bool
     ensures { (result ≡ true) ↔
         ((i : ℕ) → i < length seats.now → score_at field.now (slice_index seats.now i) ≡ score) }
@@ -41,7 +39,6 @@ fn have_score(field: &Field, seats: &[u16], score: u16) -> bool
     true
 }
 
-/// Whether the scores of all seats are above one.
 fn are_above(field: &Field, seats: &[u16], score: u16) -> bool
     ensures { (result ≡ true) ↔
         ((i : ℕ) → i < length seats.now → score < score_at field.now (slice_index seats.now i)) }
@@ -54,8 +51,8 @@ fn are_above(field: &Field, seats: &[u16], score: u16) -> bool
     true
 }
 
-/// Whether seats are a next lower scoregroup of a bracket: of one score, below the bracket's, with which there are at
-/// most `LIMIT`; below an ordinary bracket there is one.
+/// Yes if the seats can be the next lower scoregroup of a bracket: of one score, below the bracket's, with which there
+/// are at most `LIMIT`; below an ordinary bracket there is one.
 pub fn is_next(field: &Field, reached: &Reached, next: &[u16]) -> bool
     ensures { (result ≡ true) ↔ IsNext field.now reached.now next.now }
 {

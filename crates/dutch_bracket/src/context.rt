@@ -232,7 +232,7 @@ impl<'a> Context<'a> {
         }
     }
 
-    /// Whether one of a pair misses their preference (C.10): both never do.
+    /// Yes if one of the pair misses their preference (C.10): both never do.
     #[tactic(auto, unfolding(crate::specs::Quality::count_in))]
     pub fn has_miss(&self, pair: Pair) -> bool
         ensures { count_in self.now.facts (misses Preference) pair ≡ one_if result }
@@ -240,8 +240,8 @@ impl<'a> Context<'a> {
         collide(self.field.preference(pair.0), self.field.preference(pair.1))
     }
 
-    /// Whether two numbers suit each other: neither misses their preference, and they may meet (C.1, C.3, C.10).
-    /// (Colours come first, as to look for a game of the two takes longest.)
+    /// The two suit each other: neither misses their preference, and they may meet (C.1, C.3, C.10). (Colours come
+    /// first, as to look for a game of the two takes longest.)
     #[tactic(auto, unfolding(crate::specs::Reached::numbers_meet, crate::specs::ColourFloors::suits))]
     pub fn suits(&self, x: u16, y: u16) -> bool
         ensures { result ≡ suits self.now.facts self.now.reached x y }

@@ -1,5 +1,5 @@
-// Which candidates of a bracket can be chosen (C.04.3 C.4), and the first of a shape. Whether seats can be paired out
-// is told by a search of few steps, else by a matching, else by the whole search.
+// Which candidates of a bracket can be chosen (C.04.3 C.4), and the first of a shape. A search of few steps tells if
+// seats can be paired out, else a matching, else the whole search.
 ghost use Rattle.std.specs.Prelude.{◌≡◌, ◌+◌, ◌≤◌, ◌++◌, false, length, map, min};
 ghost use Rattle.dutch_sequence.specs.declared.numbers.TheConstants.{LIMIT};
 ghost use Rattle.dutch_order.specs.Prelude.{down, MatchDrawn, MatchFound, Spends};
@@ -23,7 +23,7 @@ use dutch_player::Field;
 use std::alloc::Global;
 
 impl BracketKind {
-    /// Whether the bracket is paired again so that all lower players can be paired out.
+    /// Yes for the bracket that is paired again so that all lower players can be paired out.
     pub fn is_penultimate(self) -> bool
         ensures { result ≡ is_penultimate self }
     {
@@ -55,7 +55,7 @@ pub fn at_most(steps: u64, budget: &Budget) -> Budget
     }
 }
 
-/// Whether seats can be paired out (A.9), by a search of few steps. None says that they did not suffice.
+/// None says that the few steps did not suffice.
 fn decided_in_few_steps(
     field: &Field,
     players: &[u16],
@@ -76,7 +76,6 @@ fn decided_in_few_steps(
     }
 }
 
-/// Whether seats can be paired out (A.9), by the search.
 fn decided_by_search(field: &Field, players: &[u16], budget: &mut Budget) -> Result<bool, Stopped>
     requires few { length players.now ≤ LIMIT }
     ensures answer { Decides result (completable field.now players.now) (budget.new.used ≡ budget.new.limit) }
@@ -85,8 +84,8 @@ fn decided_by_search(field: &Field, players: &[u16], budget: &mut Budget) -> Res
     completes(players, &seats(field), budget).decided()
 }
 
-/// Whether seats can be paired out (A.9): by a search of few steps, then by a matching if it can be had, and if neither
-/// tells it, by the whole search.
+/// Yes if the seats can be paired out (A.9): a search of few steps is asked, then a matching if it can be had, and if
+/// neither tells it, the whole search.
 pub fn can_complete(
     alloc: Global,
     field: &Field,
@@ -106,7 +105,7 @@ pub fn can_complete(
     decided_by_search(field, players, budget)
 }
 
-/// Whether those whom a candidate leaves over can be paired out with all lower players (A.9). The list is filled anew
+/// Yes if those whom a candidate leaves over can be paired out with all lower players (A.9). The list is filled anew
 /// with them all.
 pub fn leaves_completable(
     context: &Context<'_>,
@@ -125,8 +124,8 @@ pub fn leaves_completable(
     can_complete(context.alloc(), context.field(), left, budget)
 }
 
-/// Whether a candidate can be chosen: in the penultimate bracket only if those whom it leaves over can be paired
-/// out with all lower players, for whom a list is lent.
+/// The candidate can be chosen (C.4): in the penultimate bracket only if those whom it leaves over can be paired out
+/// with all lower players, for whom a list is lent.
 #[tactic(auto, using(crate::proofs::DownLemmas::down_few))]
 pub fn can_be_chosen(
     context: &Context<'_>,

@@ -37,7 +37,7 @@ impl<'a> FloatRound<'a> {
         FloatRound { field, float, back }
     }
 
-    /// Whether a seat had it.
+    /// Yes if the seat had this float in this round.
     pub fn was_of(&self, seat: u16) -> bool
         ensures { result ≡ is_float self.now.float (float_of self.now.field.now self.now.back seat) }
     {

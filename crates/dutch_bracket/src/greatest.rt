@@ -45,7 +45,7 @@ pub trait Shapes<R: Rule> {
     fn bracket(&self) -> &Bracket
         ensures { result.now ≡ frame self.now };
 
-    /// Whether a shape with so many pairs may have an arrangement that counts: it says no only if none has.
+    /// A no says that no shape with so many pairs has an arrangement that counts; a yes says nothing.
     fn may_have(&self, pairs: usize) -> bool
         ensures { result ≡ false
             → first_with (counting self.now) (filter (fits (frame self.now)) (shapes_with pairs)) ≡ None };
@@ -103,7 +103,7 @@ impl<'a, R: Rule> Shapes<R> for Legal<'a, R> {
     }
 }
 
-/// Whether a bracket has room for a shape.
+/// Yes if the bracket has players enough for the shape; it is not asked who may meet.
 pub fn has_room(bracket: &Bracket, shape: Shape) -> bool
     ensures { result ≡ fits bracket.now shape }
 {

@@ -1,5 +1,5 @@
-// Whether seats can be paired out (C.04.3 A.9), decided by a matching: by its pairs, or by the groups between which its
-// blockers stand.
+// A matching tells if seats can be paired out (C.04.3 A.9): by its pairs, or by the groups between which its blockers
+// stand.
 //
 // Whoever finds the matching is not trusted: what it tells is taken only if the check of its pairs, or of its groups,
 // confirms it.
@@ -99,9 +99,8 @@ fn few_steps(players: &[u16]) -> u64 {
     size.saturating_mul(size)
 }
 
-/// Whether seats can be paired out, decided by a greatest matching in half of the steps that are left. None says that
-/// it was not looked for, since they are too few, that it was not found in them, or not confirmed, or that memory was
-/// refused.
+/// Looks for a greatest matching in half of the steps that are left. None says that it was not looked for, since they
+/// are too few, that it was not found in them, or not confirmed, or that memory was refused.
 pub(crate) fn decided_by_matching(
     alloc: Global,
     field: &Field,

@@ -12,7 +12,7 @@ use crate::differences::{put, put_times};
 use crate::reached::ByNumber;
 use dutch_order::{Numbers, Shape};
 
-/// Whether all S1 of a shape leave moved-down players with the same scores.
+/// Yes if every S1 of the shape leaves moved-down players with the same scores.
 pub fn is_uniform(rule: ByNumber<'_>, shape: Shape) -> bool
     ensures { result ≡ is_uniform rule.entry.field.now rule.entry.reached.now shape }
 {

@@ -58,7 +58,7 @@ impl NextValue {
 impl NextValue {
     ghost use Rattle.dutch_bracket.specs.NextBracket.{IsNoBetter};
 
-    /// Whether it is not better than what a quality says of the next bracket. A no says nothing.
+    /// Yes if it is not better than what a quality says of the next bracket. A no says nothing.
     pub fn is_no_better_than(&self, quality: &Quality) -> bool
         ensures { result ≡ true → IsNoBetter self.now (next_in (quality_in quality.now)) }
     {
@@ -91,7 +91,7 @@ pub struct Quality {
 }
 
 impl Quality {
-    /// Whether this quality is better than another one.
+    /// Yes if this quality is the better one; of two equal ones neither is.
     #[tactic(auto, using(crate::proofs::InTurn::better_in_turn))]
     pub fn is_better(&self, other: &Quality) -> bool
         ensures { result ≡ is_better (quality_in self.now) (quality_in other.now) }

@@ -31,7 +31,7 @@ pub enum BracketKind {
 }
 
 impl BracketKind {
-    /// Whether the round ends with this bracket, so that it may leave over at most one player.
+    /// Yes if the round ends with this bracket, so that it may leave over at most one player.
     pub fn ends_round(self) -> bool
         ensures { result ≡ ends_round self }
     {
@@ -104,7 +104,7 @@ impl Reached {
         }
     }
 
-    /// Whether a number is one of the bracket's: 1 to the count of players.
+    /// Yes for the numbers of the bracket: 1 to the count of players.
     pub fn has(&self, number: u16) -> bool
         ensures { result ≡ is_number self.now number }
     {

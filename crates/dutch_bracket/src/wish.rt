@@ -33,28 +33,26 @@ fn lists_of(candidate: &Candidate) -> FixedLists<'_>
     }
 }
 
-/// Whether a pair is that of two players.
+/// The pair may have the two in either order.
 fn are_these(p: u16, q: u16, pair: (u16, u16)) -> bool
     ensures { result ≡ are_these p q pair }
 {
     pair == (p, q) || pair == (q, p)
 }
 
-/// Whether a player is one of a pair.
 fn has_player(p: u16, pair: (u16, u16)) -> bool
     ensures { result ≡ has_player p pair }
 {
     pair.0 == p || pair.1 == p
 }
 
-/// Whether a pair has one of two players, with another one.
+/// Yes if the pair has one of the two players, with another one.
 pub fn parts(p: u16, q: u16, pair: (u16, u16)) -> bool
     ensures { result ≡ parts p q pair }
 {
     !are_these(p, q, pair) && (has_player(p, pair) || has_player(q, pair))
 }
 
-/// Whether two players meet in two lists, place by place.
 fn meet_in(p: u16, q: u16, firsts: &[u16], seconds: &[u16]) -> bool
     ensures { result ≡ list_any (are_these p q) (zip firsts.now seconds.now) }
 {
@@ -64,7 +62,6 @@ fn meet_in(p: u16, q: u16, firsts: &[u16], seconds: &[u16]) -> bool
         .any(|(first, second)| are_these(p, q, (*first, *second)))
 }
 
-/// Whether two players meet in lists.
 #[tactic(auto, using(crate::proofs::WishLemmas::pairs_found))]
 fn meet(p: u16, q: u16, lists: &FixedLists<'_>) -> bool
     ensures { result ≡ list_any (are_these p q) (pairs_by_number lists.now) }
@@ -72,7 +69,6 @@ fn meet(p: u16, q: u16, lists: &FixedLists<'_>) -> bool
     meet_in(p, q, lists.s1, lists.s2) || meet_in(p, q, lists.s1r, lists.s2r)
 }
 
-/// Whether a player is in one of the lists.
 #[tactic(auto, using(crate::proofs::WishLemmas::player_found))]
 fn is_paired(p: u16, lists: &FixedLists<'_>) -> bool
     ensures { result ≡ is_member p (paired lists.now) }
@@ -83,7 +79,7 @@ fn is_paired(p: u16, lists: &FixedLists<'_>) -> bool
         || lists.s2r.contains(&p)
 }
 
-/// Whether a player is in no pair of lists.
+/// Yes if no pair of the lists has the player.
 pub fn leave_over(p: u16, lists: &FixedLists<'_>) -> bool
     ensures { result ≡ grants (LeftOver p) lists.now }
 {
@@ -91,7 +87,7 @@ pub fn leave_over(p: u16, lists: &FixedLists<'_>) -> bool
 }
 
 impl Wish {
-    /// Whether a candidate grants it (B.3).
+    /// Yes if the candidate has the pair that is wished, or leaves over the player of whom that is wished (B.3).
     pub fn is_granted(self, candidate: &Candidate) -> bool
         ensures { result ≡ grants self candidate.now.lists }
     {
@@ -103,7 +99,7 @@ impl Wish {
     }
 }
 
-/// Whether a candidate grants a wish; if nothing is wished, every candidate will do.
+/// Yes if the candidate grants the wish; if nothing is wished, every candidate will do.
 pub fn is_wished(wish: Option<Wish>, candidate: &Candidate) -> bool
     ensures { result ≡ is_wished wish candidate.now.lists }
 {
@@ -113,7 +109,7 @@ pub fn is_wished(wish: Option<Wish>, candidate: &Candidate) -> bool
     }
 }
 
-/// Whether two may be a pair of a candidate that grants what is wished.
+/// Yes if the two may be a pair of a candidate that grants what is wished.
 pub fn fits_as_pair(wish: Option<Wish>, a: u16, b: u16) -> bool
     ensures { result ≡ fits_as_pair wish a b }
 {
@@ -124,7 +120,7 @@ pub fn fits_as_pair(wish: Option<Wish>, a: u16, b: u16) -> bool
     }
 }
 
-/// Whether one may be left over by a candidate that grants what is wished.
+/// Yes if a candidate that grants what is wished may leave the player over.
 pub fn fits_as_left(wish: Option<Wish>, a: u16) -> bool
     ensures { result ≡ fits_as_left wish a }
 {

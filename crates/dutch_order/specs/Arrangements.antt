@@ -86,7 +86,7 @@ leaves_one may_be_left (player ∷ []) = may_be_left player
 leaves_one may_be_left (player ∷ other ∷ others) = false
 
 module _ (meets : ℕ → ℕ → Bool) (may_be_left : ℕ → Bool) where
-  -- whether each pair of an arrangement may meet, and in a last or collapsed bracket at most one player is left over, who may have the bye
+  -- each pair of an arrangement may meet, and in a last or collapsed bracket at most one player is left over, who may have the bye
   -- [C.1 to C.3]
   abbrev pub is_legal : Frame → Arrangement → Bool
   is_legal frame a =

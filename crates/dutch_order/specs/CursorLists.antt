@@ -8,6 +8,6 @@ use Rattle.dutch_sequence.specs.declared.numbers.TheConstants.{LIMIT}
 abbrev pub IsLong : Option (List ℕ) → Type 0
 IsLong list = IfSome list (λ numbers. LIMIT < length numbers)
 
--- whether each list of an arrangement has at most LIMIT numbers
+-- each list of an arrangement has at most LIMIT numbers
 abbrev pub is_short : Arrangement → Bool
 is_short a = nat_le (length a.s1) LIMIT && (nat_le (length a.s2) LIMIT && (nat_le (length a.s1r) LIMIT && nat_le (length a.s2r) LIMIT))

@@ -76,29 +76,29 @@ arrangement_of _ = None
 abbrev pub parsed : List ℕ → Option Arrangement
 parsed bytes = arrangement_of (parts (byte "/") bytes)
 
--- whether a text is four such lists, of whatever bracket [with cursor_text]
+-- a text is four such lists, of whatever bracket [with cursor_text]
 abbrev pub has_syntax : List ℕ → Bool
 has_syntax bytes = is_some (parsed bytes)
 
--- whether each number is above the one before it, and the first one above a bound
+-- each number is above the one before it, and the first one above a bound
 abbrev pub ascends_above : ℕ → List ℕ → Bool
 ascends_above bound [] = true
 ascends_above bound (x ∷ xs) = ltb bound x && ascends_above x xs
 
--- whether no number comes twice
+-- no number comes twice
 abbrev pub are_different : List ℕ → Bool
 are_different [] = true
 are_different (x ∷ xs) = not (is_member x xs) && are_different xs
 
--- whether all numbers are of a pool
+-- all numbers are of a pool
 abbrev pub are_of : List ℕ → List ℕ → Bool
 are_of pool numbers = list_all (λ x. is_member x pool) numbers
 
--- whether a list is an ascending one of k numbers of a pool
+-- a list is an ascending one of k numbers of a pool
 abbrev pub is_set_of : List ℕ → ℕ → List ℕ → Bool
 is_set_of pool k set = (length set == k) && (are_of pool set && ascends_above 0 set)
 
--- whether a list is one of k different numbers of a pool
+-- a list is one of k different numbers of a pool
 abbrev pub is_tuple_of : List ℕ → ℕ → List ℕ → Bool
 is_tuple_of pool k tuple = (length tuple == k) && (are_of pool tuple && are_different tuple)
 
@@ -106,7 +106,7 @@ is_tuple_of pool k tuple = (length tuple == k) && (are_of pool tuple && are_diff
 abbrev pub moved_down_of : Frame → List ℕ
 moved_down_of frame = numbers_from 1 frame.mdps
 
--- whether an arrangement is one of a shape, of such moved-down players and residents: S1 of those moved down, S2 of residents, S1R
+-- an arrangement is one of a shape, of such moved-down players and residents: S1 of those moved down, S2 of residents, S1R
 -- of those not in S2, S2R of those in neither
 abbrev pub is_among : List ℕ → List ℕ → Shape → Arrangement → Bool
 is_among moved_down residents shape a =
@@ -115,7 +115,7 @@ is_among moved_down residents shape a =
     && (is_set_of (left_of residents a.s2) (remainder_pairs shape) a.s1r
     && is_tuple_of (left_of (left_of residents a.s2) a.s1r) (remainder_pairs shape) a.s2r))
 
--- whether an arrangement is one of the bracket and shape [with cursor_of]
+-- an arrangement is one of the bracket and shape [with cursor_of]
 abbrev pub is_of : Frame → Shape → Arrangement → Bool
 is_of frame shape a = is_among (moved_down_of frame) (residents_of frame) shape a
 

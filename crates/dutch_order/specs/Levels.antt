@@ -90,10 +90,10 @@ abbrev pub Of : (Arrangement → Type 0) → Option Arrangement → Type 0
 Of holds None = Unit {0}
 Of holds (Some own) = holds own
 
--- whether the players of each pair may meet
+-- the players of each pair may meet
 abbrev pub pairs_meet : (ℕ → ℕ → Bool) → Arrangement → Bool
 pairs_meet meets a = all_meet meets a.s1 a.s2 && all_meet meets a.s1r a.s2r
 
--- whether an arrangement leaves over only those whom its bracket may leave over
+-- an arrangement leaves over only those whom its bracket may leave over
 unfoldable pub may_leave : (ℕ → Bool) → Frame → Arrangement → Bool
 may_leave may_be_left frame a = not frame.last || leaves_one may_be_left (down frame a)

@@ -43,7 +43,7 @@ candidates_from meets may_be_left frame shape (Some own) = rest meets may_be_lef
 unfoldable pub AreCandidates : (ℕ → ℕ → Bool) → (ℕ → Bool) → Frame → Shape → List Arrangement → Type 0
 AreCandidates meets may_be_left frame shape list = AllByRecursion (λ a. IsIn a (candidates meets may_be_left frame shape)) list
 
--- whether every arrangement leaves over more than its bracket may leave: two or more, where at most one may be left [C.2; own]
+-- every arrangement leaves over more than its bracket may leave: two or more, where at most one may be left [C.2; own]
 abbrev pub leaves_too_many : Frame → Shape → Bool
 leaves_too_many frame shape = frame.last && nat_lt 1 (length frame.scores - 2 * shape.pairs)
 

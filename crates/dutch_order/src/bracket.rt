@@ -79,7 +79,7 @@ impl Bracket {
         numbered_from(1, self.scores.len())
     }
 
-    /// Whether at most one player may be left over.
+    /// Yes if at most one player may be left over, as in the last bracket and in a collapsed one.
     pub fn is_last(&self) -> bool
         ensures { result ≡ self.now.last }
     {

@@ -31,7 +31,6 @@ use crate::prefix::Prefix;
 use dutch_sequence::{Budget, Drawn, Numbers, Rule, Step, Stopped};
 use std::marker::Model;
 
-/// Whether a player is in one of the four lists.
 fn is_paired(lists: &Arrangement, number: u16) -> bool
     ensures { result ≡ (is_member number lists.now.s1 ||
         (is_member number lists.now.s2 || (is_member number lists.now.s1r || is_member number lists.now.s2r))) }
@@ -62,8 +61,7 @@ struct Drawing<L> {
     level: L,
 }
 
-/// Whether these may be left over (C.04.3 C.2). In a bracket that leaves at most one player, asking about that player
-/// takes a step.
+/// In a bracket that leaves at most one player, asking about that player (C.04.3 C.2) takes a step.
 fn ask_leave<R: Rule>(rule: &R, last: bool, down: &[u16], budget: &mut Budget) -> Drawn
     ensures answer { MatchDrawn result
         ((not last || leaves_one (R.may_be_left rule.now) down.now) ≡ true)
@@ -87,8 +85,8 @@ fn ask_leave<R: Rule>(rule: &R, last: bool, down: &[u16], budget: &mut Budget) -
     }
 }
 
-/// Whether every arrangement leaves over more than its bracket may leave: two or more, while the bracket may leave at
-/// most one.
+/// All arrangements of a shape leave as many over: where these are two or more, and the bracket may leave at most one,
+/// none of them is a candidate.
 fn leaves_too_many(fitting: &FittingShape<'_>) -> bool
     ensures { result ≡ leaves_too_many fitting.now.bracket.now fitting.now.shape }
 {

@@ -100,7 +100,7 @@ fn has_digits_alone(word: &[u8]) -> bool
     word.iter().all(|byte| byte.is_ascii_digit())
 }
 
-// Whether a word is one to four digits, of which the first is not 0.
+// At most four digits, of which the first is not 0: each number is spelled in one way.
 fn is_numeral(word: &[u8]) -> bool
     ensures { result ≡ is_numeral word.now }
 {
@@ -125,7 +125,6 @@ fn number_of(word: &[u8]) -> Option<u16>
     }
 }
 
-// Whether all parts between commas are numbers.
 fn are_numbers(text: &[u8]) -> bool
     ensures { result ≡ is_some (numbers_of (parts 44 text.now)) }
 {
@@ -139,7 +138,7 @@ fn are_numbers(text: &[u8]) -> bool
     number_of(rest).is_some()
 }
 
-// Whether a text is a list.
+// `0` alone is the empty list.
 fn is_list(text: &[u8]) -> bool
     ensures { result ≡ is_some (list_of text.now) }
 {
@@ -174,7 +173,6 @@ fn split_lists(text: &[u8]) -> Option<Lists<'_>>
     }
 }
 
-// Whether all four parts are lists.
 fn are_lists(lists: &Lists<'_>) -> bool
     ensures { result ≡ is_some (arrangement_of
         (lists.now.s1.now ∷ lists.now.s2.now ∷ lists.now.s1r.now ∷ lists.now.s2r.now ∷ [])) }
@@ -246,7 +244,6 @@ fn are_of(pool: &[u16], numbers: &[u16]) -> bool
     numbers.iter().all(|number| pool.contains(number))
 }
 
-// Whether the numbers ascend from above a bound.
 fn ascends_above(bound: u16, numbers: &[u16]) -> bool
     ensures { result ≡ ascends_above bound numbers.now }
 {
@@ -260,7 +257,6 @@ fn ascends_above(bound: u16, numbers: &[u16]) -> bool
     true
 }
 
-// Whether no number comes twice.
 fn are_different(numbers: &[u16]) -> bool
     ensures { result ≡ are_different numbers.now }
 {
@@ -272,14 +268,12 @@ fn are_different(numbers: &[u16]) -> bool
     true
 }
 
-// Whether a list is an ascending one of `k` numbers of a pool.
 fn is_set_of(pool: &[u16], k: usize, set: &[u16]) -> bool
     ensures { result ≡ is_set_of pool.now k set.now }
 {
     set.len() == k && are_of(pool, set) && ascends_above(0, set)
 }
 
-// Whether a list is one of `k` different numbers of a pool.
 fn is_tuple_of(pool: &[u16], k: usize, tuple: &[u16]) -> bool
     ensures { result ≡ is_tuple_of pool.now k tuple.now }
 {
@@ -334,7 +328,7 @@ impl Cursor {
         }
     }
 
-    /// Whether a text has the form of a cursor, of whatever bracket: four lists joined by `/`, each of them numbers
+    /// Yes if the text has the form of a cursor, of whatever bracket: four lists joined by `/`, each of them numbers
     /// from 1 to `LIMIT` joined by `,`, or `0` alone if it is empty.
     pub fn syntax(text: &str) -> bool
         ensures { result ≡ has_syntax text.now }
@@ -342,7 +336,6 @@ impl Cursor {
         sound_lists(text.as_bytes()).is_some()
     }
 
-    // Whether S1R and S2R are of so many pairs of residents who are not in S2.
     fn has_remainder(&self, residents: &[u16], pairs: usize) -> bool
         requires few { length residents.now ≤ LIMIT }
         ensures { result ≡ (is_set_of (left_of residents.now self.now.s2) pairs self.now.s1r
@@ -359,7 +352,6 @@ impl Cursor {
         )
     }
 
-    // Whether it is an arrangement of the shape, of such players.
     fn is_among(&self, moved_down: &[u16], residents: &[u16], shape: Shape) -> bool
         requires few { length residents.now ≤ LIMIT }
         ensures { result ≡ is_among moved_down.now residents.now shape self.now }

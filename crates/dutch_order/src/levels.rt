@@ -58,7 +58,6 @@ pub trait Blocks {
 #[derive(Drop)]
 pub struct Block<T> {
     pub(crate) level: T,
-    // whether a block has begun in it
     pub(crate) has_begun: bool,
 }
 

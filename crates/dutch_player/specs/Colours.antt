@@ -22,7 +22,7 @@ grade Mild = 0
 abbrev pub distance : List Colour → ℕ
 distance played = (whites played - blacks played) + (blacks played - whites played)
 
--- whether a preference is stronger than another: absolute than strong, and strong than mild; of two absolute ones that of the player whose
+-- a preference is stronger than another: absolute than strong, and strong than mild; of two absolute ones that of the player whose
 -- colour difference is further from 0 [E.2]
 abbrev pub is_stronger : Pref → List Colour → Pref → List Colour → Bool
 is_stronger mine played theirs their_played =

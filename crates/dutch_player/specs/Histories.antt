@@ -39,7 +39,7 @@ bars_bye (Bye Allocated) = true
 bars_bye (Forfeit opponent colour won) = won
 bars_bye _ = false
 
--- whether a player may have the pairing-allocated bye: they had no earlier one, no forfeit win, and no requested bye of a full point [C.2;
+-- a player may have the pairing-allocated bye: they had no earlier one, no forfeit win, and no requested bye of a full point [C.2;
 -- own]
 abbrev pub may_bye : List Cell → Bool
 may_bye cells = not (list_any bars_bye cells)

@@ -7,7 +7,7 @@ use Rattle.dutch_player.specs.declared.preference.Pref.{Pref}
 use Rattle.dutch_player.specs.Preferences.{is_same, preference}
 use Rattle.dutch_player.specs.Facts.{SeatFacts, Facts, seat_at}
 
--- whether, before the last round, a player has more half points than rounds were paired, and so over half of the points that could be had
+-- before the last round, a player has more half points than rounds were paired, and so over half of the points that could be had
 -- [A.7]
 abbrev pub is_topscorer : Facts → SeatFacts → Bool
 is_topscorer facts a = (facts.round == facts.total) && nat_lt (facts.round - 1) a.score
@@ -16,7 +16,7 @@ is_topscorer facts a = (facts.round == facts.total) && nat_lt (facts.round - 1) 
 abbrev pub has_met : SeatFacts → SeatFacts → Bool
 has_met a b = list_any (λ start. start == b.start) a.opponents
 
--- whether the two have played a game with each other [C.1]
+-- the two have played a game with each other [C.1]
 abbrev pub have_met : SeatFacts → SeatFacts → Bool
 have_met a b = has_met a b || has_met b a
 
@@ -24,7 +24,7 @@ have_met a b = has_met a b || has_met b a
 abbrev pub is_kept_from : SeatFacts → SeatFacts → Bool
 is_kept_from a b = list_any (λ start. start == b.start) a.apart
 
--- whether a line XXP names both [own]
+-- a line XXP names both [own]
 abbrev pub are_apart : SeatFacts → SeatFacts → Bool
 are_apart a b = is_kept_from a b || is_kept_from b a
 
@@ -39,12 +39,12 @@ abbrev pub clash : Option Pref → Option Pref → Bool
 clash (Some a) (Some b) = is_absolute a.strength && is_absolute b.strength && is_same a.colour b.colour
 clash _ _ = false
 
--- whether the colours of two allow that they meet: two players, neither of whom is a topscorer, do not if both have absolute preferences
+-- the colours of two allow that they meet: two players, neither of whom is a topscorer, do not if both have absolute preferences
 -- for the same colour [C.3]
 abbrev pub colours_allow : Facts → SeatFacts → SeatFacts → Bool
 colours_allow facts a b = is_topscorer facts a || is_topscorer facts b || not (clash (preference a.played) (preference b.played))
 
--- whether two may meet: they have not met, no line XXP names both, and their colours allow it [C.1, C.3; own]
+-- two may meet: they have not met, no line XXP names both, and their colours allow it [C.1, C.3; own]
 abbrev pub may_meet : Facts → ℕ → ℕ → Bool
 may_meet facts a b =
     not (have_met (seat_at facts a) (seat_at facts b) || are_apart (seat_at facts a) (seat_at facts b)) && colours_allow facts (seat_at facts a) (seat_at facts b)

@@ -165,15 +165,15 @@ impl Field {
         self.seat(seat).preference
     }
 
-    /// Whether the player is a topscorer (A.7): they have more than half of the points that could be had, and only the
-    /// last round is left.
+    /// Yes for a topscorer (A.7): they have more than half of the points that could be had, and only the last round is
+    /// left.
     pub fn topscorer(&self, seat: u16) -> bool
         ensures { result ≡ is_topscorer self.now (seat_at self.now seat) }
     {
         self.round == self.total && u16::from(self.round) - 1 < self.seat(seat).score
     }
 
-    /// Whether two players may meet (C.1, C.3): they have not, no line `XXP` names both, and their colours allow it.
+    /// The two may meet (C.1, C.3): they have not met yet, no line `XXP` names both, and their colours allow it.
     pub fn may_meet(&self, a: u16, b: u16) -> bool
         ensures { result ≡ may_meet self.now a b }
     {
@@ -184,15 +184,15 @@ impl Field {
         self.colours_allow(a, b)
     }
 
-    /// Whether the colours of two players let them meet (C.3): one of them is a topscorer, or they do not both have an
-    /// absolute preference for the same colour.
+    /// The colours of the two let them meet (C.3): one of them is a topscorer, or they do not both have an absolute
+    /// preference for the same colour.
     pub fn colours_allow(&self, a: u16, b: u16) -> bool
         ensures { result ≡ colours_allow self.now (seat_at self.now a) (seat_at self.now b) }
     {
         self.topscorer(a) || self.topscorer(b) || !clash(self.preference(a), self.preference(b))
     }
 
-    /// Whether the player may have the pairing-allocated bye (C.2).
+    /// Yes if the player may have the pairing-allocated bye (C.2).
     pub fn may_bye(&self, seat: u16) -> bool
         ensures { result ≡ (seat_at self.now seat).may_bye }
     {

@@ -68,7 +68,7 @@ fn has_bar(cells: &[Cell]) -> bool
     cells.iter().any(|cell| bars_bye(cell))
 }
 
-/// Whether the player may have the pairing-allocated bye.
+/// The bye is the pairing-allocated one (C.2).
 pub(crate) fn may_bye(cells: &[Cell]) -> bool
     ensures { result ≡ may_bye cells.now }
 {

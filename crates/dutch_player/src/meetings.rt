@@ -12,21 +12,20 @@ fn has_met(a: &Seat, b: &Seat) -> bool
     a.opponents.contains(&b.start)
 }
 
-/// Whether two players have played a game with each other.
+/// Only a game that was played counts.
 pub(crate) fn have_met(a: &Seat, b: &Seat) -> bool
     ensures { result ≡ have_met (facts_in a.now) (facts_in b.now) }
 {
     has_met(a, b) || has_met(b, a)
 }
 
-// Whether a line `XXP` of the report names the one together with the other.
+// A line `XXP` of the report keeps them apart.
 fn is_kept_from(a: &Seat, b: &Seat) -> bool
     ensures { result ≡ is_kept_from (facts_in a.now) (facts_in b.now) }
 {
     a.apart.contains(&b.start)
 }
 
-/// Whether two players are kept apart.
 pub(crate) fn are_apart(a: &Seat, b: &Seat) -> bool
     ensures { result ≡ are_apart (facts_in a.now) (facts_in b.now) }
 {
@@ -42,7 +41,7 @@ pub(crate) fn is_absolute(strength: Strength) -> bool
     }
 }
 
-/// Whether two preferences are absolute, and for the same colour.
+/// Only absolute preferences clash (C.3).
 pub(crate) fn clash(a: Option<Pref>, b: Option<Pref>) -> bool
     ensures { result ≡ clash a b }
 {

@@ -52,7 +52,6 @@ fn is_black(colour: &Colour) -> bool
     }
 }
 
-/// Whether two colours are the same.
 pub(crate) fn is_same(mine: Colour, theirs: Colour) -> bool
     ensures { result ≡ is_same mine theirs }
 {

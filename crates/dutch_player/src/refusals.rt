@@ -1,4 +1,4 @@
-// Whether a further round can be paired from a report.
+// Why a further round cannot be paired from a report.
 ghost use Rattle.std.specs.Prelude.{◌≡◌, ◌≢◌, IfErr};
 ghost use Rattle.dutch_player.specs.declared.fault.FieldFault.TheVariants.{OutOfMemory};
 ghost use Rattle.dutch_player.specs.Facts.{total_for};

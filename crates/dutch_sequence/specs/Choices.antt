@@ -13,7 +13,7 @@ subsets numbers zero = [] ∷ []
 subsets [] (suc k) = []
 subsets (x ∷ numbers) (suc k) = map (λ set. x ∷ set) (subsets numbers k) ++ subsets numbers (suc k)
 
--- whether a number is in a list
+-- a number is in a list
 abbrev pub is_member : ℕ → List ℕ → Bool
 is_member x numbers = list_any (λ y. eqb y x) numbers
 
@@ -30,13 +30,13 @@ abbrev pub tuples : List ℕ → ℕ → List (List ℕ)
 tuples numbers zero = [] ∷ []
 tuples numbers (suc k) = flat_map (λ x. map (λ tuple. x ∷ tuple) (tuples (without x numbers) k)) numbers
 
--- whether the players of two lists may meet, place by place [C.1, C.3]
+-- the players of two lists may meet, place by place [C.1, C.3]
 abbrev pub all_meet : (ℕ → ℕ → Bool) → List ℕ → List ℕ → Bool
 all_meet meets [] seconds = true
 all_meet meets (first ∷ firsts) [] = true
 all_meet meets (first ∷ firsts) (second ∷ seconds) = meets first second && all_meet meets firsts seconds
 
--- whether two choices are the same [with subsets]
+-- two choices are the same [with subsets]
 abbrev pub is_same : List ℕ → List ℕ → Bool
 is_same [] [] = true
 is_same [] (y ∷ ys) = false

@@ -19,7 +19,7 @@ abbrev pub total : (ℕ → ℕ) → List ℕ → ℕ
 total f [] = 0
 total f (x ∷ xs) = f x + total f xs
 
--- whether a difference is to be searched, if it is known below which difference no set lies
+-- a difference is to be searched: it is known below which difference no set lies, and it is not below that one
 abbrev pub is_next : ℕ → Option ℕ → Bool
 is_next difference None = false
 is_next difference (Some next) = nat_le next difference
@@ -32,7 +32,7 @@ following difference greatest (Some next) =
     then (if nat_le next greatest then Some next else None)
     else (if nat_lt difference greatest then Some (suc difference) else None)
 
--- whether it is known of a place of a half that it is chosen, or else that it is not: those chosen are, and of those below a limit it is
+-- it is known of a place of a half that it is chosen, or else that it is not: those chosen are, and of those below a limit it is
 -- known that no other one is
 abbrev pub is_fixed : List ℕ → ℕ → Bool → ℕ → Bool
 is_fixed taken limit chosen place = if is_member place taken then chosen else (not chosen && nat_lt place limit)

@@ -233,7 +233,8 @@ fn count_at(stage: &ExchangeStage<'_>, side: Side) -> usize
     }
 }
 
-/// Whether it is known of a place that it is chosen, or else that it is not.
+/// With `chosen` it asks about places that are known to be chosen, else about places known not to be: those below the
+/// limit that were passed over.
 fn is_fixed(fixed: &FixedSide<'_>, chosen: bool, place: usize) -> bool
     requires small { place ≤ 65535 }
     ensures { result ≡ is_fixed fixed.now.taken.now fixed.now.limit chosen place }
@@ -333,8 +334,7 @@ fn put_held_and_barred(stage: &ExchangeStage<'_>, beginning: &[u16], numbers: &m
     held
 }
 
-/// Whether the cuts know that the sets of all paths of a stage are idle that begin so. The original set is not asked
-/// about: it is one set, and no stage of others.
+/// The original set is not asked about: it is one set, and no stage of others.
 fn cuts_beginning<C: CutsExchanges>(
     stage: &ExchangeStage<'_>,
     cuts: &C,

@@ -10,7 +10,7 @@ pub trait CutsExchanges {
     /// A set is idle.
     ghost Idle: { Self → List ℕ → Type 0 };
 
-    /// Whether all sets that are such an exchange are known to be idle.
+    /// Yes if all sets that are such an exchange are known to be idle. A no says nothing.
     fn cuts(&self, exchange: &Exchange<'_>) -> bool
         ensures { result ≡ true → (set : List ℕ) → IsExchange exchange.now set → Idle self.now set };
 }
@@ -20,7 +20,7 @@ pub trait CutsTuples {
     /// A tuple is idle.
     ghost Idle: { Self → List ℕ → Type 0 };
 
-    /// Whether all tuples that begin so are known to be idle.
+    /// Yes if all tuples that begin so are known to be idle. A no says nothing.
     fn cuts(&self, beginning: &[u16]) -> bool
         ensures { result ≡ true → (tuple : List ℕ) → GoesOn beginning.now tuple → Idle self.now tuple };
 }

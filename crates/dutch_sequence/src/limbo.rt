@@ -32,7 +32,7 @@ fn front_with(scores: &[u16], score: u16, places: &[u16]) -> usize
     count
 }
 
-/// Whether a place may be the next one of a first set: it follows the last one, or is the first of its score.
+/// The next place of a first set follows the last one, or is the first of its score.
 #[tactic(auto, unfolding(crate::specs::LimboSearch::leads))]
 fn place_leads(scores: &[u16], k: usize, path: &[u16], place: usize) -> bool
     requires { place < length scores.now }
@@ -41,8 +41,8 @@ fn place_leads(scores: &[u16], k: usize, path: &[u16], place: usize) -> bool
     place == first_of_half(k, path) || place == 0 || scores[place - 1] != scores[place]
 }
 
-/// Whether a place may be the next one of a set: it has the score that its place has in the first set, and it leaves
-/// enough places with that score for those that must follow.
+/// The next place of a set has the score that its place has in the first set, and leaves enough places with that score
+/// for those that must follow.
 #[tactic(auto, unfolding(crate::specs::LimboSearch::mirrors))]
 fn place_mirrors(ranked: &Ranked<'_>, path: &[u16], place: usize) -> bool
     requires within { AllByRecursion (λ place. place < length ranked.now.scores.now) path.now }

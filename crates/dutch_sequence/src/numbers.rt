@@ -79,7 +79,7 @@ pub fn left_of(numbers: &[u16], taken: &[u16]) -> Numbers
     left
 }
 
-/// Whether two lists are the same.
+/// Yes if the lists have the same numbers in the same order.
 pub fn is_same(one: &[u16], other: &[u16]) -> bool
     ensures same { result ≡ is_same one.now other.now }
     ensures equal { result ≡ true → one.now ≡ other.now }

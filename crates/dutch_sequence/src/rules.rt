@@ -3,17 +3,17 @@ ghost use Rattle.std.specs.Prelude.{◌≡◌, ◌^◌, ◌<◌, ℕ, Bool};
 
 /// Which players may meet, by their numbers in the bracket. It answers for all numbers.
 pub trait Rule {
-    /// Whether two players may meet.
+    /// Two players may meet.
     ghost meets: { Self → ℕ → ℕ → Bool };
 
-    /// Whether a player may be left over in a bracket that leaves at most one.
+    /// A player may be left over in a bracket that leaves at most one.
     ghost may_be_left: { Self → ℕ → Bool };
 
-    /// Whether the players `a` and `b` may meet (C.04.3 C.1 and C.3).
+    /// Yes if the players `a` and `b` may meet (C.04.3 C.1 and C.3).
     fn may_meet(&self, a: u16, b: u16) -> bool
         ensures { result ≡ meets self.now a b };
 
-    /// Whether `a` may be the one player left over (C.04.3 C.2).
+    /// Yes if `a` may be the one player left over (C.04.3 C.2).
     fn may_be_left(&self, a: u16) -> bool
         ensures { result ≡ may_be_left self.now a };
 

@@ -45,7 +45,7 @@ pub trait Tree {
         requires { IsOpen (plan self.now) path.now }
         ensures { result ≡ (plan self.now).stop path.now };
 
-    /// Whether a number fits after a beginning.
+    /// Yes if the number may stand next after the beginning.
     fn admits(&self, path: &[u16], number: u16) -> bool
         requires opened { IsOpen (plan self.now) path.now }
         requires tried { number < (plan self.now).stop path.now }
@@ -75,7 +75,8 @@ pub trait CutsPaths {
     /// A beginning can be asked about.
     ghost MayAsk: { Self → List ℕ → Type 0 };
 
-    /// Whether all paths that begin so are known to be idle. There is a list for the numbers that a path stands for.
+    /// Yes if all paths that begin so are known to be idle; a no says nothing. There is a list for the numbers that a
+    /// path stands for.
     fn cuts(&self, beginning: &[u16], numbers: &mut Numbers) -> bool
         requires { MayAsk self.now beginning.now }
         ensures { result ≡ true → (path : List ℕ) → GoesOn beginning.now path → Idle self.now path };

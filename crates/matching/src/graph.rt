@@ -6,14 +6,14 @@ pub trait Graph {
     /// How many vertices there are.
     ghost vertices: { Self → ℕ };
 
-    /// Whether two vertices are joined.
+    /// Two vertices are joined.
     ghost joined: { Self → ℕ → ℕ → Bool };
 
     /// How many vertices there are.
     fn size(&self) -> u16
         ensures { result ≡ vertices self.now };
 
-    /// Whether the vertices `a` and `b` are joined.
+    /// Yes if a matching may make a pair of the vertices `a` and `b`.
     fn joins(&self, a: u16, b: u16) -> bool
         requires first { a < vertices self.now }
         requires second { b < vertices self.now }
