@@ -164,7 +164,7 @@ impl<'a> Floors<'a> {
         self.awaited(&self.first)
     }
 
-    /// Whether what is awaited of the next bracket behind a beginning is known, and not better than a quality says (C.7).
+    /// A no may also say that what is awaited of the next bracket (C.7) is not known.
     fn awaits_no_better(&self, prefix: &Prefix<'_>, quality: &Quality) -> bool
         ensures of { IsOf self.now.facts self.now.reached }
         ensures outlook { IsOutlook self.now.facts self.now.reached self.now.lower self.now.shape self.now.outlook }
@@ -179,7 +179,7 @@ impl<'a> Floors<'a> {
             && self.awaited(self.s1(prefix)).is_no_better_than(quality)
     }
 
-    /// Whether no candidate with a beginning has a better value of the next bracket than a quality says (C.7). A no says
+    /// Yes if no candidate with a beginning has a better value of the next bracket than a quality says (C.7). A no says
     /// nothing.
     pub fn has_no_better_next(&self, prefix: &Prefix<'_>, quality: &Quality) -> bool
         ensures { result ≡ true → NoneHasBetterNext self.now prefix.now (next_in (quality_in quality.now)) }
@@ -238,8 +238,8 @@ impl<'a> Floors<'a> {
         fill_others(context.field(), seated, quality);
     }
 
-    /// Whether a floor of a beginning is known. None is if its lists have no room in the shape, or if S1 is
-    /// not chosen and it matters which one is.
+    /// No floor of a beginning is known if its lists have no room in the shape, or if S1 is not chosen and it matters
+    /// which one is.
     #[tactic(auto, using(crate::proofs::FloorLemmas::known_pairs, crate::proofs::FloorLemmas::s1_few))]
     fn is_known(&self, prefix: &Prefix<'_>) -> bool
         ensures known { result ≡ is_known self.now prefix.now }

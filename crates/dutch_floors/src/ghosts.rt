@@ -1,5 +1,5 @@
-// Ghosts: players who stand for whatever downfloaters a bracket may leave, and who meet whom some player of the bracket
-// may meet (C.04.3 C.7). Whom some player may meet is read once, so that a question costs no walk over the bracket.
+// Ghosts stand for whatever downfloaters a bracket may leave. A ghost may meet each lower player that some player of
+// the bracket may meet (C.04.3 C.7). These are read once, so that a question costs no walk over the bracket.
 ghost use Rattle.std.specs.Prelude.{◌≡◌, ◌+◌, ◌-◌, ◌*◌, ◌<◌, ◌≤◌, ◌&&◌, true, false, map, slice_index, length};
 ghost use Rattle.std.specs.List.{list_any};
 ghost use Rattle.std.specs.Result.{MatchResult};
@@ -39,7 +39,6 @@ impl<'a> Model for Ghosts<'a> {
     ghost invariant = { λ g. IsRead g.field.now g.seats.now g.lower.now g.met.items g.bye };
 }
 
-/// Whether some player of a bracket may meet a lower one.
 fn some_meets(field: &Field, seats: &[u16], lower: u16) -> bool
     ensures { result ≡ some_meets field.now seats.now lower }
 {
@@ -51,7 +50,6 @@ fn some_meets(field: &Field, seats: &[u16], lower: u16) -> bool
     false
 }
 
-/// Whether some player of a bracket may have the bye.
 fn some_may_bye(field: &Field, seats: &[u16]) -> bool
     ensures { result ≡ list_any (may_bye field.now) seats.now }
 {
@@ -63,7 +61,6 @@ fn some_may_bye(field: &Field, seats: &[u16]) -> bool
     false
 }
 
-/// Of each lower player whether some player of a bracket may meet them.
 fn read_met(field: &Field, seats: &[u16], lower: &[u16]) -> ArrayVec<bool, LIMIT>
     requires { length lower.now ≤ LIMIT }
     ensures { result.items ≡ map (some_meets field.now seats.now) lower.now }
@@ -76,8 +73,8 @@ fn read_met(field: &Field, seats: &[u16], lower: &[u16]) -> ArrayVec<bool, LIMIT
 }
 
 impl<'a> Ghosts<'a> {
-    /// Reads whom of the next lower scoregroup some player of a bracket may meet, in a step for each player of the one
-    /// with each of the other.
+    /// Reads which players of the next lower scoregroup some player of a bracket may meet, in a step for each player of
+    /// the one with each of the other.
     pub(crate) fn read(context: &Context<'a>, budget: &mut Budget) -> Result<Ghosts<'a>, Stopped>
         ensures answer { MatchResult result
             (λ ghosts. ghosts ≡ record {
@@ -125,7 +122,6 @@ impl<'a> Ghosts<'a> {
         self.lower.len()
     }
 
-    /// Whether a ghost may meet the lower player at a place.
     fn meets(&self, place: usize) -> bool
         requires { place < length self.now.lower }
         ensures { result ≡ some_meets self.now.facts self.now.seats (slice_index self.now.lower place) }
@@ -143,7 +139,6 @@ impl<'a> Ghosts<'a> {
         }
     }
 
-    /// Whether the lower players at two places may meet.
     fn lower_meet(&self, one: usize, other: usize) -> bool
         ensures { result ≡ may_meet self.now.facts (slice_index self.now.lower one) (slice_index self.now.lower other) }
     {
@@ -151,14 +146,12 @@ impl<'a> Ghosts<'a> {
             .may_meet(self.lower_at(one), self.lower_at(other))
     }
 
-    /// Whether a ghost may have the bye.
     fn ghost_may_bye(&self) -> bool
         ensures { result ≡ list_any (may_bye self.now.facts) self.now.seats }
     {
         self.bye
     }
 
-    /// Whether the lower player at a place may have the bye.
     fn lower_may_bye(&self, place: usize) -> bool
         ensures { result ≡ may_bye self.now.facts (slice_index self.now.lower place) }
     {
@@ -176,7 +169,6 @@ pub(crate) struct GhostRule<'a> {
 }
 
 impl<'a> GhostRule<'a> {
-    /// Whether a number is a ghost's or a lower player's.
     fn has(&self, number: u16) -> bool
         ensures { result ≡ is_upto (self.now.count + length self.now.ghosts.now.lower) number }
     {

@@ -39,7 +39,7 @@ fn put_unmarked(first: usize, count: usize, marks: &Marks, left: &mut Numbers)
     }
 }
 
-/// Fills a list with the residents with whom S1R can still be paired.
+/// Fills a list with the residents that S1R can still be paired with.
 #[tactic(auto, using(crate::proofs::LonelyLemmas::pool_is))]
 fn put_pool(context: &Context<'_>, lists: &FixedLists<'_>, left: &mut Numbers)
     ensures items { left.new.items ≡ pool context.now.facts context.now.reached lists.now }
@@ -65,7 +65,6 @@ fn waiting<'a>(lists: &FixedLists<'a>) -> &'a [u16]
     lists.s1r.split_at(lists.s2r.len()).1
 }
 
-/// Whether a number suits one of some.
 fn suits_one(context: &Context<'_>, x: u16, others: &[u16]) -> bool
     ensures { result ≡ list_any (suits context.now.facts context.now.reached x) others.now }
 {
@@ -77,7 +76,6 @@ fn suits_one(context: &Context<'_>, x: u16, others: &[u16]) -> bool
     false
 }
 
-/// Whether one of some suits a number.
 fn is_suited(context: &Context<'_>, y: u16, others: &[u16]) -> bool
     ensures { result ≡ list_any (λ x. suits context.now.facts context.now.reached x y) others.now }
 {
@@ -129,8 +127,8 @@ fn more_lonely(first: usize, second: usize, down: usize) -> usize
     first.max(second.saturating_sub(down))
 }
 
-/// How many miss at least for want of an opponent who suits. The list is filled anew with those with whom S1R can still
-/// be paired.
+/// How many miss at least for want of an opponent who suits. The list is filled anew with those that S1R can still be
+/// paired with.
 #[tactic(auto, unfolding(dutch_bracket::specs::ColourFloors::lonely, dutch_bracket::specs::ColourFloors::lonely_first, dutch_bracket::specs::ColourFloors::lonely_second))]
 pub(crate) fn lonely(
     context: &Context<'_>,

@@ -24,7 +24,7 @@ pub(crate) struct Outlook {
     pub(crate) any: NextValue,
 }
 
-/// Whether an S1 leaves a Limbo with the scores of the first one of a shape.
+/// If so, `Outlook::first` holds behind the S1: its Limbo has the scores of the first one of the shape.
 #[tactic(auto, using(dutch_bracket::proofs::ArrangementParts::next_number), unfolding(crate::specs::Outlooks::leaves_first))]
 pub(crate) fn leaves_first(shaped: &ShapedBracket<'_>, s1: &[u16]) -> bool
     ensures { let context = shaped.now.context.now
@@ -62,7 +62,7 @@ fn value_by_counts(shaped: &ShapedBracket<'_>) -> NextValue
     }
 }
 
-/// Whether there is a resident, and all residents have one score.
+/// The residents stand by score, so the first and the last of them tell it. A bracket without residents is not flat.
 pub(crate) fn is_flat(context: &Context<'_>) -> bool
     ensures value { result ≡ is_flat context.now.facts context.now.reached }
     ensures of { IsOf context.now.facts context.now.reached }

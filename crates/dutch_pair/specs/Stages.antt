@@ -39,7 +39,7 @@ bye_at (Bye bye) = bye.items
 abbrev pub choice_of : Stage → Choice
 choice_of stage = record { shape = stage.shape; lists = stage.candidate.lists }
 
--- C.4: whether a bracket is paired again, where those whom it leaves over can be paired out with all lower players or cannot
+-- C.4: an ordinary bracket is paired again if those that it leaves over cannot be paired out with all lower players
 abbrev pub is_again : BracketKind → Bool → Bool
 is_again Ordinary complete = not complete
 is_again Last complete = false

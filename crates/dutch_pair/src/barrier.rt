@@ -49,7 +49,7 @@ impl Barrier {
         }
     }
 
-    /// Whether some player blocks.
+    /// Yes if some player blocks. If nobody does, the groups alone block the round.
     pub fn has_blockers(&self, field: &Field) -> bool
         ensures { result ≡ has_blockers field.now self.now }
     {
@@ -57,7 +57,6 @@ impl Barrier {
         all.iter().any(|seat| self.label(*seat) == 0)
     }
 
-    // How many of some seats are of a group.
     fn count(&self, players: &[u16], group: u16) -> usize
         ensures { result ≡ group_size players.now (label self.now) group }
     {
@@ -67,7 +66,6 @@ impl Barrier {
             .count()
     }
 
-    // Whether a seat is of a group of an odd number of some seats.
     fn is_of_odd_group(&self, players: &[u16], seat: u16) -> bool
         ensures { result ≡ is_of_odd_group players.now (label self.now) seat }
     {
@@ -75,14 +73,13 @@ impl Barrier {
         group != 0 && self.count(players, group) % 2 == 1
     }
 
-    // Whether one of some seats is of a group.
     fn has_group(&self, players: &[u16], group: u16) -> bool
         ensures { result ≡ list_any (λ seat. label self.now seat == group) players.now }
     {
         players.iter().any(|seat| self.label(*seat) == group)
     }
 
-    /// Whether a seat is the first, by rank, of a group of an odd number of players.
+    /// Yes if a seat is the first, by rank, of a group of an odd number of players: so each such group is told once.
     pub fn opens_odd_group(&self, field: &Field, seat: u16) -> bool
         requires { seat < length field.now.seats }
         ensures { result ≡ opens_odd_group field.now self.now seat }
@@ -129,21 +126,19 @@ pub fn barrier_of(alloc: Global, field: &Field, steps: u64) -> Result<Option<Bar
     }
 }
 
-// Whether a seat may have the bye.
 fn may_be_left(field: &Field, seat: u16) -> bool
     ensures { result ≡ seats_may_be_left field.now seat }
 {
     seats(field).may_be_left(seat)
 }
 
-// Whether one of some seats may have the bye.
 fn may_leave_one(field: &Field, players: &[u16]) -> bool
     ensures { result ≡ list_any (seats_may_be_left field.now) players.now }
 {
     players.iter().any(|seat| may_be_left(field, *seat))
 }
 
-/// Whether the present players are an odd number and nobody of them may have the bye (C.2).
+/// Yes if the present players are an odd number and nobody of them may have the bye (C.2).
 pub fn lacks_bye(field: &Field) -> bool
     ensures { result ≡ lacks_bye field.now }
 {

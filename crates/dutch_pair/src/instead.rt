@@ -85,7 +85,7 @@ impl<'a> Bound for Wished<'a> {
     }
 }
 
-/// Whether some candidate grants a wish, whether it can be chosen or not.
+/// Candidates that cannot be chosen count too.
 #[tactic(auto, using(crate::proofs::InsteadLemmas::skipped_same), unfolding(dutch_bracket::specs::Brackets::candidates_of))]
 fn is_granted(wished: &Wished<'_>, budget: &mut Budget) -> Result<bool, Stopped>
     ensures answer { Decides result
@@ -109,7 +109,6 @@ fn is_granted(wished: &Wished<'_>, budget: &mut Budget) -> Result<bool, Stopped>
     }
 }
 
-/// Whether a legal candidate grants the wish, with as many pairs as the shape and so many moved-down players in them.
 #[tactic(auto, using(crate::proofs::InsteadLemmas::few_pairs, dutch_bracket::proofs::ShapeSearch::fits_by_test))]
 fn is_granted_with(wished: &Wished<'_>, mdps: usize, budget: &mut Budget) -> Result<bool, Stopped>
     ensures answer { let context = wished.now.shaped.context.now in Decides result
@@ -132,8 +131,7 @@ fn is_granted_with(wished: &Wished<'_>, mdps: usize, budget: &mut Budget) -> Res
     is_granted(&wished, budget)
 }
 
-/// Whether a legal candidate grants the wish, with as many pairs as the shape, and from a number of moved-down players
-/// in them to below another number.
+/// With as many pairs as the shape, and at least `from` and fewer than `to` moved-down players in them.
 fn is_granted_within(
     wished: &Wished<'_>,
     from: usize,
@@ -156,8 +154,7 @@ fn is_granted_within(
     Ok(false)
 }
 
-/// Whether a legal candidate of the shape grants a wish that none grants that can be chosen. Elsewhere than in a
-/// penultimate bracket all of them can be chosen.
+/// Elsewhere than in a penultimate bracket all legal candidates of the shape can be chosen, so none is barred.
 #[tactic(auto, using(crate::proofs::InsteadLemmas::none_legal))]
 fn is_barred(wished: &Wished<'_>, budget: &mut Budget) -> Result<bool, Stopped>
     requires none { list_any (grants wished.now.wish) (eligible_in wished.now.shaped) ≡ false }
@@ -172,8 +169,8 @@ fn is_barred(wished: &Wished<'_>, budget: &mut Budget) -> Result<bool, Stopped>
     is_granted(wished, budget)
 }
 
-/// Whether a legal candidate grants the wish, with as many pairs as the bracket's shape and more moved-down players in
-/// them. Elsewhere than in a penultimate bracket there is none, since it could be chosen.
+/// Elsewhere than in a penultimate bracket no legal candidate has as many pairs as the bracket's shape and more
+/// moved-down players in them, since it could be chosen.
 #[tactic(auto, using(crate::proofs::InsteadLemmas::none_more))]
 fn is_granted_above(wished: &Wished<'_>, budget: &mut Budget) -> Result<bool, Stopped>
     requires greatest { shape_here wished.now.shaped.context.now ≡ Some wished.now.shaped.shape }

@@ -1,5 +1,5 @@
-// A law of the boards of a round, which the program relies on where it puts them into the report. Laws for readers stand
-// in `pairing_laws`.
+// A law of the boards of a round, which the program relies on where it puts them into the report. Laws for readers
+// stand in `pairing_laws`.
 ghost use Rattle.std.specs.Prelude.{◌≡◌, ◌≤◌, ℕ, IfSome, Ok, Option, Some};
 ghost use Rattle.trf16.specs.declared.limits.TheConstants.{MOST_ROUNDS};
 ghost use Rattle.trf16.specs.Prelude.{CanBePaired, HasOwnStarts, Sheet};

@@ -3,8 +3,8 @@
 //!
 //! `pair_round` gives the boards of the round that the definitions name, or that there is no pairing, which it says
 //! only if the present players cannot be paired out. `bracket_at` gives one bracket of that round, `stages` all of
-//! them; `completes`, `choose`, `boards` and `lookahead::quality` give the parts. What is proved of the definitions alone
-//! stands in `pairing_laws`.
+//! them; `completes`, `choose`, `boards` and `lookahead::quality` give the parts. What is proved of the definitions
+//! alone stands in `pairing_laws`.
 //!
 //! Each bracket may make so many steps as its budget has. If they are used up, the answer is undecided, and never
 //! another pairing. It is not proved that some number of steps decides a bracket.

@@ -7,7 +7,6 @@ use crate::walk::everybody;
 use dutch_bracket::reached::{Reached, Seats};
 use dutch_player::Field;
 
-/// Whether a seat's score is lower than each of some seats.
 #[tactic(auto, using(crate::proofs::LowerLemmas::below_more, crate::proofs::LowerLemmas::below_not, crate::proofs::LowerLemmas::below_end))]
 fn is_below(field: &Field, seats: &[u16], seat: u16) -> bool
     ensures { result ≡ is_below field.now seats.now seat }
@@ -20,7 +19,6 @@ fn is_below(field: &Field, seats: &[u16], seat: u16) -> bool
     true
 }
 
-/// Of some seats those whose score is lower than each of others.
 #[tactic(auto, using(crate::proofs::LowerLemmas::kept_more, crate::proofs::LowerLemmas::passed_over, crate::proofs::LowerLemmas::kept_end))]
 fn those_below(field: &Field, seats: &[u16], all: &[u16]) -> Seats
     requires { length all.now ≤ LIMIT }

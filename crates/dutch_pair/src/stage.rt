@@ -28,8 +28,7 @@ pub struct Stage {
     pub(crate) again: bool,
 }
 
-/// Whether a bracket is paired again (C.4): an ordinary one, if those whom it leaves over cannot be paired out with all
-/// lower players.
+/// An ordinary bracket is paired again if those that it leaves over cannot be paired out with all lower players (C.4).
 fn is_again(
     context: &Context<'_>,
     candidate: &Candidate,
@@ -111,7 +110,7 @@ impl Stage {
         &self.quality
     }
 
-    /// Whether it is paired again, as the next one (C.4): then its pairs do not count.
+    /// Yes if it is paired again, as the next one (C.4): then its pairs do not count.
     pub fn is_again(&self) -> bool
         ensures { result ≡ self.now.again }
     {

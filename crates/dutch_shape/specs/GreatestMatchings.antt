@@ -16,7 +16,7 @@ pub record IsBracketMatching (context : Context) (pairs : List (ℕ × ℕ)) (ou
 abbrev pub pairs_here : Context → List (ℕ × ℕ) → List (ℕ × ℕ)
 pairs_here context pairs = filter (λ pair. are_pair context pair.0 pair.1) pairs
 
--- whether one of a pair was moved down [with made_shape]
+-- one of a pair was moved down [with made_shape]
 abbrev pub has_mdp : Context → ℕ × ℕ → Bool
 has_mdp context pair = nat_le pair.0 context.reached.mdps || nat_le pair.1 context.reached.mdps
 

@@ -16,11 +16,11 @@ mate_at context a (Some (Some b)) = if are_pair context a b then b else a
 abbrev pub mate_of : Context → List (Option ℕ) → ℕ → ℕ
 mate_of context partners a = mate_at context a (slice_get partners a)
 
--- whether a number has a mate
+-- a number has a mate
 abbrev pub has_mate : Context → List (Option ℕ) → ℕ → Bool
 has_mate context partners a = not (mate_of context partners a == a)
 
--- whether a number stands in front of its mate
+-- a number stands in front of its mate
 abbrev pub goes_first : Context → List (Option ℕ) → ℕ → Bool
 goes_first context partners a = nat_lt a (mate_of context partners a)
 

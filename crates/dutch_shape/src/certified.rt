@@ -47,7 +47,7 @@ impl ShapeFloor {
         }
     }
 
-    /// Whether a shape costs less than any that has a candidate that can be chosen.
+    /// A yes rules the shape out: each that has a candidate that can be chosen costs more.
     pub(crate) fn is_above(&self, players: &Players<'_>, shape: Shape) -> bool
         ensures { result ≡ true → self.now.debt + cost_of players.now shape < self.now.base }
     {
@@ -57,7 +57,7 @@ impl ShapeFloor {
         }
     }
 
-    /// Whether no shape that has a candidate that can be chosen costs less than this one.
+    /// A yes means that no shape that has a candidate that can be chosen costs less.
     fn is_reached(&self, players: &Players<'_>, shape: Shape) -> bool
         ensures { result ≡ true → self.now.debt + cost_of players.now shape ≤ self.now.base }
     {

@@ -5,8 +5,8 @@ ghost use Rattle.dutch_bracket.specs.Prelude.{Context, IsOf, shape_here};
 ghost use Rattle.dutch_shape.specs.GreatestMatchings.{HasGreatestMatching, IsBracketMatching, IsGreatestMatching, made_shape};
 
 /// The bracket's shape is that of a greatest matching (B.1, C.5): of all matchings of its players, in the penultimate
-/// bracket with all lower ones, none has more pairs in the bracket, and none as many and more moved-down players in them
-/// (C.1 to C.4). A bracket has a shape exactly if it has a matching.
+/// bracket with all lower ones, none has more pairs in the bracket, and none as many and more moved-down players in
+/// them (C.1 to C.4). A bracket has a shape exactly if it has a matching.
 #[tactic(auto, using(crate::proofs::GreatestMatchings::greatest_told, crate::proofs::GreatestMatchings::greatest_there))]
 pub fn the_shape_is_that_of_a_greatest_matching()
     ensures greatest { (context : Context) → IsOf context.facts context.reached → (pairs : List (ℕ × ℕ)) (out : List ℕ)

@@ -101,8 +101,8 @@ fn greatest_drawn<'b>(
     greatest_shape(legal, lister, budget)
 }
 
-/// What a bracket is by the first arrangement of its shape; nothing if it has none. (Apart from its caller, which has two
-/// ways to it.)
+/// What a bracket is by the first arrangement of its shape; nothing if it has none. (Apart from its caller, which has
+/// two ways to it.)
 #[inline(never)]
 fn value_drawn(
     legal: &Legal<'_, ByNumber<'_>>,
@@ -169,7 +169,7 @@ fn value_of(
 /// A bracket of a field above the next lower scoregroup.
 #[derive(Drop)]
 pub struct BracketAboveGroup<'a> {
-    /// For matchings, where memory is lent for them.
+    /// For the matching, where memory is lent for it.
     pub alloc: Option<Global>,
     pub field: &'a Field,
     pub reached: &'a Reached,

@@ -1,5 +1,5 @@
-// What a matching of a bracket's players is to the bracket (C.04.3 B.1 to B.3): its pairs, their shape, and whom they
-// leave over, who have to be paired out in the penultimate bracket (C.4).
+// What a matching of a bracket's players is to the bracket (C.04.3 B.1 to B.3): its pairs, their shape, and the players
+// that they leave over, who have to be paired out in the penultimate bracket (C.4).
 ghost use Rattle.std.specs.Prelude.{◌≡◌, ◌≤◌, IfOk, filter, length, true};
 ghost use Rattle.dutch_order.specs.Prelude.{MatchDrawn, Spends, leaves_one};
 ghost use Rattle.dutch_sequence.specs.declared.numbers.TheConstants.{LIMIT};
@@ -71,7 +71,6 @@ fn unmated(players: &Players<'_>, partners: &[Option<u16>]) -> Result<Vec<u16>, 
         .collect(players.alloc)
 }
 
-/// Whether one number at most is left over, who may be.
 fn leaves_one(rule: ByNumber<'_>, alone: &[u16]) -> bool
     ensures { result ≡ leaves_one (number_may_be_left rule.entry.field.now rule.entry.reached.now) alone.now }
 {
@@ -82,7 +81,7 @@ fn leaves_one(rule: ByNumber<'_>, alone: &[u16]) -> bool
     }
 }
 
-/// Whether a candidate that can be chosen may leave these numbers over (C.2, C.4).
+/// C.4 counts in a penultimate bracket, C.2 in one that ends the round. An ordinary one may leave anybody over.
 fn may_leave(players: &Players<'_>, alone: &[u16], budget: &mut Budget) -> Result<bool, Stopped>
     requires { length alone.now ≤ length players.now.reached.seats }
     ensures answer { Decides result (may_leave players.now alone.now) (budget.new.used ≡ budget.new.limit) }
@@ -96,8 +95,7 @@ fn may_leave(players: &Players<'_>, alone: &[u16], budget: &mut Budget) -> Resul
     Ok(!players.rule.reached.kind().ends_round() || leaves_one(players.rule, alone))
 }
 
-/// Whether the pairs of a matching are those of a candidate that can be chosen. A no may also say that memory was
-/// refused.
+/// A no may also say that memory was refused.
 #[tactic(auto, using(crate::proofs::MatchedCandidates::unmated_few))]
 pub(crate) fn can_be_chosen(
     players: &Players<'_>,

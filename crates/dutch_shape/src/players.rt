@@ -3,7 +3,7 @@
 //
 // Two who may be a pair of a candidate cost nothing. Whoever is in no such pair costs so much, and a moved-down player
 // a little more: so what costs least has the most pairs, and then the most moved-down players in them. In the
-// penultimate bracket those whom a candidate leaves over are paired out with all lower players (C.4), and one has the
+// penultimate bracket those that a candidate leaves over are paired out with all lower players (C.4), and one has the
 // bye if the number is odd.
 ghost use Rattle.std.specs.Prelude.{◌≡◌, ◌≤◌, ◌*◌, ◌%◌, if◌then◌else◌, slice_index};
 ghost use Rattle.dutch_sequence.specs.declared.numbers.TheConstants.{LIMIT};
@@ -29,7 +29,7 @@ const MOVED_DOWN_ALONE: u64 = 2;
 /// What it costs to have the bye in the penultimate bracket: more than all others together, so that one has it at most.
 const BYE: u64 = 16777216;
 
-/// The players over whom the matchings go, by number: those of a bracket, and in the penultimate one behind them all
+/// The players that a matching goes over, by number: those of a bracket, and in the penultimate one behind them all
 /// lower ones by rank.
 #[derive(Drop)]
 pub(crate) struct Players<'a> {
@@ -96,7 +96,7 @@ impl<'a> Players<'a> {
         }
     }
 
-    /// Whether two may be a pair of the bracket: they may meet, and one of them at most was moved down (B.2, C.1, C.3).
+    /// They may meet (C.1, C.3), and one of them at most was moved down (B.2).
     pub(crate) fn are_pair(&self, a: u16, b: u16) -> bool
         ensures { result ≡ are_pair self.now a b }
     {
@@ -104,7 +104,7 @@ impl<'a> Players<'a> {
         self.rule.may_meet(a, b) && !(usize::from(a) <= mdps && usize::from(b) <= mdps)
     }
 
-    /// Whether two may be paired once those left over are paired out (C.4).
+    /// In a penultimate bracket those left over are paired out with all lower players (C.4).
     fn are_paired_out(&self, a: u16, b: u16) -> bool
         ensures { result ≡ are_paired_out self.now a b }
     {
@@ -113,7 +113,7 @@ impl<'a> Players<'a> {
             && seats(self.rule.field).may_meet(self.seat(a), self.seat(b))
     }
 
-    /// Whether one may be left over (C.2).
+    /// Elsewhere than in an ordinary bracket, whoever is left over at the end has the bye (C.2).
     fn may_stay(&self, a: u16) -> bool
         ensures { result ≡ may_stay self.now a }
     {

@@ -26,7 +26,6 @@ struct ShapesAboveFloor<'a, 'b> {
 }
 
 impl<'a, 'b> ShapesAboveFloor<'a, 'b> {
-    /// Whether the floor says that no candidate that can be chosen has a shape, or one that costs less.
     #[tactic(auto, using(crate::proofs::CheapShapes::too_cheap_by))]
     fn is_too_cheap(&self, shape: Shape) -> bool
         ensures { result ≡ true → IsTooCheap self.now.context.now shape }
@@ -76,8 +75,8 @@ impl<'a, 'b, 'c> Shapes<ByNumber<'c>> for ShapesAboveFloor<'a, 'b> {
     }
 }
 
-/// The shape: by a listing of few steps, then by a matching of least cost, and where that does not tell it, by the whole
-/// listing above its floor.
+/// The shape: by a listing of few steps, then by a matching of least cost, and where that does not tell it, by the
+/// whole listing above its floor.
 #[tactic(auto, unfolding(dutch_bracket::specs::Brackets::shape_of))]
 fn found_shape<'b>(
     context: &Context<'_>,

@@ -145,7 +145,6 @@ impl Weigher<'_> {
         weigh(field, self.scale, &room.seated, &mut room.quality)
     }
 
-    /// Whether two numbers may meet.
     fn may_meet(&self, a: u16, b: u16) -> bool
         ensures { result ≡ numbers_meet self.now.facts self.now.reached a b }
     {

@@ -56,7 +56,7 @@ pub struct Bars {
 }
 
 impl Bars {
-    /// Whether so much weight is beyond one of them.
+    /// To be beyond one of them is enough.
     fn are_passed(&self, weight: Wide) -> bool {
         self.aim.is_some_and(|bar| bar.is_passed(weight))
             || self.kept.is_some_and(|bar| bar.is_passed(weight))
@@ -218,7 +218,7 @@ impl<'a> WeightFloors<'a> {
         self.ask_with(request, order, budget)
     }
 
-    /// Whether the last floor says that all candidates with some pairs are behind one of the bars.
+    /// By the last floor alone: all candidates with the pairs are behind one of the bars. A no says nothing.
     fn rules_out(&self, pairs: &[Pair], bars: &Bars) -> bool {
         let Some(last) = self.floors.last() else {
             return false;

@@ -52,7 +52,6 @@ pub(crate) struct Halves {
     ghost in_order: { (mdps < half) × (half ≤ count) × (count ≤ 1024) },
 }
 
-/// Whether a number stands in a list.
 fn has(list: &[u16], number: u16) -> bool
     ensures { result ≡ is_member number list.now }
 {
@@ -102,7 +101,7 @@ impl Order {
         }
     }
 
-    /// Whether nobody adds anything. A no says nothing.
+    /// A no says nothing.
     pub(crate) fn is_none(&self) -> bool
         ensures { result ≡ true → (x : ℕ) → added self.now x ≡ 0 }
     {

@@ -34,7 +34,7 @@ pub enum Standing {
 }
 
 impl Standing {
-    /// Whether two who stand so may be a pair.
+    /// Yes if two who stand so may be a pair in an arrangement of the scope.
     pub fn is_joined(self, other: Standing) -> bool
         ensures { result ≡ is_joined self other }
     {
@@ -51,7 +51,7 @@ impl Standing {
         }
     }
 
-    /// Whether one who stands so may be in no pair.
+    /// Yes if one who stands so may be in no pair. Those of S1 and of S1R are each in one.
     pub fn may_stay(self) -> bool
         ensures { result ≡ may_stay self }
     {
@@ -91,7 +91,6 @@ fn refill(list: &mut Numbers, numbers: &[u16]) {
     let _all = list.try_extend_from_slice(numbers);
 }
 
-/// Whether a list has a number.
 fn has(list: &[u16], number: u16) -> bool
     ensures { result ≡ is_member number list.now }
 {
@@ -151,12 +150,13 @@ impl Scope {
         }
     }
 
-    /// Whether it is the same as another one.
+    /// Yes if both are for the same S1 and S1R, as far as these are chosen.
     pub fn is(&self, other: &Scope) -> bool {
         self.filling == other.filling && self.s1 == other.s1 && self.s1r == other.s1r
     }
 
-    /// Whether it is known that all arrangements with a beginning are among its own.
+    /// A yes means that a floor for it holds behind a beginning: all arrangements with the beginning are among its own.
+    /// A no says nothing.
     pub fn covers(&self, prefix: &Prefix<'_>) -> bool
         ensures { result ≡ true → Covers self.now prefix.now }
     {
@@ -167,14 +167,12 @@ impl Scope {
         }
     }
 
-    /// Whether a beginning has its S1.
     fn has_s1_of(&self, prefix: &Prefix<'_>) -> bool
         ensures { result ≡ true → (has_s1 prefix.now.filling ≡ true) × (prefix.now.lists.s1 ≡ self.now.s1) }
     {
         has_s1(prefix.filling()) && prefix.s1() == self.s1.as_slice()
     }
 
-    /// Whether a beginning has its S1 and its S1R.
     fn has_s1r_of(&self, prefix: &Prefix<'_>) -> bool
         ensures { result ≡ true → (prefix.now.filling ≡ S2r) × (prefix.now.lists.s1 ≡ self.now.s1)
             × (prefix.now.lists.s1r ≡ self.now.s1r) }

@@ -32,15 +32,15 @@ use dutch_weighing::Weighing;
 use std::alloc::AllocError;
 use std::marker::Model;
 
-/// Over whom the matchings of a floor go.
+/// The players that the matchings of a floor go over.
 #[derive(Debug, Default, Clone, Copy, PartialEq, Eq)]
 pub enum Reach {
     /// The bracket's players alone.
     #[default]
     Bracket,
-    /// All lower players too, with whom those who go down are paired out.
+    /// All lower players too: those who go down are paired out with them.
     Lower,
-    /// The next lower scoregroup too, whom those who go down can meet in the next bracket.
+    /// The next lower scoregroup too: those who go down can meet it in the next bracket.
     Next,
 }
 
@@ -63,8 +63,8 @@ pub(crate) struct Sought<'b> {
     pub(crate) wish: Option<Wish>,
 }
 
-/// What pairs and downfloaters weigh in the arrangements of a scope that grant what is wished, and what an order adds to
-/// pairs of residents (D.2).
+/// What pairs and downfloaters weigh in the arrangements of a scope that grant what is wished, and what an order adds
+/// to pairs of residents (D.2).
 #[derive(Drop)]
 pub(crate) struct Scoped<'a, 'b> {
     weighing: &'b Weighing<'a>,
@@ -179,7 +179,7 @@ impl<'a, 'b> Scoped<'a, 'b> {
         }
     }
 
-    /// The numbers of the players whom its matchings go over.
+    /// The numbers of the players that its matchings go over.
     #[tactic(auto, using(crate::proofs::WeightsBehind::numbers_known))]
     fn players(&self) -> Numbers
         ensures items { result.items ≡ all_numbers self.now }
@@ -221,40 +221,36 @@ impl<'a, 'b> Scoped<'a, 'b> {
         }
     }
 
-    /// Whether two may be a pair by where they stand, and by what is wished.
     fn are_joined(&self, a: u16, b: u16) -> bool
         ensures { result ≡ joins_in self.now a b }
     {
         self.standing(a).is_joined(self.standing(b)) && fits_as_pair(self.wish, a, b)
     }
 
-    /// Whether one may be in no pair by where they stand, and by what is wished.
     fn may_stay(&self, number: u16) -> bool
         ensures { result ≡ stays_in self.now number }
     {
         self.standing(number).may_stay() && fits_as_left(self.wish, number)
     }
 
-    /// Whether a number is that of a resident.
     fn is_resident(&self, number: u16) -> bool
         ensures { result ≡ nat_lt self.now.weighing.reached.mdps number }
     {
         self.weighing.context().reached().mdps() < usize::from(number)
     }
 
-    /// Whether a number is one of the bracket's, or less.
+    /// 0, which is nobody's number, is inside too.
     fn is_inside(&self, number: u16) -> bool
         ensures { result ≡ is_inside self.now number }
     {
         usize::from(number) <= self.weighing.context().len()
     }
 
-    /// Whether a number is in a pair in each arrangement of the scope.
+    /// A yes means that the number is in a pair in each arrangement of the scope.
     pub(crate) fn must_meet(&self, number: u16) -> bool {
         !self.goes_down(number)
     }
 
-    /// Whether two may be a pair of the bracket.
     #[tactic(auto, unfolding(dutch_bracket::specs::Reached::numbers_meet))]
     pub(crate) fn may_pair(&self, a: u16, b: u16) -> bool
         ensures value { result ≡ (bracket_costs self.now).meets a b }
@@ -264,14 +260,13 @@ impl<'a, 'b> Scoped<'a, 'b> {
         self.are_joined(a, b) && self.weighing.may_meet(a, b)
     }
 
-    /// Whether a number is a lower player's, or may be in no pair of the bracket.
+    /// Lower players count as going down.
     fn goes_down(&self, number: u16) -> bool
         ensures { result ≡ goes_down self.now number }
     {
         !self.is_inside(number) || self.may_stay(number)
     }
 
-    /// Whether two are both of those who may go down.
     fn both_go(&self, a: u16, b: u16) -> bool
         ensures { result ≡ both_go self.now a b }
     {
@@ -298,14 +293,12 @@ impl<'a, 'b> Scoped<'a, 'b> {
         seats(self.weighing.context().field())
     }
 
-    /// Whether two may be paired once all who go down are paired out.
     fn may_pair_out(&self, a: u16, b: u16) -> bool
         ensures { result ≡ may_pair_out self.now a b }
     {
         self.both_go(a, b) && self.by_seat().may_meet(self.seat(a), self.seat(b))
     }
 
-    /// Whether one may have the bye once all who go down are paired out.
     fn may_have_bye(&self, number: u16) -> bool
         ensures { result ≡ (lower_costs self.now).may_be_left number }
     {
@@ -338,21 +331,20 @@ impl<'a, 'b> Scoped<'a, 'b> {
         }
     }
 
-    /// Whether two are both numbers of the bracket.
     fn are_inside(&self, a: u16, b: u16) -> bool
         ensures { result ≡ are_inside self.now a b }
     {
         self.is_inside(a) && self.is_inside(b)
     }
 
-    /// Whether a number is one of the bracket's or of the next lower scoregroup's.
+    /// The numbers of the next lower scoregroup stand behind those of the bracket, and both count.
     fn is_number_below(&self, a: u16) -> bool
         ensures { result ≡ is_number_below self.now.weighing a }
     {
         0 < a && usize::from(a) <= self.weighing.context().len_below()
     }
 
-    /// Whether two may meet in the next bracket (C.1, C.3, C.7).
+    /// C.1 and C.3 hold in the next bracket too (C.7).
     fn may_meet_below(&self, a: u16, b: u16) -> bool
         ensures { result ≡ may_meet_below self.now a b }
     {

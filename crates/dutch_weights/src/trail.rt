@@ -72,7 +72,7 @@ impl Trail {
         self.told_at.saturating_add(steps).saturating_sub(made)
     }
 
-    /// Whether the order of S1R was asked for behind these pairs of S1 and S2 last.
+    /// Only the pairs of S1 and S2 behind which the order of S1R was asked for last are kept.
     pub(crate) fn knows_order_behind(&self, pairs: &[Pair]) -> bool {
         match &self.ordered {
             Some(ordered) => ordered.as_slice() == pairs,
@@ -80,7 +80,7 @@ impl Trail {
         }
     }
 
-    /// Notes that it was. (Where memory is refused, nothing is noted.)
+    /// Notes that the order of S1R was asked for behind these pairs. (Where memory is refused, nothing is noted.)
     pub(crate) fn note_order(&mut self, alloc: Global, pairs: &[Pair]) {
         let mut ordered = Vec::new(alloc);
         for pair in pairs {

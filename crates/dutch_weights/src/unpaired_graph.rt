@@ -23,7 +23,7 @@ pub(crate) struct LeftOverCost {
     pub(crate) never: Wide,
 }
 
-/// The players over whom matchings go, without those who are in some pairs.
+/// The players that matchings go over, without those who are in some pairs.
 #[derive(Drop)]
 pub(crate) struct UnpairedGraph<'a, 'b> {
     scoped: &'b Scoped<'a, 'b>,
@@ -42,7 +42,7 @@ impl<'a, 'b> Model for UnpairedGraph<'a, 'b> {
     ghost invariant = { λ r. IsUnpairedGraph (record { scoped = r.scoped.now; numbers = r.numbers.items }) };
 }
 
-/// Whether a number is in one of some pairs.
+/// Yes if one of the pairs has the number.
 pub fn is_in(pairs: &[Pair], number: u16) -> bool {
     pairs
         .iter()
@@ -86,7 +86,6 @@ impl<'a, 'b> UnpairedGraph<'a, 'b> {
         &self.numbers
     }
 
-    /// Whether two numbers may be a pair of the bracket.
     pub(crate) fn may_pair(&self, a: u16, b: u16) -> bool {
         self.scoped.may_pair(a, b)
     }

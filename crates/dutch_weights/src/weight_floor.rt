@@ -92,7 +92,6 @@ fn plus_pairs(floor: &Floor, firsts: &[u16], seconds: &[u16], sum: Wide) -> Opti
     Some(sum)
 }
 
-/// Whether a list has a number at a place.
 fn is_at(list: &[u16], place: usize, number: u16) -> bool
     ensures { result ≡ is_first number (drop place list.now) }
 {
@@ -118,7 +117,7 @@ fn place_after(place: usize, is_met: bool) -> usize
     if is_met { place + 1 } else { place }
 }
 
-/// A sum with what the moved-down players add whom S1 passes over; none if it does not fit.
+/// A sum with what the moved-down players add that S1 passes over; none if it does not fit.
 fn plus_outside(floor: &Floor, mdps: usize, s1: &[u16], sum: Wide) -> Option<Wide>
     requires { mdps ≤ LIMIT }
     ensures { IfSome result (λ n. n ≡ sum + sum_by (extra_left_in floor.now) (passed_over s1.now 1 mdps)) }
@@ -327,8 +326,8 @@ impl<'a> WeightFloors<'a> {
         self.trail.note(from, to);
     }
 
-    /// Over whom the matchings go: over the next lower scoregroup too if C.7 is measured; in the penultimate bracket
-    /// over all lower players too (C.4), unless they are too many.
+    /// The players that the matchings go over: the next lower scoregroup too if C.7 is measured; in the penultimate
+    /// bracket all lower players too (C.4), unless they are too many.
     pub(crate) fn reach(&self) -> Reach
         ensures lower { result ≡ Lower → is_penultimate self.now.reached.kind ≡ true }
         ensures next { MeasuresNext result self.now.scale }
@@ -422,12 +421,12 @@ impl<'a> WeightFloors<'a> {
         Some(Bar { weight, above })
     }
 
-    /// Whether the scale has a digit for each difference of a quality.
+    /// Yes if its scale can weigh a quality, as it has a digit for each of its differences.
     pub fn measures(&self, quality: &Quality) -> bool {
         self.weighing.scale().measures(quality)
     }
 
-    /// Whether its weights tell of the next bracket (C.7).
+    /// Yes if its weights tell of the next bracket (C.7).
     pub fn counts_next(&self) -> bool
         ensures { result ≡ is_some self.now.scale.next }
     {
