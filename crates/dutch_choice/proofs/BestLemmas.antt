@@ -1,11 +1,12 @@
--- What is chosen in the end: it is one of the candidates, and of the bracket's shape.
+-- What is chosen in the end: it is one of the candidates, and of the bracket's shape. Where nothing is wished, it is the best that is found.
 use Rattle.std.proofs.Common.{◌≡◌, ℕ, Bool, true, false, List, [], ◌∷◌, Option, Some, None, is_some, refl, sym, ap, ◌∙◌, subst, arith}
+use Rattle.dutch_sequence.proofs.Lists.{filter-all}
 use Rattle.dutch_order.specs.declared.bracket.Shape.{Shape}
 use Rattle.dutch_order.specs.Prelude.{Arrangement, IsIn}
 use Rattle.dutch_order.specs.Cursors.{◌>>=◌}
 use Rattle.dutch_player.specs.Prelude.{Facts}
-use Rattle.dutch_bracket.specs.Prelude.{Context, quality_here, Reached, frame_of, is_better, fits, shapes, has_member, Choice, eligible, is_better_in, best_of_shape, shape_of, choice, first_unbeaten, best}
-use Rattle.dutch_choice.specs.Prelude.{is_better_here}
+use Rattle.dutch_bracket.specs.Prelude.{Context, eligible_here, quality_here, Reached, frame_of, is_better, fits, shapes, has_member, Choice, eligible, is_better_in, best_of_shape, shape_of, choice, first_unbeaten, best}
+use Rattle.dutch_choice.specs.Prelude.{best_wished, is_better_here}
 use Rattle.dutch_choice.proofs.ChoiceLemmas.{IsOrder, order_of, best_wins, best_loses, best_alone}
 use Rattle.dutch_bracket.proofs.QualityOrder.{irreflexive, transitive, total}
 use Rattle.dutch_bracket.proofs.ShapeSearch.{first_has}
@@ -80,3 +81,18 @@ module _ (facts : Facts) (reached : Reached) (lower : List ℕ) where
   pub chosen_is : (chosen : Choice) → choice facts reached lower ≡ Some chosen → IsShaped (shape_of facts reached lower) chosen
   unfolding choice shape_of best_of_shape
   chosen_is chosen = chosen_at chosen (shape_of facts reached lower)
+
+module _ (context : Context) where
+  -- where nothing is wished, the best is that of all that can be chosen
+  pub nothing_wished : (shape : Shape) → best_wished context None shape ≡ best_of_shape context.facts context.reached context.lower shape
+  unfolding best_wished eligible best_of_shape
+  nothing_wished shape = ap (best (is_better_here context)) (filter-all (eligible_here context shape))
+
+  -- then a shape that is found has a best one
+  pub shape_has_one : (shape : Shape) → shape_of context.facts context.reached context.lower ≡ Some shape → best_wished context None shape ≡ None → ⊥
+  shape_has_one shape found none = shape_has_best context.facts context.reached context.lower shape found (sym (nothing_wished shape) ∙ none)
+
+  -- which is the choice
+  pub choice_is_best : (shape : Shape) (lists : Arrangement) → shape_of context.facts context.reached context.lower ≡ Some shape → best_wished context None shape ≡ Some lists
+      → choice context.facts context.reached context.lower ≡ Some (record { shape = shape; lists = lists })
+  choice_is_best shape lists found h = choice_is context.facts context.reached context.lower shape lists found (sym (nothing_wished shape) ∙ h)

@@ -1,7 +1,7 @@
 -- The best of candidates, step by step: of two the later one is kept only if it is better.
-use Rattle.std.proofs.Common.{◌≡◌, ◌⊎◌, Bool, true, false, not, ◌&&◌, ◌||◌, List, [], ◌∷◌, filter, Option, Some, None, refl, ◌∙◌, arith}
+use Rattle.std.proofs.Common.{◌≡◌, ◌⊎◌, Bool, true, false, List, [], ◌∷◌, Some, refl, ◌∙◌, arith}
 use Rattle.std.specs.List.{list_any}
-use Rattle.dutch_bracket.specs.Prelude.{is_unbeaten, first_unbeaten, best, best_with}
+use Rattle.dutch_bracket.specs.Prelude.{is_unbeaten, first_unbeaten, best}
 
 -- what an order of better ones keeps
 pub record IsOrder {X : Type 0} (better : X → X → Bool) : Type 0 where
@@ -56,40 +56,3 @@ module _ {X Q : Type 0} (quality_of : X → Q) (is_better : Q → Q → Bool) (i
     between = λ a b c wins loses. grind (arith, total_of (quality_of a) (quality_of b), transitive_of (quality_of b) (quality_of a) (quality_of c));
     within = λ a b c wins loses. grind (arith, total_of (quality_of b) (quality_of c), transitive_of (quality_of a) (quality_of c) (quality_of b));
   }
-
--- one is better than the one that is kept, if there is one
-abbrev pub wins_over : {X : Type 0} → (X → X → Bool) → Option X → X → Bool
-wins_over better None d = true
-wins_over better (Some c) d = better d c
-
--- one candidate more, where one may be kept already
-module _ {X : Type 0} (better : X → X → Bool) (order : IsOrder better) (can far : X → Bool) where
-  abbrev sought : X → Bool
-  sought c = can c && not (far c)
-
-  -- one that is of no interest is passed
-  pub passed_by : (kept : Option X) (d : X) (rest : List X) (won : Bool) → won ≡ wins_over better kept d → (not (can d) || (far d || not won)) ≡ true
-      → best_with better sought kept (d ∷ rest) ≡ best_with better sought kept rest
-  passed_by None d rest won e unwanted = grind arith
-  passed_by (Some c) d rest won e unwanted = grind (arith, best_loses better order c d (filter sought rest))
-
-  -- and one that is, is kept
-  pub kept_by : (kept : Option X) (d : X) (rest : List X) (won : Bool) → won ≡ wins_over better kept d → can d ≡ true → (far d || not won) ≡ false
-      → best_with better sought (Some d) rest ≡ best_with better sought kept (d ∷ rest)
-  kept_by None d rest won e fit idle = grind arith
-  kept_by (Some c) d rest won e fit idle = grind (arith, best_wins better order c d (filter sought rest))
-
-  pub kept_at_end : (kept : Option X) → best_with better sought kept [] ≡ kept
-  kept_at_end kept = grind (arith, best_alone better order)
-
--- what is not better than a floor, where a better one than the floor is aimed at, or one no worse is kept
-module _ {Q : Type 0} (better : Q → Q → Bool) (order : IsOrder better) where
-  pub behind_kept : (kept floor q : Q) → better q floor ≡ false → not (better floor kept) ≡ true → not (better q kept) ≡ true
-  behind_kept kept floor q low lost = grind (arith, order.between q floor kept)
-
-  pub behind_aim : (aim floor q : Q) → better q floor ≡ false → (better aim floor || false) ≡ true → (better aim q || false) ≡ true
-  behind_aim aim floor q low idle = grind (arith, order.within aim q floor)
-
-  pub behind_either : (aim kept floor q : Q) → better q floor ≡ false → (better aim floor || not (better floor kept)) ≡ true
-      → (better aim q || not (better q kept)) ≡ true
-  behind_either aim kept floor q low idle = grind (arith, order.between q floor kept, order.within aim q floor)

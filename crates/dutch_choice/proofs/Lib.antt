@@ -1,8 +1,5 @@
-pub mod AimLemmas
 pub mod BestGranting
 pub mod AllPaired
 pub mod RuledOutLemmas
 pub mod BestLemmas
 pub mod ChoiceLemmas
-pub mod KeptValues
-pub mod SkippedLemmas

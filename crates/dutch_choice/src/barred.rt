@@ -3,10 +3,9 @@ ghost use Rattle.std.specs.Prelude.{◌≡◌, true, false};
 ghost use Rattle.dutch_order.specs.declared.bracket.Shape.{Shape};
 ghost use Rattle.dutch_order.specs.Prelude.{Arrangement, IsIn, Begins};
 ghost use Rattle.dutch_bracket.specs.Prelude.{FitsHere, OfEachWithBeginning, candidates_here, candidates_in};
-ghost use Rattle.dutch_bracket.specs.Prelude.{grants, is_wished};
+ghost use Rattle.dutch_bracket.specs.Prelude.{grants};
 ghost use Rattle.dutch_bracket.specs.declared.wish.Wish.TheVariants.{LeftOver};
 
-use crate::pass::Pass;
 use crate::ruled_out::is_ruled_out;
 use dutch_bracket::context::Context;
 use dutch_bracket::shaped::ShapedBracket;
@@ -52,15 +51,4 @@ pub fn rules_out(shaped: &ShapedBracket<'_>, wish: Wish, prefix: &Prefix<'_>) ->
     ensures { result ≡ true → OfEachWithBeginning shaped.now prefix.now (λ a. grants wish a ≡ false) }
 {
     bars(shaped, wish) || begins_without(shaped.context, wish, prefix)
-}
-
-/// Whether no candidate with a beginning grants what is wished.
-pub fn is_barred(pass: &Pass<'_>, prefix: &Prefix<'_>) -> bool
-    ensures { result ≡ true → OfEachWithBeginning pass.now.shaped prefix.now
-        (λ a. is_wished pass.now.wish a ≡ false) }
-{
-    match pass.wish {
-        Some(wish) => rules_out(&pass.shaped, wish, prefix),
-        None => false,
-    }
 }

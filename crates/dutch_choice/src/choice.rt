@@ -30,7 +30,7 @@ pub enum Choice {
 }
 
 /// The choice in a bracket that has a candidate.
-#[tactic(auto, using(crate::proofs::AimLemmas::choice_is_best, crate::proofs::AimLemmas::shape_has_one))]
+#[tactic(auto, using(crate::proofs::BestLemmas::choice_is_best, crate::proofs::BestLemmas::shape_has_one))]
 pub fn choose_in<F: Finder>(context: &Context<'_>, budget: &mut Budget) -> Result<Choice, PairFault>
     requires candidate { HasCandidate context.now.facts context.now.reached context.now.lower }
     ensures answer { IfOk result (IsChoice context.now (budget.new.used ≡ budget.new.limit)) }

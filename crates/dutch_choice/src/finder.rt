@@ -4,14 +4,20 @@
 // is known of the candidates behind a beginning is found beside it.
 ghost use Rattle.std.specs.Prelude.{◌≡◌, None, IfOk};
 ghost use Rattle.dutch_order.specs.Prelude.{MatchStep, Spends};
-ghost use Rattle.dutch_choice.specs.Aims.{best_wished};
-ghost use Rattle.dutch_choice.specs.Kept.{IsBest};
+ghost use Rattle.dutch_choice.specs.Found.{IsBest, best_wished};
 
-use crate::pass::Best;
 use dutch_bracket::fault::PairFault;
+use dutch_bracket::quality::Quality;
 use dutch_bracket::shaped::ShapedBracket;
 use dutch_bracket::wish::Wish;
-use dutch_order::{Budget, Step};
+use dutch_order::{Budget, Candidate, Step};
+
+/// The best candidate, with its quality.
+#[derive(Drop)]
+pub struct Best {
+    pub candidate: Candidate,
+    pub quality: Quality,
+}
 
 /// Finds the best candidate of a shape.
 pub trait Finder {

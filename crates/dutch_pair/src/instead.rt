@@ -211,7 +211,7 @@ fn why_none(wished: &Wished<'_>, budget: &mut Budget) -> Result<Instead, Stopped
 }
 
 /// The best candidate of a bracket's shape that grants a wish, or why there is none.
-#[tactic(auto, using(crate::proofs::InsteadLemmas::none_granting), unfolding(dutch_choice::specs::Aims::best_wished, dutch_choice::specs::Wishes::best_granting, crate::specs::Instead::IsInstead))]
+#[tactic(auto, using(crate::proofs::InsteadLemmas::none_granting), unfolding(dutch_choice::specs::Found::best_wished, dutch_choice::specs::Wishes::best_granting, crate::specs::Instead::IsInstead))]
 fn look_for<F: Finder>(wished: &Wished<'_>, budget: &mut Budget) -> Result<Instead, PairFault>
     requires greatest { shape_here wished.now.shaped.context.now ≡ Some wished.now.shaped.shape }
     ensures { IfOk result (IsInstead wished.now.shaped.context.now wished.now.shaped.shape wished.now.wish

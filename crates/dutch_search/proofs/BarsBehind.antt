@@ -4,9 +4,9 @@ use Rattle.std.proofs.Math.Logic.{∥∥₁_elim}
 use Rattle.dutch_order.specs.Prelude.{Arrangement, IsIn}
 use mathlib.Core.Bool.{Bool-set}
 use Rattle.dutch_bracket.specs.Prelude.{Quality, is_better, next_in, quality_in, candidates_in, quality_here}
-use Rattle.dutch_choice.specs.Prelude.{aim_in, beats, wins, kept_in}
+use Rattle.dutch_passes.specs.Prelude.{aim_in, beats, wins, kept_in}
 use Rattle.dutch_search.specs.Prelude.{HasNoBetterNext, IsBehindAim, IsBehindKept, Weighs, context_of, pass_of}
-use Rattle.dutch_choice.specs.declared.pass.Best.{Best}
+use Rattle.dutch_choice.specs.declared.finder.Best.{Best}
 use Rattle.dutch_bracket.specs.declared.quality.Quality.{Quality as Fields}
 use Rattle.dutch_weights.specs.declared.weight_floor.Bar.{Bar}
 use Rattle.dutch_weights.specs.Prelude.{HasBar, IsBar, Weighed}

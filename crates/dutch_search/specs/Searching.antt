@@ -1,7 +1,7 @@
 -- What a search for a bracket's choice stands on. Only private functions' clauses cite these.
 use Rattle.std.specs.Prelude.{ℕ, ◌+◌, ◌/◌, if◌then◌else◌, Bool, Option}
 use Rattle.std.specs.Option.{ForSome}
-use Rattle.dutch_choice.specs.declared.pass.Pass.{Pass}
+use Rattle.dutch_passes.specs.declared.pass.Pass.{Pass}
 use Rattle.dutch_floors.specs.Behind.{IsBasisFor}
 use Rattle.dutch_weights.specs.Prelude.{AreOf, Weighed}
 use Rattle.dutch_search.specs.declared.both.BothFloors.{BothFloors}

@@ -2,8 +2,8 @@
 use Rattle.std.specs.Prelude.{◌≡◌, ℕ, not, true}
 use Rattle.dutch_order.specs.Prelude.{Arrangement, ExchangeClass, IsIn, Beginning}
 use Rattle.dutch_bracket.specs.Prelude.{Context, OfEachWithBeginning, candidates_in, quality_here, NextValue}
-use Rattle.dutch_choice.specs.declared.pass.Pass.{Pass}
-use Rattle.dutch_choice.specs.Prelude.{aim_in, beats, wins}
+use Rattle.dutch_passes.specs.declared.pass.Pass.{Pass}
+use Rattle.dutch_passes.specs.Prelude.{aim_in, beats, wins}
 use Rattle.dutch_search.specs.declared.bars.Skipper.{Skipper}
 use Rattle.dutch_weights.specs.Prelude.{BeginsWith, KnowsNext, WeighsNoLess}
 

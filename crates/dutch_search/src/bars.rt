@@ -3,13 +3,14 @@
 ghost use Rattle.std.specs.Prelude.{◌≡◌, Some};
 ghost use Rattle.dutch_bracket.specs.Prelude.{quality_in};
 ghost use Rattle.dutch_weights.specs.Prelude.{HasBar};
-ghost use Rattle.dutch_choice.specs.Prelude.{aim_in, kept_in};
+ghost use Rattle.dutch_passes.specs.Prelude.{aim_in, kept_in};
 ghost use Rattle.dutch_floors.specs.Behind.{IsBasisFor};
 ghost use Rattle.dutch_search.specs.Searching.{HasWeights};
 
 use dutch_bracket::quality::Quality;
-use dutch_choice::pass::{Best, Pass, Search};
+use dutch_choice::finder::Best;
 use dutch_floors::floor::Floors;
+use dutch_passes::{Pass, Search};
 use dutch_weights::asking::Bars;
 use dutch_weights::weight_floor::{Bar, WeightFloors};
 

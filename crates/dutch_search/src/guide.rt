@@ -4,7 +4,7 @@ ghost use Rattle.std.specs.Prelude.{◌≡◌, ◌+◌, ◌-◌, ◌*◌, ◌≤
 ghost use Rattle.std.specs.Option.{ForSome};
 ghost use Rattle.std.specs.Result.{MatchResult};
 ghost use Rattle.dutch_order.specs.Prelude.{MatchStep, Spends};
-ghost use Rattle.dutch_choice.specs.Prelude.{Draws, ListsFor, PassesUnwanted};
+ghost use Rattle.dutch_passes.specs.Prelude.{Draws, ListsFor, PassesUnwanted};
 ghost use Rattle.dutch_search.specs.Searching.{AreFor, price};
 
 use crate::bars::{Skipper, bars_of};
@@ -16,9 +16,8 @@ use dutch_bracket::quality::Quality;
 use dutch_bracket::reached::ByNumber;
 use dutch_bracket::spending::spend;
 use dutch_bracket::wish::Wish;
-use dutch_choice::guide::{Guide, Workroom};
-use dutch_choice::pass::Search;
 use dutch_order::{BoundWithRoom, Budget, Shape, Step, Stopped};
+use dutch_passes::{Guide, Search, Workroom};
 use dutch_weights::asking::FloorRequest;
 use dutch_weights::scope::Scope;
 use dutch_weights::weight_floor::WeightFloors;

@@ -8,7 +8,7 @@
 // by weight do.
 ghost use Rattle.std.specs.Prelude.{◌≡◌, true, false};
 ghost use Rattle.dutch_bracket.specs.Prelude.{quality_here, HasNoBetter, is_better, next_in, quality_in};
-ghost use Rattle.dutch_choice.specs.Prelude.{IsIdle, IsIdleIfOpen, is_unwanted_to};
+ghost use Rattle.dutch_passes.specs.Prelude.{IsIdle, IsIdleIfOpen, is_unwanted_to};
 ghost use Rattle.dutch_search.specs.Skips.{HasNoBetterNext, IsBehindAim, IsBehindKept, OfEach, OfEachWith, Weighs};
 ghost use Rattle.dutch_search.specs.Skips.{context_of};
 
@@ -16,10 +16,8 @@ use crate::bars::Skipper;
 use crate::last_beginning::LastBeginning;
 use dual::Wide;
 use dutch_bracket::quality::{Quality, Room};
-use dutch_choice::barred::is_barred;
-use dutch_choice::guide::Workroom;
-use dutch_choice::pass::is_idle;
 use dutch_order::{Bound, Exchange, Prefix};
+use dutch_passes::{Workroom, is_barred, is_idle};
 
 impl<'a, 'k> Skipper<'a, 'k> {
     /// Fills a quality that no candidate with a beginning is better than. No says that none is known.
@@ -40,7 +38,7 @@ impl<'a, 'k> Skipper<'a, 'k> {
     }
 
     /// Whether no candidate with a beginning is of interest by what is known by counts.
-    #[tactic(auto, using(dutch_choice::proofs::AimLemmas::idle_floor))]
+    #[tactic(auto, using(dutch_passes::proofs::AimLemmas::idle_floor))]
     fn is_idle_by_counts(&self, prefix: &Prefix<'_>, room: &mut Room) -> bool
         ensures { result ≡ true → OfEach self.now prefix.now (IsIdle self.now.search) }
     {
@@ -155,7 +153,7 @@ impl<'a, 'k> Bound for Skipper<'a, 'k> {
     type Room = Workroom<LastBeginning>;
 
     ghost use Rattle.dutch_bracket.specs.Prelude.{frame_here, numbers_meet, number_may_be_left};
-    ghost use Rattle.dutch_choice.specs.Prelude.{is_unwanted_to};
+    ghost use Rattle.dutch_passes.specs.Prelude.{is_unwanted_to};
     ghost use Rattle.dutch_search.specs.Skips.{context_of};
 
     ghost frame = { λ s. frame_here (context_of s) };
@@ -168,7 +166,7 @@ impl<'a, 'k> Bound for Skipper<'a, 'k> {
 
     ghost is_unwanted = { λ s. is_unwanted_to s.search };
 
-    #[tactic(auto, using(dutch_choice::proofs::AimLemmas::unwished_is_unwanted, dutch_choice::proofs::AimLemmas::idle_is_unwanted, dutch_choice::proofs::AimLemmas::idle_if_open_is_unwanted), unfolding(dutch_bracket::specs::Brackets::candidates_of))]
+    #[tactic(auto, using(dutch_passes::proofs::AimLemmas::unwished_is_unwanted, dutch_passes::proofs::AimLemmas::idle_is_unwanted, dutch_passes::proofs::AimLemmas::idle_if_open_is_unwanted), unfolding(dutch_bracket::specs::Brackets::candidates_of))]
     fn cannot_win(&self, prefix: &Prefix<'_>, work: &mut Workroom<LastBeginning>) -> bool {
         if is_barred(self.search.pass, prefix) {
             return true;
@@ -183,7 +181,7 @@ impl<'a, 'k> Bound for Skipper<'a, 'k> {
         self.is_idle_by_weight(prefix) || self.is_idle_by_counts(prefix, &mut work.room)
     }
 
-    #[tactic(auto, using(dutch_choice::proofs::AimLemmas::idle_if_open_is_unwanted), unfolding(dutch_bracket::specs::Brackets::candidates_of))]
+    #[tactic(auto, using(dutch_passes::proofs::AimLemmas::idle_if_open_is_unwanted), unfolding(dutch_bracket::specs::Brackets::candidates_of))]
     fn cannot_win_with(
         &self,
         prefix: &Prefix<'_>,

@@ -10,13 +10,10 @@ use dutch_bracket::fault::PairFault;
 use dutch_bracket::reached::Seats;
 use dutch_bracket::shaped::ShapedBracket;
 use dutch_bracket::wish::Wish;
-use dutch_choice::finder::Finder;
-use dutch_choice::guide::Workroom;
-use dutch_choice::pass::{Best, Pass};
-use dutch_choice::passes::best_in_time;
-use dutch_choice::remembered::{Judge, look_below};
+use dutch_choice::finder::{Best, Finder};
 use dutch_floors::floor::Floors;
 use dutch_order::{Budget, Step, Stopped};
+use dutch_passes::{Judge, Pass, Workroom, best_in_time, look_below};
 
 /// The floors of a bracket, which know of the next bracket what a quarter of the steps that are left tells of it.
 fn floors_of<'a>(shaped: &ShapedBracket<'a>, budget: &mut Budget) -> Result<Floors<'a>, Stopped>

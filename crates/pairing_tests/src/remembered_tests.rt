@@ -4,7 +4,8 @@ ghost use Rattle.dutch_bracket.specs.Prelude.{IsOf};
 
 use crate::reports::{PlayerLine, field_of};
 use dutch_order::{Budget, Numbers};
-use dutch_pair::{BracketAt, BracketKind, Look, LookAhead, Reached, are_left, bracket_at, is_next};
+use dutch_pair::{BracketAt, BracketKind, Reached, are_left, bracket_at, is_next};
+use dutch_passes::{Look, LookAhead};
 use dutch_player::Field;
 use dutch_search::WithFloors;
 use std::alloc::Global;

@@ -2,7 +2,7 @@
 use Rattle.std.proofs.Common.{◌≡◌, true, ap, ◌∙◌}
 use Rattle.dutch_order.specs.Prelude.{Frame, down}
 use Rattle.dutch_sequence.proofs.Spending.{spends-more}
-use Rattle.dutch_choice.specs.Prelude.{is_unwanted_to}
+use Rattle.dutch_passes.specs.Prelude.{is_unwanted_to}
 use Rattle.dutch_search.proofs.PassesTwice.{passes_twice}
 use Rattle.dutch_search.proofs.guide.BothFloorsGuide.draw.Goals as goal
 

@@ -1,7 +1,7 @@
 -- What was skipped in the turns so far is of no interest, and the walk goes on with the rest.
 use Rattle.std.proofs.Common.{◌≡◌}
 use Rattle.dutch_order.specs.Prelude.{Spends}
-use Rattle.dutch_choice.specs.Prelude.{PassesUnwanted}
+use Rattle.dutch_passes.specs.Prelude.{PassesUnwanted}
 use Rattle.dutch_search.proofs.guide.BothFloorsGuide.draw.Given as goal
 
 abbrev pub invariant-loop : goal.invariant-loop

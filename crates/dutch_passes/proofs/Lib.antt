@@ -1,0 +1,4 @@
+pub mod AimLemmas
+pub mod KeptBest
+pub mod KeptValues
+pub mod SkippedLemmas

@@ -1,0 +1,49 @@
+-- The best that one pass over the candidates of a shape finds, of all or of those that grant a wish, where an aim leaves out those that it
+-- is better than (C.04.3 B.8).
+use Rattle.std.specs.Prelude.{Bool, false, not, ◌&&◌, ◌||◌, List, Option, Some, None, option_map}
+use Rattle.dutch_order.specs.declared.bracket.Shape.{Shape}
+use Rattle.dutch_order.specs.Prelude.{Arrangement}
+use Rattle.dutch_choice.specs.declared.finder.Best.{Best}
+use Rattle.dutch_choice.specs.Prelude.{is_better_here}
+use Rattle.dutch_bracket.specs.declared.quality.Quality.{Quality as Fields}
+use Rattle.dutch_bracket.specs.declared.wish.Wish.{Wish}
+use Rattle.dutch_bracket.specs.Prelude.{Context, can_be_chosen_here, candidates_here, quality_here, Quality, is_better, quality_in, best_with, is_wished}
+use Rattle.dutch_passes.specs.Kept.{kept_lists, wins}
+
+-- the aim of a pass, if it has one [own]
+abbrev pub aim_in : Option Fields → Option Quality
+aim_in aim = option_map quality_in aim
+
+-- there is an aim, and it is better than a quality
+abbrev pub beats : Option Quality → Quality → Bool
+beats None quality = false
+beats (Some aim) quality = is_better aim quality
+
+-- a quality is of no interest: the aim is better, or something is kept that it is not better than [own]
+abbrev pub is_idle : Option Quality → Option Best → Quality → Bool
+is_idle aim kept quality = beats aim quality || not (wins quality kept)
+
+-- an aim is not better than a candidate; without an aim all are near
+abbrev pub is_near : Context → Option Quality → Arrangement → Bool
+is_near context aim c = not (beats aim (quality_here context c))
+
+module _ (context : Context) (wish : Option Wish) where
+  -- a candidate that can be chosen and grants the wish
+  abbrev pub is_open : Arrangement → Bool
+  is_open c = can_be_chosen_here context c && is_wished wish c
+
+  -- a candidate is of no interest: it cannot be chosen, it does not grant the wish, or its quality is of none
+  abbrev pub is_unwanted : Option Quality → Option Best → Arrangement → Bool
+  is_unwanted aim kept c = not (is_open c) || is_idle aim kept (quality_here context c)
+
+  -- and that the aim is not better than
+  abbrev pub is_sought : Option Quality → Arrangement → Bool
+  is_sought aim c = is_open c && is_near context aim c
+
+  -- the best for a pass of the candidate that is kept and of those to come
+  unfoldable pub best_yet : Option Quality → Option Best → List Arrangement → Option Arrangement
+  best_yet aim kept coming = best_with (is_better_here context) (is_sought aim) (kept_lists kept) coming
+
+  -- the best for a pass of a shape
+  unfoldable pub best_near : Option Quality → Shape → Option Arrangement
+  best_near aim shape = best_yet aim None (candidates_here context shape)

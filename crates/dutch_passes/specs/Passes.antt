@@ -1,0 +1,73 @@
+-- What a pass draws, what is of no interest to it, and what it ends with (C.04.3 B.8).
+use Rattle.std.specs.Prelude.{◌≡◌, List, ◌∷◌, Option, None, Bool, true}
+use Rattle.std.specs.Option.{MatchOption}
+use Rattle.dutch_order.specs.Prelude.{Arrangement, down, Candidate, Listing, Passes}
+use Rattle.dutch_bracket.specs.declared.greatest.Lister.{Lister}
+use Rattle.dutch_bracket.specs.declared.reached.ByNumber.{ByNumber}
+use Rattle.dutch_bracket.specs.Prelude.{Context, Lists, quality_here, IsOfBracket}
+use Rattle.dutch_choice.specs.declared.finder.Best.{Best}
+use Rattle.dutch_choice.specs.Prelude.{IsBest, best_wished}
+use Rattle.dutch_passes.specs.declared.pass.Pass.{Pass}
+use Rattle.dutch_passes.specs.declared.pass.Search.{Search}
+use Rattle.dutch_passes.specs.Aims.{aim_in, best_near, best_yet, is_unwanted, is_idle, is_open}
+use Rattle.dutch_passes.specs.Remembered.{LooksBelow, Remembered}
+
+-- a listing is of the bracket of a pass [own]
+abbrev pub ListsFor : Pass → Listing ByNumber → Type 0
+ListsFor pass listing = Lists pass.shaped.context.now.facts pass.shaped.context.now.reached listing
+
+-- a look-ahead is that of the bracket of a pass [own]
+abbrev pub LooksFor : Pass → Option Remembered → Type 0
+LooksFor pass look = LooksBelow pass.shaped.context.now look
+
+-- a candidate is one of a bracket
+abbrev pub IsHere : Context → Candidate → Type 0
+IsHere context candidate = IsOfBracket context.facts context.reached candidate
+
+-- a search, beside what it keeps, finds no interest in a candidate's quality
+abbrev pub IsIdle : Search → Arrangement → Type 0
+IsIdle search a = is_idle (aim_in search.pass.now.aim) search.kept.now (quality_here search.pass.now.shaped.context.now a) ≡ true
+
+-- the same of a candidate that can be chosen and grants what is wished
+abbrev pub IsIdleIfOpen : Search → Arrangement → Type 0
+IsIdleIfOpen search a = is_open search.pass.now.shaped.context.now search.pass.now.wish a ≡ true → IsIdle search a
+
+-- it finds no interest in the candidate
+abbrev pub is_unwanted_to : Search → Arrangement → Bool
+is_unwanted_to search = is_unwanted search.pass.now.shaped.context.now search.pass.now.wish (aim_in search.pass.now.aim) search.kept.now
+
+-- a list of candidates goes on as another one does, once some of its beginning is skipped, each of which is of no interest to a search [own]
+abbrev pub PassesUnwanted : Search → List Arrangement → List Arrangement → Type 0
+PassesUnwanted search before after = Passes (λ a. is_unwanted_to search a ≡ true) before after
+
+-- a lister draws the next candidate, once some are skipped that are of no interest [own]
+abbrev pub Draws : Search → Lister ByNumber → Lister ByNumber → Type 0
+Draws search old new = PassesUnwanted search old.listing.coming (new.drawn.lists ∷ new.listing.coming)
+    × (new.drawn.down ≡ down old.listing.frame new.drawn.lists)
+
+-- what a pass chooses of what it keeps and of the candidates to come
+abbrev pub best_of_pass : Pass → Option Best → List Arrangement → Option Arrangement
+best_of_pass pass kept coming = best_yet pass.shaped.context.now pass.wish (aim_in pass.aim) kept coming
+
+-- once a candidate was looked at, what is kept then makes the choice that was to come before
+abbrev pub IsChosenNext : Pass → Option Best → Option Best → Arrangement → Type 0
+IsChosenNext pass before after candidate = (coming : List Arrangement) → best_of_pass pass after coming ≡ best_of_pass pass before (candidate ∷ coming)
+
+-- what a pass chooses of all
+abbrev pub near_of : Pass → Option Arrangement
+near_of pass = best_near pass.shaped.context.now pass.wish (aim_in pass.aim) pass.shaped.shape
+
+-- what the passes end with, whatever is aimed at: of the candidates that grant what is wished, and that can be chosen, the first that none is
+-- better than
+abbrev pub wished_of : Pass → Option Arrangement
+wished_of pass = best_wished pass.shaped.context.now pass.wish pass.shaped.shape
+
+-- it is found; nothing is found only if there is no such candidate [own]
+abbrev pub IsEnd : Pass → Option Best → Type 0
+IsEnd pass found = MatchOption found (wished_of pass ≡ None) (IsBest pass.shaped.context.now (wished_of pass))
+
+-- a pass goes on in the same bracket, with the same shape and the same wish
+pub record SeeksTheSame (old new : Pass) : Type 0 where
+  pub context : new.shaped.context.now ≡ old.shaped.context.now
+  pub shape : new.shaped.shape ≡ old.shaped.shape
+  pub wish : new.wish ≡ old.wish

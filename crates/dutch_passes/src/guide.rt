@@ -1,0 +1,74 @@
+// What draws the candidates of a bracket for a pass (C.04.3 B.8).
+//
+// A guide may pass over candidates without a look at them, by whatever it knows of those that begin alike. It passes
+// over those alone that are of no interest. Where much is passed over too late it may know more by what pairs weigh.
+ghost use Rattle.std.specs.Prelude.{◌≡◌, [], Option};
+ghost use Rattle.std.specs.Result.{MatchResult};
+ghost use Rattle.dutch_bracket.specs.Prelude.{Context};
+ghost use Rattle.dutch_bracket.specs.declared.wish.Wish.{Wish};
+ghost use Rattle.dutch_passes.specs.Passes.{Draws, ListsFor, PassesUnwanted};
+ghost use Rattle.dutch_order.specs.Prelude.{MatchDrawn, Spends};
+ghost use Rattle.dutch_order.specs.declared.bracket.Shape.{Shape};
+
+use crate::pass::Search;
+use dutch_bracket::greatest::Lister;
+use dutch_bracket::quality::{Quality, Room};
+use dutch_bracket::reached::ByNumber;
+use dutch_bracket::wish::Wish;
+use dutch_order::{Budget, Stopped};
+
+/// Where the questions of a pass are worked out, and what its guide notes of a walk from one question to the next.
+#[derive(Default, Drop)]
+pub struct Workroom<N: Drop> {
+    pub room: Room,
+    pub notes: N,
+}
+
+/// Draws the candidates of a bracket and a shape for a pass.
+pub trait Guide {
+    /// What it notes of a walk.
+    type Notes: Drop;
+
+    /// What it knows, it knows of the candidates of a shape in a bracket above its lower seats that grant what is
+    /// wished.
+    ghost knows: { Self → Context → Shape → Option Wish → Type 0 };
+
+    /// Draws the next candidate that may be of interest to a search. Those that it passes over are of none. A no says
+    /// that there is no other.
+    fn draw(
+        &mut self,
+        search: Search<'_, '_>,
+        lister: &mut Lister<'_, ByNumber<'_>>,
+        work: &mut Workroom<Self::Notes>,
+        budget: &mut Budget,
+    ) -> Result<bool, Stopped>
+        requires known { knows self.old search.pass.now.shaped.context.now search.pass.now.shaped.shape
+            search.pass.now.wish }
+        requires lists { ListsFor search.pass.now lister.old.listing }
+        requires shape { lister.old.listing.shape ≡ search.pass.now.shaped.shape }
+        ensures answer { MatchDrawn result (Draws search.entry lister.old lister.new)
+            (PassesUnwanted search.entry lister.old.listing.coming [])
+            (budget.new.used ≡ budget.new.limit) }
+        ensures known { knows self.new search.entry.pass.now.shaped.context.now search.entry.pass.now.shaped.shape
+            search.entry.pass.now.wish }
+        ensures frame { lister.new.listing.frame ≡ lister.old.listing.frame }
+        ensures shape { lister.new.listing.shape ≡ lister.old.listing.shape }
+        ensures rule { lister.new.listing.rule ≡ lister.old.listing.rule }
+        ensures spends { Spends budget.old budget.new };
+
+    /// Whether it can weigh the pairs of the bracket, and of the next one, if that is wanted.
+    fn can_weigh(&self, next: bool) -> bool;
+
+    /// Weighs the pairs of the bracket, and of the next one, if that is wanted (C.7), so that it knows more of the
+    /// candidates that grant what is wished. It answers what a pass may aim at. Nothing is promised of an aim.
+    fn weigh(
+        &mut self,
+        wish: Option<Wish>,
+        next: bool,
+        budget: &mut Budget,
+    ) -> Result<Option<Quality>, Stopped>
+        ensures known { (context : Context) (shape : Shape) → knows self.old context shape wish
+            → knows self.new context shape wish }
+        ensures stopped { MatchResult result (λ _. Unit {0}) (λ _. budget.new.used ≡ budget.new.limit) }
+        ensures spends { Spends budget.old budget.new };
+}

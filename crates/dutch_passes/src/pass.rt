@@ -1,0 +1,53 @@
+// One pass over the candidates of a shape (C.04.3 B.8): what it seeks, and the best candidate that it has found so far.
+ghost use Rattle.std.specs.Prelude.{◌≡◌, true, false};
+ghost use Rattle.dutch_bracket.specs.Prelude.{OfEachWithBeginning, is_wished, quality_in};
+ghost use Rattle.dutch_passes.specs.Aims.{aim_in, is_idle};
+
+use dutch_bracket::quality::Quality;
+use dutch_bracket::shaped::ShapedBracket;
+use dutch_bracket::wish::Wish;
+use dutch_choice::barred::rules_out;
+use dutch_choice::finder::Best;
+use dutch_order::Prefix;
+
+/// One pass over the candidates of a shape, in a bracket above all lower seats by rank. With an aim it seeks those
+/// alone that the aim is not better than, and with a wish those alone that grant it.
+#[derive(Drop)]
+pub struct Pass<'a> {
+    pub shaped: ShapedBracket<'a>,
+    pub wish: Option<Wish>,
+    pub aim: Option<Quality>,
+}
+
+/// A pass, beside the candidate that it keeps.
+#[derive(Clone, Copy)]
+pub struct Search<'a, 'k> {
+    pub pass: &'a Pass<'a>,
+    pub kept: &'k Option<Best>,
+}
+
+/// Whether a quality is of no interest: the aim is better, or it is not better than that of the candidate that is kept.
+pub fn is_idle(quality: &Quality, aim: &Option<Quality>, kept: &Option<Best>) -> bool
+    ensures { result ≡ is_idle (aim_in aim.now) kept.now (quality_in quality.now) }
+{
+    if let Some(aim) = aim {
+        if aim.is_better(quality) {
+            return true;
+        }
+    }
+    match kept {
+        Some(best) => !quality.is_better(&best.quality),
+        None => false,
+    }
+}
+
+/// Whether no candidate with a beginning grants what is wished.
+pub fn is_barred(pass: &Pass<'_>, prefix: &Prefix<'_>) -> bool
+    ensures { result ≡ true → OfEachWithBeginning pass.now.shaped prefix.now
+        (λ a. is_wished pass.now.wish a ≡ false) }
+{
+    match pass.wish {
+        Some(wish) => rules_out(&pass.shaped, wish, prefix),
+        None => false,
+    }
+}

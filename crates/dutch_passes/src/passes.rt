@@ -1,0 +1,247 @@
+// The choice among the candidates of a shape (C.04.3 B.8): the first of them that none is better than, by passes over a
+// listing that keep the best candidate so far. What draws the candidates is a guide, which may pass over some: passes
+// are made in few steps first, then with what pairs weigh, then with what those of the next bracket weigh too (C.7).
+ghost use Rattle.std.specs.Prelude.{◌≡◌, None, IfSome, true};
+ghost use Rattle.std.specs.Option.{MatchOption};
+ghost use Rattle.std.specs.Result.{MatchResult};
+ghost use Rattle.dutch_order.specs.Prelude.{Spends};
+ghost use Rattle.dutch_choice.specs.Prelude.{IsBest};
+ghost use Rattle.dutch_passes.specs.Kept.{IsKept};
+ghost use Rattle.dutch_passes.specs.Passes.{IsChosenNext, IsEnd, IsHere, ListsFor, LooksFor, SeeksTheSame, near_of};
+ghost use Rattle.dutch_passes.specs.Passes.{wished_of};
+
+use crate::guide::Guide;
+use crate::pass::{Pass, Search, is_idle};
+use crate::remembered::{Judge, judge_candidate};
+use dutch_bracket::eligible::{at_most, can_be_chosen};
+use dutch_bracket::greatest::Lister;
+use dutch_bracket::reached::{BracketKind, ByNumber};
+use dutch_bracket::wish::is_wished;
+use dutch_choice::finder::Best;
+use dutch_order::{Budget, Candidate, Stopped};
+use std::mem::take;
+
+/// Keeps a candidate in place of the one before it if it grants what is wished, is of interest and can be chosen. (It
+/// is put where that one stands, and not handed out: a candidate is large, and most are passed over.)
+#[tactic(auto, using(crate::proofs::AimLemmas::unwished_passed, crate::proofs::AimLemmas::idle_passed, crate::proofs::AimLemmas::winner_kept, crate::proofs::AimLemmas::unfit_passed))]
+fn consider<G: Guide>(
+    pass: &Pass<'_>,
+    candidate: &Candidate,
+    judge: &mut Judge<'_, G>,
+    budget: &mut Budget,
+) -> Result<(), Stopped>
+    requires candidate { IsHere pass.now.shaped.context.now candidate.now }
+    requires kept { IsKept pass.now.shaped.context.now judge.old.kept }
+    requires look { LooksFor pass.now judge.old.look }
+    ensures answer { MatchResult result
+        (λ _. IsChosenNext pass.now judge.old.kept judge.new.kept candidate.now.lists)
+        (λ _. budget.new.used ≡ budget.new.limit) }
+    ensures kept { IsKept pass.now.shaped.context.now judge.new.kept }
+    ensures look { LooksFor pass.now judge.new.look }
+    ensures guide { judge.new.guide ≡ judge.old.guide }
+    ensures spends { Spends budget.old budget.new }
+{
+    if !is_wished(pass.wish, candidate) {
+        return Ok(());
+    }
+    judge_candidate(pass.shaped.context, candidate, judge, budget)?;
+    if is_idle(&judge.work.room.quality, &pass.aim, &judge.kept) {
+        return Ok(());
+    }
+    if can_be_chosen(pass.shaped.context, candidate, &mut judge.left, budget)? {
+        let quality = take(&mut judge.work.room.quality);
+        let candidate = candidate.copied();
+        judge.kept = Some(Best { candidate, quality });
+    }
+    Ok(())
+}
+
+/// Keeps of the candidates that a pass seeks, and that can be chosen, the first that none is better than; none if there
+/// is no such candidate.
+fn best_near<'a, G: Guide>(
+    pass: &'a Pass<'a>,
+    lister: &mut Lister<'_, ByNumber<'_>>,
+    judge: &mut Judge<'_, G>,
+    budget: &mut Budget,
+) -> Result<(), Stopped>
+    requires lists { ListsFor pass.now lister.old.listing }
+    requires look { LooksFor pass.now judge.old.look }
+    requires guide { G.knows judge.old.guide pass.now.shaped.context.now pass.now.shaped.shape pass.now.wish }
+    ensures answer { MatchResult result
+        (λ _. MatchOption judge.new.kept (near_of pass.now ≡ None)
+        (IsBest pass.now.shaped.context.now (near_of pass.now)))
+        (λ _. budget.new.used ≡ budget.new.limit) }
+    ensures lists { ListsFor pass.now lister.new.listing }
+    ensures look { LooksFor pass.now judge.new.look }
+    ensures guide { G.knows judge.new.guide pass.now.shaped.context.now pass.now.shaped.shape pass.now.wish }
+    ensures spends { Spends budget.old budget.new }
+{
+    lister.listing.restart(pass.shaped.shape);
+    judge.kept = None;
+    while judge.guide.draw(
+        Search {
+            pass,
+            kept: &judge.kept,
+        },
+        lister,
+        &mut judge.work,
+        budget,
+    )? {
+        consider(pass, &lister.drawn, judge, budget)?;
+    }
+    Ok(())
+}
+
+/// Keeps what a pass with an aim chooses: the best of all. It keeps none if there is no aim, or if the pass finds none
+/// that can be chosen, which says nothing of the choice.
+fn best_by_aim<'a, G: Guide>(
+    pass: &'a Pass<'a>,
+    lister: &mut Lister<'_, ByNumber<'_>>,
+    judge: &mut Judge<'_, G>,
+    budget: &mut Budget,
+) -> Result<(), Stopped>
+    requires lists { ListsFor pass.now lister.old.listing }
+    requires look { LooksFor pass.now judge.old.look }
+    requires guide { G.knows judge.old.guide pass.now.shaped.context.now pass.now.shaped.shape pass.now.wish }
+    ensures answer { MatchResult result
+        (λ _. IfSome judge.new.kept (IsBest pass.now.shaped.context.now (wished_of pass.now)))
+        (λ _. budget.new.used ≡ budget.new.limit) }
+    ensures lists { ListsFor pass.now lister.new.listing }
+    ensures look { LooksFor pass.now judge.new.look }
+    ensures guide { G.knows judge.new.guide pass.now.shaped.context.now pass.now.shaped.shape pass.now.wish }
+    ensures spends { Spends budget.old budget.new }
+{
+    if pass.aim.is_none() {
+        judge.kept = None;
+        return Ok(());
+    }
+    best_near(pass, lister, judge, budget)
+}
+
+/// Keeps what a pass with an aim ends with, or if that is nothing, the same pass without an aim. (It stands apart from
+/// its caller, since a lister is large.)
+#[inline(never)]
+#[tactic(auto, using(crate::proofs::AimLemmas::without_aim))]
+fn best_in_passes<G: Guide>(
+    pass: &mut Pass<'_>,
+    judge: &mut Judge<'_, G>,
+    budget: &mut Budget,
+) -> Result<(), Stopped>
+    requires look { LooksFor pass.old judge.old.look }
+    requires guide { G.knows judge.old.guide pass.old.shaped.context.now pass.old.shaped.shape pass.old.wish }
+    ensures answer { MatchResult result (λ _. IsEnd pass.old judge.new.kept)
+        (λ _. budget.new.used ≡ budget.new.limit) }
+    ensures look { LooksFor pass.old judge.new.look }
+    ensures guide { G.knows judge.new.guide pass.old.shaped.context.now pass.old.shaped.shape pass.old.wish }
+    ensures pass { SeeksTheSame pass.old pass.new }
+    ensures spends { Spends budget.old budget.new }
+{
+    let rule = pass.shaped.context.rule();
+    let mut lister = Lister::new(pass.shaped.context.frame(), &rule);
+    best_by_aim(pass, &mut lister, judge, budget)?;
+    if judge.kept.is_some() {
+        return Ok(());
+    }
+    pass.aim = None;
+    best_near(pass, &mut lister, judge, budget)
+}
+
+/// How many steps passes make before the pairs of the bracket are weighed: most brackets want no more.
+fn few_steps(players: usize) -> u64 {
+    let players = players as u64;
+    players
+        .saturating_mul(2)
+        .saturating_add(128)
+        .saturating_mul(players)
+}
+
+/// Whether weights can tell more of the bracket of a pass that wishes nothing: C.7 counts there, and the next lower
+/// scoregroup is not too large.
+fn tells_next<G: Guide>(pass: &Pass<'_>, guide: &G) -> bool {
+    match (pass.shaped.context.reached().kind(), pass.wish) {
+        (BracketKind::Ordinary, None) => guide.can_weigh(true),
+        _ => false,
+    }
+}
+
+/// Keeps what the passes end with in so many steps. A no says that these do not suffice.
+fn best_within<G: Guide>(
+    pass: &mut Pass<'_>,
+    judge: &mut Judge<'_, G>,
+    steps: u64,
+    budget: &mut Budget,
+) -> Result<bool, Stopped>
+    requires look { LooksFor pass.old judge.old.look }
+    requires guide { G.knows judge.old.guide pass.old.shaped.context.now pass.old.shaped.shape pass.old.wish }
+    ensures answer { MatchResult result (λ ended. ended ≡ true → IsEnd pass.old judge.new.kept)
+        (λ _. budget.new.used ≡ budget.new.limit) }
+    ensures look { LooksFor pass.old judge.new.look }
+    ensures guide { G.knows judge.new.guide pass.old.shaped.context.now pass.old.shaped.shape pass.old.wish }
+    ensures pass { SeeksTheSame pass.old pass.new }
+    ensures spends { Spends budget.old budget.new }
+{
+    let mut few = at_most(steps, budget);
+    let ended = best_in_passes(pass, judge, &mut few);
+    budget.used = few.used;
+    match ended {
+        Ok(()) => Ok(true),
+        Err(Stopped) if budget.used == budget.limit => Err(Stopped),
+        Err(Stopped) => Ok(false),
+    }
+}
+
+/// Keeps what the passes end with by weights that are found now. A no says that the steps for it do not suffice. Where
+/// C.7 counts and they do not tell of the next bracket, these are a quarter of the steps that are left, else all. (Apart
+/// from its caller, as most brackets do not come to it.)
+#[inline(never)]
+fn best_by_weight<G: Guide>(
+    pass: &mut Pass<'_>,
+    judge: &mut Judge<'_, G>,
+    next: bool,
+    budget: &mut Budget,
+) -> Result<bool, Stopped>
+    requires look { LooksFor pass.old judge.old.look }
+    requires guide { G.knows judge.old.guide pass.old.shaped.context.now pass.old.shaped.shape pass.old.wish }
+    ensures answer { MatchResult result (λ ended. ended ≡ true → IsEnd pass.old judge.new.kept)
+        (λ _. budget.new.used ≡ budget.new.limit) }
+    ensures look { LooksFor pass.old judge.new.look }
+    ensures guide { G.knows judge.new.guide pass.old.shaped.context.now pass.old.shaped.shape pass.old.wish }
+    ensures pass { SeeksTheSame pass.old pass.new }
+    ensures spends { Spends budget.old budget.new }
+{
+    let left = budget.limit - budget.used;
+    pass.aim = judge.guide.weigh(pass.wish, next, budget)?;
+    let steps = if tells_next(pass, &judge.guide) && !next {
+        left / 4
+    } else {
+        left
+    };
+    best_within(pass, judge, steps, budget)
+}
+
+/// Keeps what the passes end with: first in few steps, since most brackets want no more; then with floors by weight;
+/// and where C.7 counts and a quarter of the steps does not suffice, with weights that tell of the next bracket too.
+pub fn best_in_time<G: Guide>(
+    pass: &mut Pass<'_>,
+    judge: &mut Judge<'_, G>,
+    budget: &mut Budget,
+) -> Result<(), Stopped>
+    requires look { LooksFor pass.old judge.old.look }
+    requires guide { G.knows judge.old.guide pass.old.shaped.context.now pass.old.shaped.shape pass.old.wish }
+    ensures answer { MatchResult result (λ _. IsEnd pass.old judge.new.kept)
+        (λ _. budget.new.used ≡ budget.new.limit) }
+    ensures spends { Spends budget.old budget.new }
+{
+    let few = few_steps(pass.shaped.context.len());
+    if best_within(pass, judge, few, budget)? {
+        return Ok(());
+    }
+    if best_by_weight(pass, judge, false, budget)? {
+        return Ok(());
+    }
+    if best_by_weight(pass, judge, true, budget)? {
+        return Ok(());
+    }
+    budget.used = budget.limit;
+    Err(Stopped)
+}
