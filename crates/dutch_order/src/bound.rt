@@ -1,6 +1,6 @@
-// What can tell that no candidate with a given beginning is of interest. Then a listing may leave them all out. A
-// bound works its answer out in its `Room`, which the caller of the listing lends to each question: so no question
-// makes a list.
+// What can tell that all candidates with a given beginning are idle: they may be passed over. Then a listing may leave
+// them all out. A bound works its answer out in its `Room`, which the caller of the listing lends to each question: so
+// no question makes a list.
 ghost use Rattle.std.specs.Prelude.{◌≡◌, ℕ, Bool, true};
 ghost use Rattle.dutch_order.specs.Arrangements.{Arrangement, Frame, candidates};
 ghost use Rattle.dutch_sequence.specs.Exchanged.{IsExchange};
@@ -11,8 +11,7 @@ ghost use Rattle.dutch_order.specs.declared.bracket.Shape.{Shape};
 use crate::prefix::Prefix;
 use dutch_sequence::Exchange;
 
-/// Tells by how candidates of a bracket and a shape begin that they are without interest. It answers for all
-/// beginnings.
+/// Tells by how candidates of a bracket and a shape begin that they are idle. It answers for all beginnings.
 pub trait Bound {
     /// Room in which it works a question out. It is lent for each question, so that no question makes it anew.
     type Room;
@@ -29,17 +28,17 @@ pub trait Bound {
     /// Who may be the one left over in it.
     ghost may_be_left: { Self → ℕ → Bool };
 
-    /// A candidate is without interest.
-    ghost is_unwanted: { Self → Arrangement → Bool };
+    /// A candidate is idle: it may be passed over.
+    ghost is_idle: { Self → Arrangement → Bool };
 
-    /// Whether it knows that every candidate with this beginning is without interest. A no says nothing.
+    /// Whether it knows that every candidate with this beginning is idle. A no says nothing.
     fn cannot_win(&self, prefix: &Prefix<'_>, room: &mut Self::Room) -> bool
         ensures { result ≡ true → (a : Arrangement)
             → IsIn a (candidates (meets self.now) (may_be_left self.now) (frame self.now) (shape self.now))
-            → Begins prefix.now a → is_unwanted self.now a ≡ true };
+            → Begins prefix.now a → is_idle self.now a ≡ true };
 
     /// Whether it knows that every candidate with this beginning, whose S1 and S2 are chosen, and with such an S1R is
-    /// without interest. A no says nothing.
+    /// idle. A no says nothing.
     fn cannot_win_with(
         &self,
         prefix: &Prefix<'_>,
@@ -48,5 +47,5 @@ pub trait Bound {
     ) -> bool
         ensures { result ≡ true → (a : Arrangement)
             → IsIn a (candidates (meets self.now) (may_be_left self.now) (frame self.now) (shape self.now))
-            → Begins prefix.now a → IsExchange exchange.now a.s1r → is_unwanted self.now a ≡ true };
+            → Begins prefix.now a → IsExchange exchange.now a.s1r → is_idle self.now a ≡ true };
 }

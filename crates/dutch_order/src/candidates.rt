@@ -412,14 +412,14 @@ impl<'a, R: Rule> Candidates<'a, R> {
         holding(step, candidate)
     }
 
-    /// Fills `candidate` with the next one, and may leave out those that the bound knows to be without interest. The
-    /// bound is asked about beginnings of arrangements, which takes no step: about the empty one at each call, and
-    /// about others while a list is filled. And once S1 and S2 are chosen it is asked about exchanges: about all of one
-    /// number and one difference, which is a step if they are left out, and about those that begin alike, which is
-    /// none. `Found` says that `candidate` has one; all that were to come before it are without interest, and those
-    /// behind it are still to come. `End` says that all that were to come are without interest; then none is to come.
-    /// `Undecided` says that the budget was used up first; then a part of what was to come is without interest, and the
-    /// rest is still to come. After `End` every further call answers `End` without a step.
+    /// Fills `candidate` with the next one, and may leave out those that the bound knows to be idle. The bound is asked
+    /// about beginnings of arrangements, which takes no step: about the empty one at each call, and about others while
+    /// a list is filled. And once S1 and S2 are chosen it is asked about exchanges: about all of one number and one
+    /// difference, which is a step if they are left out, and about those that begin alike, which is none. `Found` says
+    /// that `candidate` has one; all that were to come before it are idle, and those behind it are still to come. `End`
+    /// says that all that were to come are idle; then none is to come. `Undecided` says that the budget was used up
+    /// first; then a part of what was to come is idle, and the rest is still to come. After `End` every further call
+    /// answers `End` without a step.
     pub fn put_next_within<B: Bound>(
         &mut self,
         within: &BoundWithRoom<'_, B>,
@@ -431,9 +431,9 @@ impl<'a, R: Rule> Candidates<'a, R> {
         requires meets { B.meets within.now.bound.now ≡ R.meets self.old.rule }
         requires may_be_left { B.may_be_left within.now.bound.now ≡ R.may_be_left self.old.rule }
         ensures answer { MatchStep result
-            (λ _. GivesPast self.old self.new (λ a. B.is_unwanted within.now.bound.now a ≡ true) candidate.new)
-            (EndsPast self.old self.new (λ a. B.is_unwanted within.now.bound.now a ≡ true))
-            (StopsPast self.old self.new (λ a. B.is_unwanted within.now.bound.now a ≡ true) budget.new) }
+            (λ _. GivesPast self.old self.new (λ a. B.is_idle within.now.bound.now a ≡ true) candidate.new)
+            (EndsPast self.old self.new (λ a. B.is_idle within.now.bound.now a ≡ true))
+            (StopsPast self.old self.new (λ a. B.is_idle within.now.bound.now a ≡ true) budget.new) }
         ensures too_many_left { leaves_too_many self.old.frame self.old.shape ≡ true
             → EndsAtOnce result budget.old budget.new }
         ensures ended { TellsEnd self.old self.new result }
@@ -458,9 +458,9 @@ impl<'a, R: Rule> Candidates<'a, R> {
         requires meets { B.meets bound.now ≡ R.meets self.old.rule }
         requires may_be_left { B.may_be_left bound.now ≡ R.may_be_left self.old.rule }
         ensures answer { MatchStep result
-            (λ c. GivesPast self.old self.new (λ a. B.is_unwanted bound.now a ≡ true) c)
-            (EndsPast self.old self.new (λ a. B.is_unwanted bound.now a ≡ true))
-            (StopsPast self.old self.new (λ a. B.is_unwanted bound.now a ≡ true) budget.new) }
+            (λ c. GivesPast self.old self.new (λ a. B.is_idle bound.now a ≡ true) c)
+            (EndsPast self.old self.new (λ a. B.is_idle bound.now a ≡ true))
+            (StopsPast self.old self.new (λ a. B.is_idle bound.now a ≡ true) budget.new) }
         ensures too_many_left { leaves_too_many self.old.frame self.old.shape ≡ true
             → EndsAtOnce result budget.old budget.new }
         ensures ended { TellsEnd self.old self.new result }

@@ -1,6 +1,6 @@
-// What the levels of a listing and the search of their lists see of a bound: which beginnings lead to nothing of
-// interest. The room of the bound is lent once a call, as `BoundWithRoom`. That keeps it in a cell and lends it on to each
-// question, so no level and no search has to hand it down.
+// What the levels of a listing and the search of their lists see of a bound: which beginnings lead to idle
+// arrangements alone. The room of the bound is lent once a call, as `BoundWithRoom`. That keeps it in a cell and lends
+// it on to each question, so no level and no search has to hand it down.
 ghost use Rattle.std.specs.Prelude.{◌≡◌, ℕ, List, false, true};
 ghost use Rattle.dutch_order.specs.Arrangements.{Arrangement, candidates};
 ghost use Rattle.dutch_sequence.specs.Exchanged.{IsExchange};
@@ -45,7 +45,7 @@ impl Cuts for NoCuts {
     }
 }
 
-/// What a bound tells: an arrangement is idle if it is no candidate, or one without interest.
+/// What a bound tells: an arrangement is idle if it is no candidate, or an idle one.
 #[derive(Drop)]
 pub struct BoundWithRoom<'b, B: Bound> {
     pub bound: &'b B,
@@ -68,7 +68,7 @@ impl<'b, B: Bound> BoundWithRoom<'b, B> {
 impl<'b, B: Bound> Cuts for BoundWithRoom<'b, B> {
     ghost Idle = { λ w a.
         IsIn a (candidates (B.meets w.bound.now) (B.may_be_left w.bound.now) (B.frame w.bound.now)
-        (B.shape w.bound.now)) → B.is_unwanted w.bound.now a ≡ true };
+        (B.shape w.bound.now)) → B.is_idle w.bound.now a ≡ true };
 
     fn cuts(&self, prefix: &Prefix<'_>) -> bool {
         match self.room.try_borrow_mut() {

@@ -68,7 +68,7 @@ impl<'a> Bound for Wished<'a> {
 
     ghost may_be_left = { λ w. number_may_be_left w.shaped.context.now.facts w.shaped.context.now.reached };
 
-    ghost is_unwanted = { λ w a. not (grants w.wish a) };
+    ghost is_idle = { λ w a. not (grants w.wish a) };
 
     #[tactic(auto, unfolding(dutch_bracket::specs::Brackets::candidates_of))]
     fn cannot_win(&self, prefix: &Prefix<'_>, _room: &mut ()) -> bool {

@@ -1,5 +1,5 @@
--- What an aim and the kept candidate tell of candidates: the choice among those that are near an aim is the choice of all, and a candidate
--- of no interest changes nothing.
+-- What an aim and the kept candidate tell of candidates: the choice among those that are near an aim is the choice of all, and an idle
+-- candidate changes nothing.
 use Rattle.std.proofs.Common.{◌≡◌, Bool, true, false, not, ◌&&◌, ◌||◌, List, [], ◌∷◌, ◌++◌, filter, Option, Some, None, IfSome, refl, sym, ap, ◌∙◌, arith}
 use Rattle.std.specs.List.{list_any, AllByRecursion}
 use Rattle.std.specs.Option.{MatchOption}
@@ -10,7 +10,7 @@ use Rattle.dutch_choice.specs.declared.finder.Best.{Best}
 use Rattle.dutch_bracket.specs.declared.wish.Wish.{Wish}
 use Rattle.dutch_bracket.specs.Prelude.{Context, can_be_chosen_here, candidates_here, eligible_here, quality_here, Quality, is_better, quality_in, candidates_of, eligible, first_unbeaten, best, best_with, is_wished}
 use Rattle.dutch_choice.specs.Prelude.{IsBest, is_better_here, best_wished}
-use Rattle.dutch_passes.specs.Prelude.{kept_lists, wins, IsKept, beats, is_idle, is_near, is_unwanted, is_open, is_sought, best_yet, best_near}
+use Rattle.dutch_passes.specs.Prelude.{kept_lists, wins, IsKept, beats, loses, is_near, is_idle, is_open, is_sought, best_yet, best_near}
 use Rattle.dutch_choice.proofs.ChoiceLemmas.{IsOrder, order_of}
 use Rattle.dutch_passes.proofs.KeptBest.{behind_aim, behind_either, behind_kept, kept_at_end, kept_by, passed_by, wins_over}
 use Rattle.dutch_bracket.proofs.QualityOrder.{irreflexive, transitive, total}
@@ -50,18 +50,18 @@ filter_always : {X : Type 0} (p : X → Bool) (xs : List X) → filter (λ y. p 
 filter_always p [] = refl
 filter_always p (x ∷ xs) = grind (arith, filter_always p xs)
 
--- who does not grant the wish is of no interest, whose quality is of none, or is if it can be chosen and grants the wish, and who cannot be chosen
-pub unwished_is_unwanted : (fit wished idle : Bool) → wished ≡ false → (not (fit && wished) || idle) ≡ true
-unwished_is_unwanted fit wished idle h = grind arith
+-- idle is who does not grant the wish, who loses, who loses if it can be chosen and grants the wish, and who cannot be chosen
+pub unwished_is_idle : (fit wished lost : Bool) → wished ≡ false → (not (fit && wished) || lost) ≡ true
+unwished_is_idle fit wished lost h = grind arith
 
-pub idle_is_unwanted : (fit wished idle : Bool) → idle ≡ true → (not (fit && wished) || idle) ≡ true
-idle_is_unwanted fit wished idle h = grind arith
+pub loser_is_idle : (fit wished lost : Bool) → lost ≡ true → (not (fit && wished) || lost) ≡ true
+loser_is_idle fit wished lost h = grind arith
 
-pub idle_if_open_is_unwanted : (fit wished idle : Bool) → ((fit && wished) ≡ true → idle ≡ true) → (not (fit && wished) || idle) ≡ true
-idle_if_open_is_unwanted fit wished idle h = grind arith
+pub loser_if_open_is_idle : (fit wished lost : Bool) → ((fit && wished) ≡ true → lost ≡ true) → (not (fit && wished) || lost) ≡ true
+loser_if_open_is_idle fit wished lost h = grind arith
 
-unfit_is_unwanted : (fit wished idle : Bool) → fit ≡ false → (not (fit && wished) || idle) ≡ true
-unfit_is_unwanted fit wished idle h = grind arith
+unfit_is_idle : (fit wished lost : Bool) → fit ≡ false → (not (fit && wished) || lost) ≡ true
+unfit_is_idle fit wished lost h = grind arith
 
 quality_order : IsOrder is_better
 quality_order = order_of (λ (q : Quality). q) is_better irreflexive transitive total
@@ -112,40 +112,40 @@ module _ (context : Context) where
     same_wins None d h = refl
     same_wins (Some best) d h = ap (is_better (quality_here context d)) h.1
 
-    -- a candidate that is of no interest is passed
-    unwanted_passed : (aim : Option Quality) (kept : Option Best) (d : Arrangement) (rest : List Arrangement) → IsKept context kept → is_unwanted context wish aim kept d ≡ true
+    -- a candidate that is idle is passed
+    idle_passed : (aim : Option Quality) (kept : Option Best) (d : Arrangement) (rest : List Arrangement) → IsKept context kept → is_idle context wish aim kept d ≡ true
         → best_yet context wish aim kept (d ∷ rest) ≡ best_yet context wish aim kept rest
     unfolding best_yet
-    unwanted_passed aim kept d rest h unwanted =
+    idle_passed aim kept d rest h idle =
         passed_by (is_better_here context) (order_in context) (is_open context wish) (λ c. beats aim (quality_here context c)) (kept_lists kept) d rest
-        (wins (quality_here context d) kept) (same_wins kept d h) unwanted
+        (wins (quality_here context d) kept) (same_wins kept d h) idle
 
-    -- so is one whose quality is of no interest
-    pub idle_passed : (aim : Option Quality) (kept : Option Best) (quality : Quality) (d : Arrangement) (rest : List Arrangement) → IsKept context kept
-        → quality ≡ quality_here context d → is_idle aim kept quality ≡ true → best_yet context wish aim kept rest ≡ best_yet context wish aim kept (d ∷ rest)
-    idle_passed aim kept quality d rest h e idle =
-        sym (unwanted_passed aim kept d rest h (or_right (not (is_open context wish d)) _ (ap (is_idle aim kept) (sym e) ∙ idle)))
+    -- so is one whose quality loses
+    pub loser_passed : (aim : Option Quality) (kept : Option Best) (quality : Quality) (d : Arrangement) (rest : List Arrangement) → IsKept context kept
+        → quality ≡ quality_here context d → loses aim kept quality ≡ true → best_yet context wish aim kept rest ≡ best_yet context wish aim kept (d ∷ rest)
+    loser_passed aim kept quality d rest h e lost =
+        sym (idle_passed aim kept d rest h (or_right (not (is_open context wish d)) _ (ap (loses aim kept) (sym e) ∙ lost)))
 
     -- one that does not grant the wish
     pub unwished_passed : (aim : Option Quality) (kept : Option Best) (d : Arrangement) (rest : List Arrangement) → IsKept context kept → is_wished wish d ≡ false
         → best_yet context wish aim kept rest ≡ best_yet context wish aim kept (d ∷ rest)
-    unwished_passed aim kept d rest h unwished = sym (unwanted_passed aim kept d rest h (unwished_is_unwanted _ _ _ unwished))
+    unwished_passed aim kept d rest h unwished = sym (idle_passed aim kept d rest h (unwished_is_idle _ _ _ unwished))
 
     -- and one that cannot be chosen
     pub unfit_passed : (aim : Option Quality) (kept : Option Best) (d : Arrangement) (rest : List Arrangement) → IsKept context kept → can_be_chosen_here context d ≡ false
         → best_yet context wish aim kept rest ≡ best_yet context wish aim kept (d ∷ rest)
     unfit_passed aim kept d rest h unfit =
-        sym (unwanted_passed aim kept d rest h (unfit_is_unwanted _ _ _ unfit))
+        sym (idle_passed aim kept d rest h (unfit_is_idle _ _ _ unfit))
 
-    -- one that is of interest, grants the wish and can be chosen is kept
+    -- one that does not lose, grants the wish and can be chosen is kept
     pub winner_kept : (aim : Option Quality) (kept : Option Best) (best : Best) (lists : Arrangement) (coming : List Arrangement) → IsKept context kept
-        → best.candidate.lists ≡ lists → quality_in best.quality ≡ quality_here context lists → is_idle aim kept (quality_in best.quality) ≡ false
+        → best.candidate.lists ≡ lists → quality_in best.quality ≡ quality_here context lists → loses aim kept (quality_in best.quality) ≡ false
         → is_open context wish lists ≡ true → best_yet context wish aim (Some best) coming ≡ best_yet context wish aim kept (lists ∷ coming)
     unfolding best_yet
     winner_kept aim kept best lists coming h same e won fit =
         ap (λ (c : Arrangement). best_with (is_better_here context) (is_sought context wish aim) (Some c) coming) same
         ∙ kept_by (is_better_here context) (order_in context) (is_open context wish) (λ c. beats aim (quality_here context c)) (kept_lists kept) lists coming
-        (wins (quality_here context lists) kept) (same_wins kept lists h) fit (ap (is_idle aim kept) (sym e) ∙ won)
+        (wins (quality_here context lists) kept) (same_wins kept lists h) fit (ap (loses aim kept) (sym e) ∙ won)
 
     -- behind the last one the one that is kept is chosen
     pub best_last : (aim : Option Quality) (kept : Option Best) (all : Option Arrangement) → all ≡ best_yet context wish aim kept [] → all ≡ kept_lists kept
@@ -153,25 +153,25 @@ module _ (context : Context) where
     best_last aim kept all h =
         h ∙ kept_at_end (is_better_here context) (order_in context) (is_open context wish) (λ c. beats aim (quality_here context c)) (kept_lists kept)
 
-    unwanted_front_passed : (aim : Option Quality) (kept : Option Best) (skipped rest : List Arrangement) → IsKept context kept
-        → AllByRecursion (λ a. is_unwanted context wish aim kept a ≡ true) skipped → best_yet context wish aim kept (skipped ++ rest) ≡ best_yet context wish aim kept rest
-    unwanted_front_passed aim kept [] rest h unwanted = refl
-    unwanted_front_passed aim kept (d ∷ skipped) rest h unwanted =
-        unwanted_passed aim kept d (skipped ++ rest) h unwanted.0 ∙ unwanted_front_passed aim kept skipped rest h unwanted.1
+    idle_front_passed : (aim : Option Quality) (kept : Option Best) (skipped rest : List Arrangement) → IsKept context kept
+        → AllByRecursion (λ a. is_idle context wish aim kept a ≡ true) skipped → best_yet context wish aim kept (skipped ++ rest) ≡ best_yet context wish aim kept rest
+    idle_front_passed aim kept [] rest h idle = refl
+    idle_front_passed aim kept (d ∷ skipped) rest h idle =
+        idle_passed aim kept d (skipped ++ rest) h idle.0 ∙ idle_front_passed aim kept skipped rest h idle.1
 
     -- what a listing skips changes nothing
     pub skipped_same : (aim : Option Quality) (kept : Option Best) (before after : List Arrangement) → IsKept context kept
-        → Passes (λ a. is_unwanted context wish aim kept a ≡ true) before after → best_yet context wish aim kept before ≡ best_yet context wish aim kept after
-    skipped_same aim kept before after h (skipped, same, unwanted) = ap (best_yet context wish aim kept) same ∙ unwanted_front_passed aim kept skipped after h unwanted
+        → Passes (λ a. is_idle context wish aim kept a ≡ true) before after → best_yet context wish aim kept before ≡ best_yet context wish aim kept after
+    skipped_same aim kept before after h (skipped, same, idle) = ap (best_yet context wish aim kept) same ∙ idle_front_passed aim kept skipped after h idle
 
   -- what is handed out in the end
   pub handed : (kept : Option Best) (all : Option Arrangement) → IsKept context kept → all ≡ kept_lists kept → MatchOption kept (all ≡ None) (IsBest context all)
   handed (Some best) all h e = (e, h)
   handed None all h e = e
 
--- a quality is of no interest where a floor is that it is not better than
-pub idle_floor : (aim : Option Quality) (kept : Option Best) (floor q : Quality) → is_better q floor ≡ false → is_idle aim kept floor ≡ true → is_idle aim kept q ≡ true
-idle_floor None None floor q low idle = idle
-idle_floor None (Some best) floor q low idle = behind_kept is_better quality_order (quality_in best.quality) floor q low idle
-idle_floor (Some aim) None floor q low idle = behind_aim is_better quality_order aim floor q low idle
-idle_floor (Some aim) (Some best) floor q low idle = behind_either is_better quality_order aim (quality_in best.quality) floor q low idle
+-- a quality loses where a floor does that it is not better than
+pub floor_loses : (aim : Option Quality) (kept : Option Best) (floor q : Quality) → is_better q floor ≡ false → loses aim kept floor ≡ true → loses aim kept q ≡ true
+floor_loses None None floor q low lost = lost
+floor_loses None (Some best) floor q low lost = behind_kept is_better quality_order (quality_in best.quality) floor q low lost
+floor_loses (Some aim) None floor q low lost = behind_aim is_better quality_order aim floor q low lost
+floor_loses (Some aim) (Some best) floor q low lost = behind_either is_better quality_order aim (quality_in best.quality) floor q low lost

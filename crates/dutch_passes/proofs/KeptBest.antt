@@ -13,17 +13,17 @@ module _ {X : Type 0} (better : X → X → Bool) (order : IsOrder better) (can 
   abbrev sought : X → Bool
   sought c = can c && not (far c)
 
-  -- one that is of no interest is passed
+  -- one that is idle is passed
   pub passed_by : (kept : Option X) (d : X) (rest : List X) (won : Bool) → won ≡ wins_over better kept d → (not (can d) || (far d || not won)) ≡ true
       → best_with better sought kept (d ∷ rest) ≡ best_with better sought kept rest
-  passed_by None d rest won e unwanted = grind arith
-  passed_by (Some c) d rest won e unwanted = grind (arith, best_loses better order c d (filter sought rest))
+  passed_by None d rest won e idle = grind arith
+  passed_by (Some c) d rest won e idle = grind (arith, best_loses better order c d (filter sought rest))
 
-  -- and one that is, is kept
+  -- and one that is not is kept
   pub kept_by : (kept : Option X) (d : X) (rest : List X) (won : Bool) → won ≡ wins_over better kept d → can d ≡ true → (far d || not won) ≡ false
       → best_with better sought (Some d) rest ≡ best_with better sought kept (d ∷ rest)
-  kept_by None d rest won e fit idle = grind arith
-  kept_by (Some c) d rest won e fit idle = grind (arith, best_wins better order c d (filter sought rest))
+  kept_by None d rest won e fit wins = grind arith
+  kept_by (Some c) d rest won e fit wins = grind (arith, best_wins better order c d (filter sought rest))
 
   pub kept_at_end : (kept : Option X) → best_with better sought kept [] ≡ kept
   kept_at_end kept = grind (arith, best_alone better order)
@@ -34,8 +34,8 @@ module _ {Q : Type 0} (better : Q → Q → Bool) (order : IsOrder better) where
   behind_kept kept floor q low lost = grind (arith, order.between q floor kept)
 
   pub behind_aim : (aim floor q : Q) → better q floor ≡ false → (better aim floor || false) ≡ true → (better aim q || false) ≡ true
-  behind_aim aim floor q low idle = grind (arith, order.within aim q floor)
+  behind_aim aim floor q low lost = grind (arith, order.within aim q floor)
 
   pub behind_either : (aim kept floor q : Q) → better q floor ≡ false → (better aim floor || not (better floor kept)) ≡ true
       → (better aim q || not (better q kept)) ≡ true
-  behind_either aim kept floor q low idle = grind (arith, order.between q floor kept, order.within aim q floor)
+  behind_either aim kept floor q low lost = grind (arith, order.between q floor kept, order.within aim q floor)

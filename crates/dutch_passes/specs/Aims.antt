@@ -19,9 +19,9 @@ abbrev pub beats : Option Quality → Quality → Bool
 beats None quality = false
 beats (Some aim) quality = is_better aim quality
 
--- a quality is of no interest: the aim is better, or something is kept that it is not better than [own]
-abbrev pub is_idle : Option Quality → Option Best → Quality → Bool
-is_idle aim kept quality = beats aim quality || not (wins quality kept)
+-- a quality loses: the aim is better, or something is kept that it is not better than [own]
+abbrev pub loses : Option Quality → Option Best → Quality → Bool
+loses aim kept quality = beats aim quality || not (wins quality kept)
 
 -- an aim is not better than a candidate; without an aim all are near
 abbrev pub is_near : Context → Option Quality → Arrangement → Bool
@@ -32,9 +32,9 @@ module _ (context : Context) (wish : Option Wish) where
   abbrev pub is_open : Arrangement → Bool
   is_open c = can_be_chosen_here context c && is_wished wish c
 
-  -- a candidate is of no interest: it cannot be chosen, it does not grant the wish, or its quality is of none
-  abbrev pub is_unwanted : Option Quality → Option Best → Arrangement → Bool
-  is_unwanted aim kept c = not (is_open c) || is_idle aim kept (quality_here context c)
+  -- a candidate is idle, and may be passed over: it cannot be chosen, it does not grant the wish, or its quality loses
+  abbrev pub is_idle : Option Quality → Option Best → Arrangement → Bool
+  is_idle aim kept c = not (is_open c) || loses aim kept (quality_here context c)
 
   -- and that the aim is not better than
   abbrev pub is_sought : Option Quality → Arrangement → Bool

@@ -1,4 +1,4 @@
--- What a pass draws, what is of no interest to it, and what it ends with (C.04.3 B.8).
+-- What a pass draws, what is idle to it, and what it ends with (C.04.3 B.8).
 use Rattle.std.specs.Prelude.{◌≡◌, List, ◌∷◌, Option, None, Bool, true}
 use Rattle.std.specs.Option.{MatchOption}
 use Rattle.dutch_order.specs.Prelude.{Arrangement, down, Candidate, Listing, Passes}
@@ -9,7 +9,7 @@ use Rattle.dutch_choice.specs.declared.finder.Best.{Best}
 use Rattle.dutch_choice.specs.Prelude.{IsBest, best_wished}
 use Rattle.dutch_passes.specs.declared.pass.Pass.{Pass}
 use Rattle.dutch_passes.specs.declared.pass.Search.{Search}
-use Rattle.dutch_passes.specs.Aims.{aim_in, best_near, best_yet, is_unwanted, is_idle, is_open}
+use Rattle.dutch_passes.specs.Aims.{aim_in, best_near, best_yet, is_idle, loses, is_open}
 use Rattle.dutch_passes.specs.Remembered.{LooksBelow, Remembered}
 
 -- a listing is of the bracket of a pass [own]
@@ -24,25 +24,25 @@ LooksFor pass look = LooksBelow pass.shaped.context.now look
 abbrev pub IsHere : Context → Candidate → Type 0
 IsHere context candidate = IsOfBracket context.facts context.reached candidate
 
--- a search, beside what it keeps, finds no interest in a candidate's quality
-abbrev pub IsIdle : Search → Arrangement → Type 0
-IsIdle search a = is_idle (aim_in search.pass.now.aim) search.kept.now (quality_here search.pass.now.shaped.context.now a) ≡ true
+-- the quality of a candidate loses in a search, beside what it keeps
+abbrev pub Loses : Search → Arrangement → Type 0
+Loses search a = loses (aim_in search.pass.now.aim) search.kept.now (quality_here search.pass.now.shaped.context.now a) ≡ true
 
 -- the same of a candidate that can be chosen and grants what is wished
-abbrev pub IsIdleIfOpen : Search → Arrangement → Type 0
-IsIdleIfOpen search a = is_open search.pass.now.shaped.context.now search.pass.now.wish a ≡ true → IsIdle search a
+abbrev pub LosesIfOpen : Search → Arrangement → Type 0
+LosesIfOpen search a = is_open search.pass.now.shaped.context.now search.pass.now.wish a ≡ true → Loses search a
 
--- it finds no interest in the candidate
-abbrev pub is_unwanted_to : Search → Arrangement → Bool
-is_unwanted_to search = is_unwanted search.pass.now.shaped.context.now search.pass.now.wish (aim_in search.pass.now.aim) search.kept.now
+-- a candidate is idle to a search
+abbrev pub is_idle_to : Search → Arrangement → Bool
+is_idle_to search = is_idle search.pass.now.shaped.context.now search.pass.now.wish (aim_in search.pass.now.aim) search.kept.now
 
--- a list of candidates goes on as another one does, once some of its beginning is skipped, each of which is of no interest to a search [own]
-abbrev pub PassesUnwanted : Search → List Arrangement → List Arrangement → Type 0
-PassesUnwanted search before after = Passes (λ a. is_unwanted_to search a ≡ true) before after
+-- a list of candidates goes on as another one does, once some of its beginning is skipped, each of which is idle to a search [own]
+abbrev pub PassesIdle : Search → List Arrangement → List Arrangement → Type 0
+PassesIdle search before after = Passes (λ a. is_idle_to search a ≡ true) before after
 
--- a lister draws the next candidate, once some are skipped that are of no interest [own]
+-- a lister draws the next candidate, once some are skipped that are idle [own]
 abbrev pub Draws : Search → Lister ByNumber → Lister ByNumber → Type 0
-Draws search old new = PassesUnwanted search old.listing.coming (new.drawn.lists ∷ new.listing.coming)
+Draws search old new = PassesIdle search old.listing.coming (new.drawn.lists ∷ new.listing.coming)
     × (new.drawn.down ≡ down old.listing.frame new.drawn.lists)
 
 -- what a pass chooses of what it keeps and of the candidates to come

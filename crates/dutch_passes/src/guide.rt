@@ -1,12 +1,12 @@
 // What draws the candidates of a bracket for a pass (C.04.3 B.8).
 //
 // A guide may pass over candidates without a look at them, by whatever it knows of those that begin alike. It passes
-// over those alone that are of no interest. Where much is passed over too late it may know more by what pairs weigh.
+// over those alone that are idle. Where much is passed over too late it may know more by what pairs weigh.
 ghost use Rattle.std.specs.Prelude.{◌≡◌, [], Option};
 ghost use Rattle.std.specs.Result.{MatchResult};
 ghost use Rattle.dutch_bracket.specs.Prelude.{Context};
 ghost use Rattle.dutch_bracket.specs.declared.wish.Wish.{Wish};
-ghost use Rattle.dutch_passes.specs.Passes.{Draws, ListsFor, PassesUnwanted};
+ghost use Rattle.dutch_passes.specs.Passes.{Draws, ListsFor, PassesIdle};
 ghost use Rattle.dutch_order.specs.Prelude.{MatchDrawn, Spends};
 ghost use Rattle.dutch_order.specs.declared.bracket.Shape.{Shape};
 
@@ -33,8 +33,8 @@ pub trait Guide {
     /// wished.
     ghost knows: { Self → Context → Shape → Option Wish → Type 0 };
 
-    /// Draws the next candidate that may be of interest to a search. Those that it passes over are of none. A no says
-    /// that there is no other.
+    /// Draws the next candidate that it does not know to be idle to a search. Those that it passes over are idle. A no
+    /// says that there is no other.
     fn draw(
         &mut self,
         search: Search<'_, '_>,
@@ -47,7 +47,7 @@ pub trait Guide {
         requires lists { ListsFor search.pass.now lister.old.listing }
         requires shape { lister.old.listing.shape ≡ search.pass.now.shaped.shape }
         ensures answer { MatchDrawn result (Draws search.entry lister.old lister.new)
-            (PassesUnwanted search.entry lister.old.listing.coming [])
+            (PassesIdle search.entry lister.old.listing.coming [])
             (budget.new.used ≡ budget.new.limit) }
         ensures known { knows self.new search.entry.pass.now.shaped.context.now search.entry.pass.now.shaped.shape
             search.entry.pass.now.wish }

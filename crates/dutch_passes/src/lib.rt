@@ -1,8 +1,8 @@
 //! What finds the best candidate of a shape (C.04.3 B.8, C.4 to C.19): passes over the candidates.
 //!
-//! A pass looks at the candidates one by one, as a guide draws them. Whatever leaves out some that are of no interest is
-//! a guide, and what the passes end with is the same by each. The last 64 values of C.7 are kept on the heap; if memory
-//! is refused for one, it is merely not kept.
+//! A pass looks at the candidates one by one, as a guide draws them. Whatever leaves out some that are idle is a guide, and
+//! what the passes end with is the same by each. The last 64 values of C.7 are kept on the heap; if memory is refused for
+//! one, it is merely not kept.
 #![tactic(auto)]
 
 mod guide;
@@ -11,6 +11,6 @@ mod passes;
 mod remembered;
 
 pub use guide::{Guide, Workroom};
-pub use pass::{Pass, Search, is_barred, is_idle};
+pub use pass::{Pass, Search, is_barred, loses};
 pub use passes::best_in_time;
 pub use remembered::{Judge, Look, LookAhead, look_below};

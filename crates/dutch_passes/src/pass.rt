@@ -1,7 +1,7 @@
 // One pass over the candidates of a shape (C.04.3 B.8): what it seeks, and the best candidate that it has found so far.
 ghost use Rattle.std.specs.Prelude.{◌≡◌, true, false};
 ghost use Rattle.dutch_bracket.specs.Prelude.{OfEachWithBeginning, is_wished, quality_in};
-ghost use Rattle.dutch_passes.specs.Aims.{aim_in, is_idle};
+ghost use Rattle.dutch_passes.specs.Aims.{aim_in, loses};
 
 use dutch_bracket::quality::Quality;
 use dutch_bracket::shaped::ShapedBracket;
@@ -27,8 +27,8 @@ pub struct Search<'a, 'k> {
 }
 
 /// Whether a quality is of no interest: the aim is better, or it is not better than that of the candidate that is kept.
-pub fn is_idle(quality: &Quality, aim: &Option<Quality>, kept: &Option<Best>) -> bool
-    ensures { result ≡ is_idle (aim_in aim.now) kept.now (quality_in quality.now) }
+pub fn loses(quality: &Quality, aim: &Option<Quality>, kept: &Option<Best>) -> bool
+    ensures { result ≡ loses (aim_in aim.now) kept.now (quality_in quality.now) }
 {
     if let Some(aim) = aim {
         if aim.is_better(quality) {

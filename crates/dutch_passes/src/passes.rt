@@ -11,7 +11,7 @@ ghost use Rattle.dutch_passes.specs.Passes.{IsChosenNext, IsEnd, IsHere, ListsFo
 ghost use Rattle.dutch_passes.specs.Passes.{wished_of};
 
 use crate::guide::Guide;
-use crate::pass::{Pass, Search, is_idle};
+use crate::pass::{Pass, Search, loses};
 use crate::remembered::{Judge, judge_candidate};
 use dutch_bracket::eligible::{at_most, can_be_chosen};
 use dutch_bracket::greatest::Lister;
@@ -21,9 +21,9 @@ use dutch_choice::finder::Best;
 use dutch_order::{Budget, Candidate, Stopped};
 use std::mem::take;
 
-/// Keeps a candidate in place of the one before it if it grants what is wished, is of interest and can be chosen. (It
+/// Keeps a candidate in place of the one before it if it grants what is wished, does not lose and can be chosen. (It
 /// is put where that one stands, and not handed out: a candidate is large, and most are passed over.)
-#[tactic(auto, using(crate::proofs::AimLemmas::unwished_passed, crate::proofs::AimLemmas::idle_passed, crate::proofs::AimLemmas::winner_kept, crate::proofs::AimLemmas::unfit_passed))]
+#[tactic(auto, using(crate::proofs::AimLemmas::unwished_passed, crate::proofs::AimLemmas::loser_passed, crate::proofs::AimLemmas::winner_kept, crate::proofs::AimLemmas::unfit_passed))]
 fn consider<G: Guide>(
     pass: &Pass<'_>,
     candidate: &Candidate,
@@ -45,7 +45,7 @@ fn consider<G: Guide>(
         return Ok(());
     }
     judge_candidate(pass.shaped.context, candidate, judge, budget)?;
-    if is_idle(&judge.work.room.quality, &pass.aim, &judge.kept) {
+    if loses(&judge.work.room.quality, &pass.aim, &judge.kept) {
         return Ok(());
     }
     if can_be_chosen(pass.shaped.context, candidate, &mut judge.left, budget)? {

@@ -4,7 +4,7 @@ ghost use Rattle.std.specs.Prelude.{◌≡◌, ◌+◌, ◌-◌, ◌*◌, ◌≤
 ghost use Rattle.std.specs.Option.{ForSome};
 ghost use Rattle.std.specs.Result.{MatchResult};
 ghost use Rattle.dutch_order.specs.Prelude.{MatchStep, Spends};
-ghost use Rattle.dutch_passes.specs.Prelude.{Draws, ListsFor, PassesUnwanted};
+ghost use Rattle.dutch_passes.specs.Prelude.{Draws, ListsFor, PassesIdle};
 ghost use Rattle.dutch_search.specs.Searching.{AreFor, price};
 
 use crate::bars::{Skipper, bars_of};
@@ -64,7 +64,7 @@ impl<'a> BothFloors<'a> {
         budget.used = budget.used.saturating_add(steps).min(budget.limit);
     }
 
-    /// Draws the next candidate that may be of interest, in one turn.
+    /// Draws the next candidate that it does not know to be idle, in one turn.
     fn draw_once(
         &mut self,
         search: Search<'_, '_>,
@@ -77,8 +77,8 @@ impl<'a> BothFloors<'a> {
         requires shape { lister.old.listing.shape ≡ search.pass.now.shaped.shape }
         ensures answer { MatchStep result
             (λ _. Draws search.entry lister.old lister.new)
-            (PassesUnwanted search.entry lister.old.listing.coming [])
-            (PassesUnwanted search.entry lister.old.listing.coming lister.new.listing.coming
+            (PassesIdle search.entry lister.old.listing.coming [])
+            (PassesIdle search.entry lister.old.listing.coming lister.new.listing.coming
             × (budget.new.used ≡ budget.new.limit)) }
         ensures frame { lister.new.listing.frame ≡ lister.old.listing.frame }
         ensures shape { lister.new.listing.shape ≡ lister.old.listing.shape }

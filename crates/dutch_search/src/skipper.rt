@@ -1,14 +1,12 @@
-// What a pass over the candidates of a shape may skip (C.04.3 B.8), specified by the candidates that are of no
-// interest.
+// What a pass over the candidates of a shape may skip (C.04.3 B.8), specified by the candidates that are idle.
 //
-// A candidate is of no interest if it does not grant what is wished, if the aim of the pass is better than it, or if it
-// is not better than the candidate that is kept. The first is true of each candidate with a beginning that rules the
-// wish out. The others are true of each candidate with a beginning if they are true of its floor, a quality that none
-// of these candidates is better than. With a wish, a floor is enough that holds only for those that grant it, as floors
-// by weight do.
+// A candidate is idle if it cannot be chosen, if it does not grant what is wished, or if it loses: the aim of the pass
+// is better than it, or it is not better than the candidate that is kept. No candidate with a beginning that rules the
+// wish out grants it. Each candidate with a beginning loses if its floor does, a quality that none of these candidates
+// is better than. With a wish, a floor is enough that holds only for those that grant it, as floors by weight do.
 ghost use Rattle.std.specs.Prelude.{◌≡◌, true, false};
 ghost use Rattle.dutch_bracket.specs.Prelude.{quality_here, HasNoBetter, is_better, next_in, quality_in};
-ghost use Rattle.dutch_passes.specs.Prelude.{IsIdle, IsIdleIfOpen, is_unwanted_to};
+ghost use Rattle.dutch_passes.specs.Prelude.{Loses, LosesIfOpen, is_idle_to};
 ghost use Rattle.dutch_search.specs.Skips.{HasNoBetterNext, IsBehindAim, IsBehindKept, OfEach, OfEachWith, Weighs};
 ghost use Rattle.dutch_search.specs.Skips.{context_of};
 
@@ -17,7 +15,7 @@ use crate::last_beginning::LastBeginning;
 use dual::Wide;
 use dutch_bracket::quality::{Quality, Room};
 use dutch_order::{Bound, Exchange, Prefix};
-use dutch_passes::{Workroom, is_barred, is_idle};
+use dutch_passes::{Workroom, is_barred, loses};
 
 impl<'a, 'k> Skipper<'a, 'k> {
     /// Fills a quality that no candidate with a beginning is better than. No says that none is known.
@@ -38,15 +36,15 @@ impl<'a, 'k> Skipper<'a, 'k> {
     }
 
     /// Whether no candidate with a beginning is of interest by what is known by counts.
-    #[tactic(auto, using(dutch_passes::proofs::AimLemmas::idle_floor))]
-    fn is_idle_by_counts(&self, prefix: &Prefix<'_>, room: &mut Room) -> bool
-        ensures { result ≡ true → OfEach self.now prefix.now (IsIdle self.now.search) }
+    #[tactic(auto, using(dutch_passes::proofs::AimLemmas::floor_loses))]
+    fn loses_by_counts(&self, prefix: &Prefix<'_>, room: &mut Room) -> bool
+        ensures { result ≡ true → OfEach self.now prefix.now (Loses self.now.search) }
     {
         if !self.fill_floor(prefix, room) {
             return false;
         }
         let floor = &room.quality;
-        is_idle(floor, &self.search.pass.aim, self.search.kept)
+        loses(floor, &self.search.pass.aim, self.search.kept)
     }
 
     /// Whether no candidate with a beginning has a better value of the next bracket than a quality says, or the weights
@@ -91,8 +89,8 @@ impl<'a, 'k> Skipper<'a, 'k> {
 
     /// Whether no candidate with a beginning that can be chosen and grants what is wished is of interest by what all of
     /// them weigh at least by one of the floors.
-    fn is_idle_by(&self, place: usize, prefix: &Prefix<'_>) -> bool
-        ensures { result ≡ true → OfEach self.now prefix.now (IsIdleIfOpen self.now.search) }
+    fn loses_by(&self, place: usize, prefix: &Prefix<'_>) -> bool
+        ensures { result ≡ true → OfEach self.now prefix.now (LosesIfOpen self.now.search) }
     {
         let Some(weights) = self.weights else {
             return false;
@@ -104,8 +102,8 @@ impl<'a, 'k> Skipper<'a, 'k> {
     }
 
     /// The same by any of the floors.
-    fn is_idle_by_weight(&self, prefix: &Prefix<'_>) -> bool
-        ensures { result ≡ true → OfEach self.now prefix.now (IsIdleIfOpen self.now.search) }
+    fn loses_by_weight(&self, prefix: &Prefix<'_>) -> bool
+        ensures { result ≡ true → OfEach self.now prefix.now (LosesIfOpen self.now.search) }
     {
         let Some(weights) = self.weights else {
             return false;
@@ -113,7 +111,7 @@ impl<'a, 'k> Skipper<'a, 'k> {
         // (the floor that was asked for last is the most likely to tell)
         let count = weights.len();
         for before in 0..count {
-            if self.is_idle_by(count - 1 - before, prefix) {
+            if self.loses_by(count - 1 - before, prefix) {
                 return true;
             }
         }
@@ -121,8 +119,8 @@ impl<'a, 'k> Skipper<'a, 'k> {
     }
 
     /// The same of the candidates with such an S1R, by one of the floors.
-    fn is_idle_with(&self, place: usize, prefix: &Prefix<'_>, exchange: &Exchange<'_>) -> bool
-        ensures { result ≡ true → OfEachWith self.now prefix.now exchange.now (IsIdleIfOpen self.now.search) }
+    fn loses_with(&self, place: usize, prefix: &Prefix<'_>, exchange: &Exchange<'_>) -> bool
+        ensures { result ≡ true → OfEachWith self.now prefix.now exchange.now (LosesIfOpen self.now.search) }
     {
         let Some(weights) = self.weights else {
             return false;
@@ -134,14 +132,14 @@ impl<'a, 'k> Skipper<'a, 'k> {
     }
 
     /// The same by any of the floors that counts the order of S1R.
-    fn is_idle_by_order(&self, prefix: &Prefix<'_>, exchange: &Exchange<'_>) -> bool
-        ensures { result ≡ true → OfEachWith self.now prefix.now exchange.now (IsIdleIfOpen self.now.search) }
+    fn loses_by_order(&self, prefix: &Prefix<'_>, exchange: &Exchange<'_>) -> bool
+        ensures { result ≡ true → OfEachWith self.now prefix.now exchange.now (LosesIfOpen self.now.search) }
     {
         let Some(weights) = self.weights else {
             return false;
         };
         for place in 0..weights.len() {
-            if self.is_idle_with(place, prefix, exchange) {
+            if self.loses_with(place, prefix, exchange) {
                 return true;
             }
         }
@@ -153,7 +151,7 @@ impl<'a, 'k> Bound for Skipper<'a, 'k> {
     type Room = Workroom<LastBeginning>;
 
     ghost use Rattle.dutch_bracket.specs.Prelude.{frame_here, numbers_meet, number_may_be_left};
-    ghost use Rattle.dutch_passes.specs.Prelude.{is_unwanted_to};
+    ghost use Rattle.dutch_passes.specs.Prelude.{is_idle_to};
     ghost use Rattle.dutch_search.specs.Skips.{context_of};
 
     ghost frame = { λ s. frame_here (context_of s) };
@@ -164,9 +162,9 @@ impl<'a, 'k> Bound for Skipper<'a, 'k> {
 
     ghost may_be_left = { λ s. number_may_be_left (context_of s).facts (context_of s).reached };
 
-    ghost is_unwanted = { λ s. is_unwanted_to s.search };
+    ghost is_idle = { λ s. is_idle_to s.search };
 
-    #[tactic(auto, using(dutch_passes::proofs::AimLemmas::unwished_is_unwanted, dutch_passes::proofs::AimLemmas::idle_is_unwanted, dutch_passes::proofs::AimLemmas::idle_if_open_is_unwanted), unfolding(dutch_bracket::specs::Brackets::candidates_of))]
+    #[tactic(auto, using(dutch_passes::proofs::AimLemmas::unwished_is_idle, dutch_passes::proofs::AimLemmas::loser_is_idle, dutch_passes::proofs::AimLemmas::loser_if_open_is_idle), unfolding(dutch_bracket::specs::Brackets::candidates_of))]
     fn cannot_win(&self, prefix: &Prefix<'_>, work: &mut Workroom<LastBeginning>) -> bool {
         if is_barred(self.search.pass, prefix) {
             return true;
@@ -174,14 +172,14 @@ impl<'a, 'k> Bound for Skipper<'a, 'k> {
         if self.weights.is_some() {
             work.notes.note(prefix);
         }
-        // then all others are of interest
+        // (with no aim and nothing kept no quality loses)
         if self.search.pass.aim.is_none() && self.search.kept.is_none() {
             return false;
         }
-        self.is_idle_by_weight(prefix) || self.is_idle_by_counts(prefix, &mut work.room)
+        self.loses_by_weight(prefix) || self.loses_by_counts(prefix, &mut work.room)
     }
 
-    #[tactic(auto, using(dutch_passes::proofs::AimLemmas::idle_if_open_is_unwanted), unfolding(dutch_bracket::specs::Brackets::candidates_of))]
+    #[tactic(auto, using(dutch_passes::proofs::AimLemmas::loser_if_open_is_idle), unfolding(dutch_bracket::specs::Brackets::candidates_of))]
     fn cannot_win_with(
         &self,
         prefix: &Prefix<'_>,
@@ -191,6 +189,6 @@ impl<'a, 'k> Bound for Skipper<'a, 'k> {
         if self.search.pass.aim.is_none() && self.search.kept.is_none() {
             return false;
         }
-        self.is_idle_by_order(prefix, exchange)
+        self.loses_by_order(prefix, exchange)
     }
 }

@@ -106,7 +106,7 @@ impl<'a> Bound for Keeps<'a> {
 
     ghost may_be_left = { λ k. ⟦<Free as Rule>⟧.may_be_left k.rule.now };
 
-    ghost is_unwanted = { λ _ a. not (slice_index a.s1r 0 == 1) || not (slice_index a.s1r 1 == 2) };
+    ghost is_idle = { λ _ a. not (slice_index a.s1r 0 == 1) || not (slice_index a.s1r 1 == 2) };
 
     fn cannot_win(&self, prefix: &Prefix<'_>, _room: &mut ()) -> bool {
         let Filling::S2r = prefix.filling() else {
@@ -128,7 +128,7 @@ impl<'a> Bound for Keeps<'a> {
     }
 }
 
-// A bound that knows of S1R by their exchange alone: those of 1 and 2 whose sum is greater by 2 are unwanted.
+// A bound that knows of S1R by their exchange alone: those of 1 and 2 whose sum is greater by 2 are idle.
 #[derive(Drop)]
 struct ByDifference<'a> {
     bracket: &'a Bracket,
@@ -150,7 +150,7 @@ impl<'a> Bound for ByDifference<'a> {
 
     ghost may_be_left = { λ b. ⟦<Free as Rule>⟧.may_be_left b.rule.now };
 
-    ghost is_unwanted = { λ _ a. sum_of a.s1r == 5 };
+    ghost is_idle = { λ _ a. sum_of a.s1r == 5 };
 
     fn cannot_win(&self, _prefix: &Prefix<'_>, _room: &mut ()) -> bool {
         false

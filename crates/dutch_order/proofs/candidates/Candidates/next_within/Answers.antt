@@ -8,7 +8,7 @@ returns-clause-answer g c =
     let gave = c.put_next_within-step.new in
     step-holding _ _ _ gave.candidate c.put_next_within-step.result c.holding.result c.holding.ensures
     (subst
-    (λ bound. MatchStep c.put_next_within-step.result (λ _. GivesPast c.args.self.now gave.self (λ a. g.B.Bound.is_unwanted bound a ≡ true) gave.candidate) (EndsPast c.args.self.now gave.self (λ a. g.B.Bound.is_unwanted bound a ≡ true)) (StopsPast c.args.self.now gave.self (λ a. g.B.Bound.is_unwanted bound a ≡ true) gave.budget))
+    (λ bound. MatchStep c.put_next_within-step.result (λ _. GivesPast c.args.self.now gave.self (λ a. g.B.Bound.is_idle bound a ≡ true) gave.candidate) (EndsPast c.args.self.now gave.self (λ a. g.B.Bound.is_idle bound a ≡ true)) (StopsPast c.args.self.now gave.self (λ a. g.B.Bound.is_idle bound a ≡ true) gave.budget))
     c.new.ensures c.put_next_within-step.ensures.answer)
 
 pub returns-clause-too_many_left : goal.returns-clause-too_many_left
