@@ -1,6 +1,6 @@
 // How candidates are drawn within floors of both kinds (C.04.3 B.8): in turns of steps, behind each of which floors by
 // weight are asked for more, where the walk is stuck.
-ghost use Rattle.std.specs.Prelude.{◌≡◌, ◌+◌, ◌-◌, ◌*◌, ◌≤◌, [], None, min};
+ghost use Rattle.std.specs.Prelude.{◌≡◌, ◌+◌, ◌-◌, ◌*◌, ◌<◌, ◌≤◌, [], None, min};
 ghost use Rattle.std.specs.Option.{ForSome};
 ghost use Rattle.std.specs.Result.{MatchResult};
 ghost use Rattle.dutch_order.specs.Prelude.{MatchStep, Spends};
@@ -22,9 +22,6 @@ use dutch_weights::asking::FloorRequest;
 use dutch_weights::scope::Scope;
 use dutch_weights::weight_floor::WeightFloors;
 
-/// A walk is told more so many times at most.
-const MOST_TURNS: u32 = u32::MAX;
-
 impl<'a> BothFloors<'a> {
     /// For how many steps each one counts: for one alone in the few steps that come first, and behind them for the
     /// more, the more pairs the questions look at that are asked.
@@ -38,19 +35,21 @@ impl<'a> BothFloors<'a> {
         }
     }
 
-    /// The steps of a turn: all that are left, or so many that it is worth while to be told more behind them.
+    /// The steps of a turn: all that are left, or so many that it is worth while to be told more behind them. Where
+    /// those that are left suffice for one, there is one at least.
     fn turn(&self, shape: Shape, budget: &Budget) -> Budget
         ensures used { result.used ≡ 0 }
         ensures limit { result.limit * price self.now.is_long shape.pairs ≤ budget.now.limit - budget.now.used }
+        ensures some { price self.now.is_long shape.pairs ≤ budget.now.limit - budget.now.used → 0 < result.limit }
     {
-        let left = budget.limit - budget.used;
+        let (left, price) = (budget.limit - budget.used, self.price(shape));
         let steps = match &self.weights {
-            Some(weights) => weights.patience(budget.used).min(left),
+            Some(weights) => weights.patience(budget.used).max(price).min(left),
             None => left,
         };
         Budget {
             used: 0,
-            limit: steps / self.price(shape),
+            limit: steps / price,
         }
     }
 
@@ -64,36 +63,12 @@ impl<'a> BothFloors<'a> {
         budget.used = budget.used.saturating_add(steps).min(budget.limit);
     }
 
-    /// Draws the next candidate that it does not know to be idle, in one turn.
-    fn draw_once(
-        &mut self,
-        search: Search<'_, '_>,
-        lister: &mut Lister<'_, ByNumber<'_>>,
-        work: &mut Workroom<LastBeginning>,
-        budget: &mut Budget,
-    ) -> Step<()>
-        requires known { AreFor search.pass.now self.old }
-        requires lists { ListsFor search.pass.now lister.old.listing }
-        requires shape { lister.old.listing.shape ≡ search.pass.now.shaped.shape }
-        ensures answer { MatchStep result
-            (λ _. Draws search.entry lister.old lister.new)
-            (PassesIdle search.entry lister.old.listing.coming [])
-            (PassesIdle search.entry lister.old.listing.coming lister.new.listing.coming
-            × (budget.new.used ≡ budget.new.limit)) }
-        ensures frame { lister.new.listing.frame ≡ lister.old.listing.frame }
-        ensures shape { lister.new.listing.shape ≡ lister.old.listing.shape }
-        ensures rule { lister.new.listing.rule ≡ lister.old.listing.rule }
-        ensures context { self.new.shaped.context.now ≡ self.old.shaped.context.now }
-        ensures of_shape { self.new.shaped.shape ≡ self.old.shaped.shape }
-        ensures counts { self.new.counts ≡ self.old.counts }
-        ensures weights { self.new.weights ≡ self.old.weights }
-        ensures spends { Spends budget.old budget.new }
+    /// Tells which beginnings a pass may skip, beside the candidate that it keeps.
+    fn skipper<'k>(&'k self, search: Search<'k, 'k>) -> Skipper<'k, 'k>
+        requires known { AreFor search.pass.now self.now }
+        ensures { result.search ≡ search.entry }
     {
-        let skipper = Skipper::new(search, &self.counts, &self.weights);
-        let within = BoundWithRoom::new(&skipper, work);
-        lister
-            .listing
-            .put_next_within(&within, &mut lister.drawn, budget)
+        Skipper::new(search, &self.counts, &self.weights)
     }
 
     /// Keeps floors by weight, with that of a cheapest matching of the bracket. It answers what to aim at.
@@ -129,7 +104,9 @@ impl<'a> BothFloors<'a> {
         last: &LastBeginning,
         budget: &mut Budget,
     ) -> Result<(), Stopped>
-        ensures stopped { MatchResult result (λ _. Unit {0}) (λ _. budget.new.used ≡ budget.new.limit) }
+        ensures stopped { MatchResult result
+            (λ _. price self.old.is_long search.pass.now.shaped.shape.pairs ≤ budget.old.limit - budget.old.used)
+            (λ _. budget.new.used ≡ budget.new.limit) }
         ensures context { self.new.shaped.context.now ≡ self.old.shaped.context.now }
         ensures shape { self.new.shaped.shape ≡ self.old.shaped.shape }
         ensures counts { self.new.counts ≡ self.old.counts }
@@ -149,6 +126,31 @@ impl<'a> BothFloors<'a> {
             None => Ok(()),
         }
     }
+}
+
+/// Draws the next candidate that is not known to be idle, in one turn.
+fn draw_once(
+    skipper: &Skipper<'_, '_>,
+    lister: &mut Lister<'_, ByNumber<'_>>,
+    work: &mut Workroom<LastBeginning>,
+    turn: &mut Budget,
+) -> Step<()>
+    requires lists { ListsFor skipper.now.search.pass.now lister.old.listing }
+    requires shape { lister.old.listing.shape ≡ skipper.now.search.pass.now.shaped.shape }
+    ensures answer { MatchStep result
+        (λ _. Draws skipper.now.search lister.old lister.new)
+        (PassesIdle skipper.now.search lister.old.listing.coming [])
+        (PassesIdle skipper.now.search lister.old.listing.coming lister.new.listing.coming
+        × (turn.new.used ≡ turn.new.limit)) }
+    ensures frame { lister.new.listing.frame ≡ lister.old.listing.frame }
+    ensures shape { lister.new.listing.shape ≡ lister.old.listing.shape }
+    ensures rule { lister.new.listing.rule ≡ lister.old.listing.rule }
+    ensures spends { Spends turn.old turn.new }
+{
+    let within = BoundWithRoom::new(skipper, work);
+    lister
+        .listing
+        .put_next_within(&within, &mut lister.drawn, turn)
 }
 
 impl<'a> Guide for BothFloors<'a> {
@@ -171,9 +173,9 @@ impl<'a> Guide for BothFloors<'a> {
         budget: &mut Budget,
     ) -> Result<bool, Stopped> {
         let shape = search.pass.shaped.shape;
-        for _ in 0..MOST_TURNS {
+        loop {
             let mut turn = self.turn(shape, budget);
-            let step = self.draw_once(search, lister, work, &mut turn);
+            let step = draw_once(&self.skipper(search), lister, work, &mut turn);
             self.count(shape, &turn, budget);
             match step {
                 Step::Found(()) => return Ok(true),
@@ -181,9 +183,6 @@ impl<'a> Guide for BothFloors<'a> {
                 Step::Undecided => self.go_on(search, &work.notes, budget)?,
             }
         }
-        // (no limit of steps is so high)
-        budget.used = budget.limit;
-        Err(Stopped)
     }
 
     fn can_weigh(&self, next: bool) -> bool {
