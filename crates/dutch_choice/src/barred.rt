@@ -12,7 +12,7 @@ use dutch_bracket::shaped::ShapedBracket;
 use dutch_bracket::wish::Wish;
 use dutch_order::Prefix;
 
-/// Whether each candidate of a shape has a player in a pair: all moved-down players are in one, or all residents.
+/// Where a shape pairs all moved-down players, or all residents, none of them is left over (B.1).
 #[tactic(auto, using(dutch_bracket::proofs::ShapeNumbers::small_pairs))]
 fn pairs_always(shaped: &ShapedBracket<'_>, number: u16) -> bool
     ensures { result ≡ true → (a : Arrangement) → IsIn a (candidates_in shaped.now)
@@ -28,7 +28,6 @@ fn pairs_always(shaped: &ShapedBracket<'_>, number: u16) -> bool
     shaped.context.residents_down(shaped.shape) == 0
 }
 
-/// Whether no candidate of a shape grants a wish.
 fn bars(shaped: &ShapedBracket<'_>, wish: Wish) -> bool
     ensures { result ≡ true → (a : Arrangement) → IsIn a (candidates_in shaped.now) → grants wish a ≡ false }
 {
@@ -38,7 +37,6 @@ fn bars(shaped: &ShapedBracket<'_>, wish: Wish) -> bool
     }
 }
 
-/// Whether no candidate with a beginning grants a wish.
 fn begins_without(context: &Context<'_>, wish: Wish, prefix: &Prefix<'_>) -> bool
     ensures { result ≡ true → (shape : Shape) (a : Arrangement) → FitsHere context.now shape
         → IsIn a (candidates_here context.now shape) → Begins prefix.now a → grants wish a ≡ false }
@@ -46,7 +44,8 @@ fn begins_without(context: &Context<'_>, wish: Wish, prefix: &Prefix<'_>) -> boo
     is_ruled_out(wish, context.reached().mdps(), prefix)
 }
 
-/// Whether no candidate of a shape that has a beginning grants a wish.
+/// Yes if the shape or the beginning rules the wish out, so that who looks for it may skip all that begins so. A no
+/// says nothing.
 pub fn rules_out(shaped: &ShapedBracket<'_>, wish: Wish, prefix: &Prefix<'_>) -> bool
     ensures { result ≡ true → OfEachWithBeginning shaped.now prefix.now (λ a. grants wish a ≡ false) }
 {

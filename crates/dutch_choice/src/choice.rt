@@ -1,5 +1,5 @@
-// The choice in a bracket (C.04.3 B.8): its shape, and the first candidate of it that none is better than, by whoever finds
-// that.
+// The choice in a bracket (C.04.3 B.8): its shape, and the first candidate of it that none is better than, by any
+// finder.
 ghost use Rattle.std.specs.Prelude.{◌≡◌, IfOk};
 ghost use Rattle.dutch_order.specs.Prelude.{Spends};
 ghost use Rattle.dutch_bracket.specs.Prelude.{IsAbove, HasCandidate};

@@ -1,7 +1,7 @@
 // Who finds the best candidate of a shape (C.04.3 B.8, B.3).
 //
-// The choice in a bracket is the same whoever finds it, so what pairs a round asks for a finder, and waits for none: what
-// is known of the candidates behind a beginning is found beside it.
+// The choice in a bracket is the same whoever finds it. So what pairs a round asks for a finder, and does not wait for
+// one: what is known of the candidates behind a beginning is proved beside it.
 ghost use Rattle.std.specs.Prelude.{◌≡◌, None, IfOk};
 ghost use Rattle.dutch_order.specs.Prelude.{MatchStep, Spends};
 ghost use Rattle.dutch_choice.specs.Found.{IsBest, best_wished};

@@ -11,7 +11,6 @@ use dutch_bracket::fixed_lists::{FixedLists, fixed_lists};
 use dutch_bracket::wish::{Wish, leave_over, parts};
 use dutch_order::{Filling, Prefix};
 
-/// Whether one of two players meets another one in two lists, place by place.
 fn part_in(p: u16, q: u16, firsts: &[u16], seconds: &[u16]) -> bool
     ensures { result ≡ list_any (parts p q) (zip firsts.now seconds.now) }
 {
@@ -21,7 +20,6 @@ fn part_in(p: u16, q: u16, firsts: &[u16], seconds: &[u16]) -> bool
         .any(|(first, second)| parts(p, q, (*first, *second)))
 }
 
-/// Whether one of two players meets another one in lists.
 #[tactic(auto, using(dutch_bracket::proofs::WishLemmas::pairs_found))]
 fn have_others(p: u16, q: u16, lists: &FixedLists<'_>) -> bool
     ensures { result ≡ list_any (parts p q) (pairs_by_number lists.now) }
@@ -29,7 +27,6 @@ fn have_others(p: u16, q: u16, lists: &FixedLists<'_>) -> bool
     part_in(p, q, lists.s1, lists.s2) || part_in(p, q, lists.s1r, lists.s2r)
 }
 
-/// Whether of two players one alone is in a list.
 fn has_one_of(p: u16, q: u16, numbers: &[u16]) -> bool
     ensures { result ≡ has_one_of p q numbers.now }
 {
@@ -37,7 +34,7 @@ fn has_one_of(p: u16, q: u16, numbers: &[u16]) -> bool
     (has_p && !has_q) || (has_q && !has_p)
 }
 
-/// Whether S1 is chosen, and has both or neither of two players.
+/// Of a moved-down player and a resident who meet, S1 has one alone.
 fn s1_bars(p: u16, q: u16, prefix: &Prefix<'_>) -> bool
     ensures { result ≡ s1_bars prefix.now.filling p q prefix.now.lists }
 {
@@ -47,7 +44,7 @@ fn s1_bars(p: u16, q: u16, prefix: &Prefix<'_>) -> bool
     }
 }
 
-/// Whether S1R is chosen, and has both or neither of two players.
+/// Of two residents who meet, S1R has one alone.
 fn s1r_bars(p: u16, q: u16, prefix: &Prefix<'_>) -> bool
     ensures { result ≡ s1r_bars prefix.now.filling p q prefix.now.lists }
 {
@@ -57,7 +54,7 @@ fn s1r_bars(p: u16, q: u16, prefix: &Prefix<'_>) -> bool
     }
 }
 
-/// Whether the first halves rule out that two players meet, in a bracket with so many moved-down players.
+/// Two moved-down players meet in no candidate of their bracket.
 fn halves_bar(mdps: usize, p: u16, q: u16, prefix: &Prefix<'_>) -> bool
     ensures { result ≡ halves_bar (nat_le p mdps) (nat_le q mdps) prefix.now.filling p q prefix.now.lists }
 {
@@ -68,7 +65,6 @@ fn halves_bar(mdps: usize, p: u16, q: u16, prefix: &Prefix<'_>) -> bool
     }
 }
 
-/// Whether a beginning in a bracket with so many moved-down players rules a wish out.
 pub(crate) fn is_ruled_out(wish: Wish, mdps: usize, prefix: &Prefix<'_>) -> bool
     ensures { result ≡ rules_out mdps wish prefix.now }
 {

@@ -31,13 +31,13 @@ pub trait Bound {
     /// A candidate is idle: it may be passed over.
     ghost is_idle: { Self → Arrangement → Bool };
 
-    /// Whether it knows that every candidate with this beginning is idle. A no says nothing.
+    /// Yes if it knows that every candidate with this beginning is idle. A no says nothing.
     fn cannot_win(&self, prefix: &Prefix<'_>, room: &mut Self::Room) -> bool
         ensures { result ≡ true → (a : Arrangement)
             → IsIn a (candidates (meets self.now) (may_be_left self.now) (frame self.now) (shape self.now))
             → Begins prefix.now a → is_idle self.now a ≡ true };
 
-    /// Whether it knows that every candidate with this beginning, whose S1 and S2 are chosen, and with such an S1R is
+    /// Yes if it knows that every candidate with this beginning, whose S1 and S2 are chosen, and with such an S1R is
     /// idle. A no says nothing.
     fn cannot_win_with(
         &self,

@@ -19,11 +19,12 @@ pub trait Cuts {
     /// An arrangement is idle.
     ghost Idle: { Self → Arrangement → Type 0 };
 
-    /// Whether all arrangements that begin so are known to be idle.
+    /// Yes if all arrangements that begin so are known to be idle. A no says nothing.
     fn cuts(&self, prefix: &Prefix<'_>) -> bool
         ensures { result ≡ true → (a : Arrangement) → Begins prefix.now a → Idle self.now a };
 
-    /// Whether all arrangements that begin so, and whose S1R is such an exchange, are known to be idle.
+    /// Yes if all arrangements that begin so, and whose S1R is such an exchange, are known to be idle. A no says
+    /// nothing.
     fn cuts_exchange(&self, prefix: &Prefix<'_>, exchange: &Exchange<'_>) -> bool
         ensures { result ≡ true → (a : Arrangement) → Begins prefix.now a → IsExchange exchange.now a.s1r
             → Idle self.now a };

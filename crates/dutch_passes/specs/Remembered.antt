@@ -23,7 +23,7 @@ pub record Remembered : Type 0 where
 abbrev pub value_below : Facts → Reached → List ℕ → List ℕ → NextValue
 value_below facts reached next down = value_in reached.kind facts (map (seat_of reached.seats) down) next
 
--- whether a list is one of those that are kept [with IsLook]
+-- a list is one of those that are kept [with IsLook]
 abbrev pub is_kept : List ℕ → List (List ℕ) → Bool
 is_kept down [] = false
 is_kept down (other ∷ kept) = is_same down other || is_kept down kept
@@ -55,7 +55,7 @@ IsLook value stopped Undecided = stopped
 abbrev pub IsUsed : List ℕ → Remembered → Remembered → Type 0
 IsUsed down old new = (new ≡ after_use down old) ⊎ ((is_kept down old.kept ≡ false) × (new ≡ after_refusal old))
 
--- whether a value is kept for a list: a yes gives the value, and the list was used; after a no all is as it was
+-- a value that may be kept for a list was asked for: a yes gives the value, and the list was used; after a no all is as it was
 pub record Recalls (yes : Bool) (value : NextValue) (down : List ℕ) (old new : Remembered) : Type 0 where
   pub value_is : yes ≡ true → value ≡ value_below old.facts old.reached old.next down
   pub used : yes ≡ true → new ≡ after_use down old
@@ -83,7 +83,7 @@ LooksBelow context (Some look) = LooksFrom context look
 abbrev pub lists_kept : List (ArrayVec ℕ × NextValue) → List (List ℕ)
 lists_kept entries = map (λ e. e.0.items) entries
 
--- whether a list that is kept is the one asked about
+-- a list that is kept is the one asked about
 abbrev pub is_key : ArrayVec ℕ → ArrayVec ℕ → Bool
 is_key down key = pointwise nat_eq down.items key.items
 

@@ -56,7 +56,7 @@ pub trait Guide {
         ensures rule { lister.new.listing.rule ≡ lister.old.listing.rule }
         ensures spends { Spends budget.old budget.new };
 
-    /// Whether it can weigh the pairs of the bracket, and of the next one, if that is wanted.
+    /// Yes if it can weigh the pairs of the bracket, and those of the next one if that is wanted.
     fn can_weigh(&self, next: bool) -> bool;
 
     /// Weighs the pairs of the bracket, and of the next one, if that is wanted (C.7), so that it knows more of the

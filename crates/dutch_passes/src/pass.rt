@@ -26,7 +26,8 @@ pub struct Search<'a, 'k> {
     pub kept: &'k Option<Best>,
 }
 
-/// Whether a quality is of no interest: the aim is better, or it is not better than that of the candidate that is kept.
+/// Yes if the aim is better, or if the quality is not better than that of the candidate that is kept: then no candidate
+/// with it takes the place of that one.
 pub fn loses(quality: &Quality, aim: &Option<Quality>, kept: &Option<Best>) -> bool
     ensures { result ≡ loses (aim_in aim.now) kept.now (quality_in quality.now) }
 {
@@ -41,7 +42,8 @@ pub fn loses(quality: &Quality, aim: &Option<Quality>, kept: &Option<Best>) -> b
     }
 }
 
-/// Whether no candidate with a beginning grants what is wished.
+/// Yes if the shape or the beginning rules out what is wished, so that the pass may skip all that begins so. A no says
+/// nothing.
 pub fn is_barred(pass: &Pass<'_>, prefix: &Prefix<'_>) -> bool
     ensures { result ≡ true → OfEachWithBeginning pass.now.shaped prefix.now
         (λ a. is_wished pass.now.wish a ≡ false) }

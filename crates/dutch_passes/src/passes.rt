@@ -155,8 +155,8 @@ fn few_steps(players: usize) -> u64 {
         .saturating_mul(players)
 }
 
-/// Whether weights can tell more of the bracket of a pass that wishes nothing: C.7 counts there, and the next lower
-/// scoregroup is not too large.
+/// Weights can tell more of the bracket of a pass that wishes nothing where C.7 counts and the next lower scoregroup is
+/// not too large.
 fn tells_next<G: Guide>(pass: &Pass<'_>, guide: &G) -> bool {
     match (pass.shaped.context.reached().kind(), pass.wish) {
         (BracketKind::Ordinary, None) => guide.can_weigh(true),
@@ -191,8 +191,8 @@ fn best_within<G: Guide>(
 }
 
 /// Keeps what the passes end with by weights that are found now. A no says that the steps for it do not suffice. Where
-/// C.7 counts and they do not tell of the next bracket, these are a quarter of the steps that are left, else all. (Apart
-/// from its caller, as most brackets do not come to it.)
+/// C.7 counts and they do not tell of the next bracket, these are a quarter of the steps that are left, else all.
+/// (Apart from its caller, as most brackets do not come to it.)
 #[inline(never)]
 fn best_by_weight<G: Guide>(
     pass: &mut Pass<'_>,

@@ -229,7 +229,7 @@ impl<'a> LookAhead<'a> {
         Ok(())
     }
 
-    /// Whether memory was refused for a value, so that it was not kept.
+    /// Yes if memory was refused for a value, so that it was not kept.
     pub fn is_short(&self) -> bool
         ensures { result ≡ self.now.is_short }
     {

@@ -23,7 +23,7 @@ pub(crate) struct BothFloors<'a> {
     ghost basis: { IsBasisFor shaped counts },
 }
 
-/// Whether the pairs of a bracket are weighed: not of one of many players, nor with the next lower scoregroup, if its
+/// Pairs are not weighed where players are many: those of the bracket, with those of the next lower scoregroup if the
 /// weights are to tell of that.
 pub(crate) fn is_weighed(context: &Context<'_>, next: bool) -> bool {
     let players = if next {

@@ -26,8 +26,7 @@ impl<'a, 'k> Skipper<'a, 'k> {
         self.counts.floor(prefix, room)
     }
 
-    /// Whether no candidate with a beginning has a better value of the next bracket than a quality says (C.7). A no says
-    /// nothing.
+    /// C.7 by counts. A no says nothing.
     fn has_no_better_next(&self, prefix: &Prefix<'_>, quality: &Quality) -> bool
         ensures { result ≡ true → OfEach self.now prefix.now
             (λ a. HasNoBetter (quality_here (context_of self.now) a) (next_in (quality_in quality.now))) }
@@ -35,7 +34,6 @@ impl<'a, 'k> Skipper<'a, 'k> {
         self.counts.has_no_better_next(prefix, quality)
     }
 
-    /// Whether no candidate with a beginning is of interest by what is known by counts.
     #[tactic(auto, using(dutch_passes::proofs::AimLemmas::floor_loses))]
     fn loses_by_counts(&self, prefix: &Prefix<'_>, room: &mut Room) -> bool
         ensures { result ≡ true → OfEach self.now prefix.now (Loses self.now.search) }
@@ -47,8 +45,7 @@ impl<'a, 'k> Skipper<'a, 'k> {
         loses(floor, &self.search.pass.aim, self.search.kept)
     }
 
-    /// Whether no candidate with a beginning has a better value of the next bracket than a quality says, or the weights
-    /// tell of that (C.7).
+    /// C.7: where the weights do not tell of the next bracket, the counts have to.
     fn knows_next(&self, prefix: &Prefix<'_>, quality: &Quality) -> bool
         ensures { result ≡ true
             → OfEach self.now prefix.now (HasNoBetterNext self.now (next_in (quality_in quality.now))) }
@@ -59,7 +56,8 @@ impl<'a, 'k> Skipper<'a, 'k> {
         }
     }
 
-    /// Whether the aim is better than all candidates with a beginning that weigh so much at least.
+    /// The aim is better than a candidate that weighs more, if that has a higher PSD or no better value of the next
+    /// bracket (C.6, C.7).
     fn is_behind_aim(&self, prefix: &Prefix<'_>, least: Wide) -> bool
         ensures { result ≡ true
             → OfEach self.now prefix.now (λ a. Weighs self.now least a → IsBehindAim self.now a) }
@@ -73,7 +71,8 @@ impl<'a, 'k> Skipper<'a, 'k> {
         bar.is_passed(least) && (bar.is_above(least) || self.knows_next(prefix, aim))
     }
 
-    /// Whether no candidate with a beginning that weighs so much at least is better than the one that is kept.
+    /// A candidate that weighs no less than the one that is kept is not better, if it has a higher PSD or no better
+    /// value of the next bracket (C.6, C.7).
     fn is_behind_kept(&self, prefix: &Prefix<'_>, least: Wide) -> bool
         ensures { result ≡ true
             → OfEach self.now prefix.now (λ a. Weighs self.now least a → IsBehindKept self.now a) }
@@ -87,8 +86,7 @@ impl<'a, 'k> Skipper<'a, 'k> {
         bar.is_above(least) || (bar.is_reached(least) && self.knows_next(prefix, &best.quality))
     }
 
-    /// Whether no candidate with a beginning that can be chosen and grants what is wished is of interest by what all of
-    /// them weigh at least by one of the floors.
+    /// By the floor by weight at a place.
     fn loses_by(&self, place: usize, prefix: &Prefix<'_>) -> bool
         ensures { result ≡ true → OfEach self.now prefix.now (LosesIfOpen self.now.search) }
     {
@@ -101,7 +99,7 @@ impl<'a, 'k> Skipper<'a, 'k> {
         self.is_behind_kept(prefix, least) || self.is_behind_aim(prefix, least)
     }
 
-    /// The same by any of the floors.
+    /// By any of the floors by weight.
     fn loses_by_weight(&self, prefix: &Prefix<'_>) -> bool
         ensures { result ≡ true → OfEach self.now prefix.now (LosesIfOpen self.now.search) }
     {
@@ -118,7 +116,7 @@ impl<'a, 'k> Skipper<'a, 'k> {
         false
     }
 
-    /// The same of the candidates with such an S1R, by one of the floors.
+    /// By the floor by weight at a place, of the candidates with such an S1R.
     fn loses_with(&self, place: usize, prefix: &Prefix<'_>, exchange: &Exchange<'_>) -> bool
         ensures { result ≡ true → OfEachWith self.now prefix.now exchange.now (LosesIfOpen self.now.search) }
     {
@@ -131,7 +129,7 @@ impl<'a, 'k> Skipper<'a, 'k> {
         self.is_behind_kept(prefix, least) || self.is_behind_aim(prefix, least)
     }
 
-    /// The same by any of the floors that counts the order of S1R.
+    /// By any of the floors that counts the order of S1R, of the candidates with such an S1R.
     fn loses_by_order(&self, prefix: &Prefix<'_>, exchange: &Exchange<'_>) -> bool
         ensures { result ≡ true → OfEachWith self.now prefix.now exchange.now (LosesIfOpen self.now.search) }
     {
