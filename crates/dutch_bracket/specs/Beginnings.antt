@@ -40,9 +40,9 @@ in_both w pair = w pair.0 + w pair.1
 abbrev pub free : (ℕ → ℕ) → Reached → Arrangement → ℕ
 free w reached b = sum_by w reached.seats - sum_by (in_both w) (all_pairs reached.seats b)
 
--- the pairs to make, and the downfloaters in all
-abbrev pub room : Reached → Shape → Arrangement → ℕ
-room reached shape b = (shape.pairs - length (all_pairs reached.seats b)) + (length reached.seats - 2 * shape.pairs)
+-- how many free players can be served at most: the pairs to make, and the downfloaters in all
+abbrev pub most_served : Reached → Shape → Arrangement → ℕ
+most_served reached shape b = (shape.pairs - length (all_pairs reached.seats b)) + (length reached.seats - 2 * shape.pairs)
 
 -- the lists that a beginning fixes
 abbrev pub lists_by : Filling → Arrangement → Arrangement

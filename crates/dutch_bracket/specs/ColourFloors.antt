@@ -14,7 +14,7 @@ use Rattle.dutch_bracket.specs.declared.colours_missed.Miss.TheVariants.{Wide, T
 use Rattle.dutch_bracket.specs.Quality.{one_if, misses, count_in, count_with_topscorers}
 use Rattle.dutch_bracket.specs.Reached.{Reached, frame_of, numbers_meet}
 use Rattle.dutch_bracket.specs.Seated.{seat_of}
-use Rattle.dutch_bracket.specs.Beginnings.{free, room}
+use Rattle.dutch_bracket.specs.Beginnings.{free, most_served}
 
 -- A.6: a preference that is absolute or strong
 abbrev pub is_firm : Strength → Bool
@@ -38,11 +38,11 @@ adds_top facts pair = count_with_topscorers facts (misses Wide) (pair ∷ []) + 
 -- how many of the free players whose preference is a colour are more than can be served: each pair to make serves one of them, and
 -- each downfloater needs no colour
 abbrev pub surplus : Facts → Reached → Shape → Arrangement → Colour → ℕ
-surplus facts reached shape b colour = free (wants facts colour) reached b - room reached shape b
+surplus facts reached shape b colour = free (wants facts colour) reached b - most_served reached shape b
 
 -- the same of firm preferences
 abbrev pub surplus_firm : Facts → Reached → Shape → Arrangement → Colour → ℕ
-surplus_firm facts reached shape b colour = free (wants_firmly facts colour) reached b - room reached shape b
+surplus_firm facts reached shape b colour = free (wants_firmly facts colour) reached b - most_served reached shape b
 
 -- C.10: how many more than those of its pairs miss in each arrangement with a beginning
 abbrev pub more_missed : Facts → Reached → Shape → Arrangement → ℕ

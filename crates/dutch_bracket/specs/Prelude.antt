@@ -28,7 +28,7 @@ unfoldable pub use Rattle.dutch_bracket.specs.Brackets.{best_of_shape, candidate
 pub use Rattle.dutch_bracket.specs.Groups.{IsScoregroup, NeighboursDiffer, front_with, group_score}
 pub use Rattle.dutch_bracket.specs.SeatLaws.{equal_sym, numbers_meet_sym, seats_meet_sym}
 pub use Rattle.dutch_bracket.specs.Eligible.{HasCandidate, Lists}
-pub use Rattle.dutch_bracket.specs.Beginnings.{HasFewPairs, HasPairsOf, LacksEndOfS2r, fixed, fixed_lists, free, has_s1, in_both, is_of_shape, lists_by, room, seated_so}
+pub use Rattle.dutch_bracket.specs.Beginnings.{HasFewPairs, HasPairsOf, LacksEndOfS2r, fixed, fixed_lists, free, has_s1, in_both, is_of_shape, lists_by, most_served, seated_so}
 pub use Rattle.dutch_bracket.specs.ColourFloors.{adds_top, beyond, collide, is_firm, more_missed, more_missed_strong, pool, residents_down, surplus, surplus_firm, waiting, wants, wants_firmly}
 unfoldable pub use Rattle.dutch_bracket.specs.ColourFloors.{lonely, lonely_first, lonely_second, suits}
 pub use Rattle.dutch_bracket.specs.PsdFloors.{IsUniform, floor_psd, is_uniform, repeated}

@@ -237,7 +237,7 @@ impl Quality {
 /// Where a quality is worked out, filled anew for each candidate and each beginning: its players by seats, its items,
 /// and those with whom S1R can still be paired, by number.
 #[derive(Default, Drop)]
-pub struct Room {
+pub struct QualityLists {
     pub seated: Seated,
     pub quality: Quality,
     pub pool: Numbers,
@@ -272,7 +272,7 @@ pub fn fill_seated(field: &Field, candidate: &Seated, quality: &mut Quality)
 }
 
 /// Fills the quality of a candidate of a bracket with these seats, for the value of the next bracket that it has.
-pub fn fill_quality(field: &Field, seats: &[u16], candidate: &Candidate, room: &mut Room)
+pub fn fill_quality(field: &Field, seats: &[u16], candidate: &Candidate, room: &mut QualityLists)
     requires { IsCandidate candidate.now }
     ensures { quality_in room.new.quality
         ≡ quality_with field.now (by_seats field.now seats.now candidate.now) (next_in (quality_in room.old.quality)) }

@@ -18,7 +18,7 @@ use crate::outlook::{Outlook, is_flat, leaves_first};
 use dutch_bracket::differences::fill_psd;
 use dutch_bracket::fixed_lists::{FixedLists, fill_fixed, fixed_lists, has_s1, is_of_shape};
 use dutch_bracket::psd_floor::{FlatShape, is_uniform};
-use dutch_bracket::quality::{NextValue, Quality, Room, fill_others};
+use dutch_bracket::quality::{NextValue, Quality, QualityLists, fill_others};
 use dutch_bracket::seated::Seated;
 use dutch_bracket::shaped::ShapedBracket;
 use dutch_order::{Budget, Filling, LIMIT, Numbers, Prefix, Shape, Stopped, numbered_from};
@@ -188,7 +188,7 @@ impl<'a> Floors<'a> {
     }
 
     /// How many more miss than in the pairs that are fixed (C.10).
-    fn more_by(&self, prefix: &Prefix<'_>, room: &mut Room) -> usize
+    fn more_by(&self, prefix: &Prefix<'_>, room: &mut QualityLists) -> usize
         requires pairs { HasFewPairs (fixed_lists prefix.now) }
         requires seated { room.old.seated ≡ fixed self.now.facts self.now.reached (fixed_lists prefix.now) }
         ensures value { result ≡ more_by prefix.now.filling self.now (fixed_lists prefix.now) }
@@ -221,7 +221,7 @@ impl<'a> Floors<'a> {
 
     /// Fills the floor by S1 and by what is known by seats, where so many more miss (C.10).
     #[tactic(auto, unfolding(dutch_bracket::specs::Floors::floor_over, dutch_bracket::specs::Quality::quality_with, dutch_bracket::specs::QualityIn::with_others))]
-    fn fill_over(&self, s1: &[u16], more: usize, room: &mut Room)
+    fn fill_over(&self, s1: &[u16], more: usize, room: &mut QualityLists)
         requires few { length s1.now ≤ self.now.shape.mdps }
         requires more { more ≤ LIMIT }
         ensures { quality_in room.new.quality ≡ floor_by self.now s1.now more room.old.seated }
@@ -254,7 +254,7 @@ impl<'a> Floors<'a> {
 
     /// Fills what is known by counts behind a beginning, if something is.
     #[tactic(auto, unfolding(crate::specs::FloorOf::floor_of))]
-    fn fill_known(&self, prefix: &Prefix<'_>, room: &mut Room) -> bool
+    fn fill_known(&self, prefix: &Prefix<'_>, room: &mut QualityLists) -> bool
         ensures known { result ≡ is_known self.now prefix.now }
         ensures of { IsOf self.now.facts self.now.reached }
         ensures outlook { IsOutlook self.now.facts self.now.reached self.now.lower self.now.shape self.now.outlook }
@@ -270,7 +270,7 @@ impl<'a> Floors<'a> {
     }
 
     /// Fills a quality that no candidate with a beginning is better than. A no says that none is known.
-    pub fn floor(&self, prefix: &Prefix<'_>, room: &mut Room) -> bool
+    pub fn floor(&self, prefix: &Prefix<'_>, room: &mut QualityLists) -> bool
         ensures { result ≡ true → NoneBeats self.now prefix.now (quality_in room.new.quality) }
     {
         self.fill_known(prefix, room)
@@ -290,7 +290,7 @@ impl<'a> Floors<'a> {
             s1r: &[],
             s2r: &[],
         };
-        let mut room = Room::default();
+        let mut room = QualityLists::default();
         fill_fixed(self.shaped.context, &lists, &mut room.seated);
         let more = more_missed(
             self.shaped.context,

@@ -12,7 +12,7 @@ ghost use Rattle.dutch_order.specs.declared.bracket.Shape.{Shape};
 
 use crate::pass::Search;
 use dutch_bracket::greatest::Lister;
-use dutch_bracket::quality::{Quality, Room};
+use dutch_bracket::quality::{Quality, QualityLists};
 use dutch_bracket::reached::ByNumber;
 use dutch_bracket::wish::Wish;
 use dutch_order::{Budget, Stopped};
@@ -20,7 +20,7 @@ use dutch_order::{Budget, Stopped};
 /// Where the questions of a pass are worked out, and what its guide notes of a walk from one question to the next.
 #[derive(Default, Drop)]
 pub struct Workroom<N: Drop> {
-    pub room: Room,
+    pub room: QualityLists,
     pub notes: N,
 }
 

@@ -19,7 +19,7 @@ ghost use Rattle.dutch_order.specs.Prelude.{Spends};
 use crate::guide::{Guide, Workroom};
 use dutch_bracket::context::Context;
 use dutch_bracket::fault::PairFault;
-use dutch_bracket::quality::{NextValue, Quality, Room, fill_quality};
+use dutch_bracket::quality::{NextValue, Quality, QualityLists, fill_quality};
 use dutch_bracket::reached::{BracketKind, Reached, Seats, copied, push_all};
 use dutch_choice::finder::Best;
 use dutch_order::{Budget, Candidate, LIMIT, Numbers, Stopped};
@@ -207,7 +207,7 @@ impl<'a> LookAhead<'a> {
     fn fill_quality(
         &mut self,
         candidate: &Candidate,
-        room: &mut Room,
+        room: &mut QualityLists,
         budget: &mut Budget,
     ) -> Result<(), Stopped>
         requires candidate { IsOfBracket self.old.facts self.old.reached candidate.now }

@@ -13,13 +13,13 @@ ghost use Rattle.dutch_search.specs.Skips.{context_of};
 use crate::bars::Skipper;
 use crate::last_beginning::LastBeginning;
 use dual::Wide;
-use dutch_bracket::quality::{Quality, Room};
+use dutch_bracket::quality::{Quality, QualityLists};
 use dutch_order::{Bound, Exchange, Prefix};
 use dutch_passes::{Workroom, is_barred, loses};
 
 impl<'a, 'k> Skipper<'a, 'k> {
     /// Fills a quality that no candidate with a beginning is better than. No says that none is known.
-    fn fill_floor(&self, prefix: &Prefix<'_>, room: &mut Room) -> bool
+    fn fill_floor(&self, prefix: &Prefix<'_>, room: &mut QualityLists) -> bool
         ensures { result ≡ true → OfEach self.now prefix.now
             (λ a. is_better (quality_here (context_of self.now) a) (quality_in room.new.quality) ≡ false) }
     {
@@ -35,7 +35,7 @@ impl<'a, 'k> Skipper<'a, 'k> {
     }
 
     #[tactic(auto, using(dutch_passes::proofs::AimLemmas::floor_loses))]
-    fn loses_by_counts(&self, prefix: &Prefix<'_>, room: &mut Room) -> bool
+    fn loses_by_counts(&self, prefix: &Prefix<'_>, room: &mut QualityLists) -> bool
         ensures { result ≡ true → OfEach self.now prefix.now (Loses self.now.search) }
     {
         if !self.fill_floor(prefix, room) {

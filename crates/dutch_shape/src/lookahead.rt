@@ -25,7 +25,7 @@ use dutch_bracket::differences::fill_psd;
 use dutch_bracket::few_steps::decided_in_few_steps;
 use dutch_bracket::greatest::{Legal, Lister, Shapes, greatest_shape};
 use dutch_bracket::psd_floor::{FlatShape, is_uniform};
-use dutch_bracket::quality::{NextValue, Quality, Room, fill_quality};
+use dutch_bracket::quality::{NextValue, Quality, QualityLists, fill_quality};
 use dutch_bracket::reached::{BracketKind, ByNumber, Reached, push_all};
 use dutch_bracket::seated::{by_seats, seats_of};
 use dutch_order::{Budget, Candidate, Numbers, Shape, Stopped, numbered_from};
@@ -256,7 +256,7 @@ pub fn quality(
         next,
     };
     let value = next_value(&above, candidate, budget).ok()?;
-    let mut room = Room::default();
+    let mut room = QualityLists::default();
     room.quality.put_next(value.pairs, &value.psd);
     fill_quality(field, reached.seats(), candidate, &mut room);
     Some(room.quality)

@@ -15,7 +15,7 @@ ghost use Rattle.dutch_sequence.specs.declared.numbers.TheConstants.{LIMIT};
 use crate::scale::Scale;
 use dual::Wide;
 use dutch_bracket::context::Context;
-use dutch_bracket::quality::{Quality, Room, fill_seated};
+use dutch_bracket::quality::{Quality, QualityLists, fill_seated};
 use dutch_bracket::seated::{Pair, Seated, difference_down};
 use dutch_order::Rule;
 use dutch_player::Field;
@@ -128,7 +128,7 @@ fn weigh(field: &Field, scale: &Scale, seated: &Seated, quality: &mut Quality) -
 
 impl Weigher<'_> {
     /// What a pair weighs alone; none if it is 2^512 or more.
-    fn pair(&self, a: u16, b: u16, room: &mut Room) -> Option<Wide>
+    fn pair(&self, a: u16, b: u16, room: &mut QualityLists) -> Option<Wide>
         ensures { SomeIff result (pair_weight self.now a b < 2 ^ 512) (pair_weight self.now a b) }
     {
         seat_pair(self.context, a, b, &mut room.seated);
@@ -137,7 +137,7 @@ impl Weigher<'_> {
     }
 
     /// What a downfloater weighs alone; none if it is 2^512 or more.
-    fn one_down(&self, a: u16, room: &mut Room) -> Option<Wide>
+    fn one_down(&self, a: u16, room: &mut QualityLists) -> Option<Wide>
         ensures { SomeIff result (down_weight self.now a < 2 ^ 512) (down_weight self.now a) }
     {
         seat_one_down(self.context, a, &mut room.seated);
@@ -152,7 +152,7 @@ impl Weigher<'_> {
     }
 
     /// Puts what a pair weighs into a table, and whether the two may meet; no if it weighs 2^512 or more.
-    fn put_pair(&self, pair: Pair, room: &mut Room, table: &mut [PairWeight]) -> bool
+    fn put_pair(&self, pair: Pair, room: &mut QualityLists, table: &mut [PairWeight]) -> bool
         requires first { IsNumber self.now.reached pair.0 }
         requires second { IsNumber self.now.reached pair.1 }
         requires room { HasPairs self.now table.old }
@@ -172,7 +172,7 @@ impl Weigher<'_> {
     }
 
     /// Puts what the pairs of a number weigh into a table.
-    fn put_row(&self, a: u16, room: &mut Room, table: &mut [PairWeight]) -> bool
+    fn put_row(&self, a: u16, room: &mut QualityLists, table: &mut [PairWeight]) -> bool
         requires number { IsNumber self.now.reached a }
         requires room { HasPairs self.now table.old }
         requires told { TellsPairsUpto self.now table.old (place_in self.now a 1) }
@@ -188,7 +188,7 @@ impl Weigher<'_> {
     }
 
     /// Puts what all pairs weigh into a table.
-    fn put_pairs(&self, room: &mut Room, table: &mut [PairWeight]) -> bool
+    fn put_pairs(&self, room: &mut QualityLists, table: &mut [PairWeight]) -> bool
         requires { HasPairs self.now table.old }
         ensures told { result ≡ true → TellsPairs self.now table.new }
         ensures heavy { result ≡ false → IsHeavy self.now (2 ^ 512) }
@@ -202,7 +202,7 @@ impl Weigher<'_> {
     }
 
     /// Puts what all downfloaters weigh into a table.
-    fn put_down(&self, room: &mut Room, table: &mut [Wide]) -> bool
+    fn put_down(&self, room: &mut QualityLists, table: &mut [Wide]) -> bool
         requires { HasAll self.now table.old }
         ensures told { result ≡ true → TellsDown self.now table.new }
         ensures heavy { result ≡ false → IsHeavy self.now (2 ^ 512) }
@@ -303,7 +303,7 @@ impl BelowWeigher<'_> {
 fn weigh_pairs(
     alloc: Global,
     weigher: &Weigher<'_>,
-    room: &mut Room,
+    room: &mut QualityLists,
 ) -> Result<Option<Vec<PairWeight>>, AllocError>
     ensures { IfOk result (λ weighed. MatchOption weighed (IsHeavy weigher.now (2 ^ 512))
         (λ table. HasPairs weigher.now table.items × TellsPairs weigher.now table.items)) }
@@ -325,7 +325,7 @@ fn weigh_pairs(
 fn weigh_down(
     alloc: Global,
     weigher: &Weigher<'_>,
-    room: &mut Room,
+    room: &mut QualityLists,
 ) -> Result<Option<Vec<Wide>>, AllocError>
     ensures { IfOk result (λ weighed. MatchOption weighed (IsHeavy weigher.now (2 ^ 512))
         (λ table. HasAll weigher.now table.items × TellsDown weigher.now table.items)) }
@@ -373,7 +373,7 @@ impl<'a> Weighing<'a> {
         ensures { let weighed = weighed_on context.now scale
             in IfOk result (λ read. MatchOption read (IsHeavy weighed (2 ^ 512)) (λ weighing. weighing ≡ weighed)) }
     {
-        let mut room = Room::default();
+        let mut room = QualityLists::default();
         let weigher = Weigher {
             context: &*context,
             scale: &scale,
