@@ -9,7 +9,7 @@ ghost use Rattle.command_line.specs.ExplainAnswers.{TellsPaired, about_text, fro
 ghost use Rattle.replies.specs.Prelude.{answer_of, question_fault, seen_before};
 
 use crate::bracket_lines::put_stages;
-use crate::instead::{Paired, Question, instead};
+use crate::instead::{AskedInSteps, Paired, instead};
 use crate::not_paired::{no_pairing_because, undecided};
 use dutch_pair::{AllStages, stages};
 use dutch_player::{Field, FieldFault};
@@ -123,7 +123,7 @@ fn tell_paired(
         Some(number) => {
             let asked = Asked { player, number };
             let steps = options.steps;
-            with_instead(alloc, text, round, Question { asked, steps })
+            with_instead(alloc, text, round, AskedInSteps { asked, steps })
         }
         None => Ok(Reply::bytes(Status::Done, text.into_bytes())),
     }
@@ -134,14 +134,14 @@ fn with_instead(
     alloc: Global,
     text: Page,
     round: &Paired<'_>,
-    question: Question,
+    asking: AskedInSteps,
 ) -> Result<Reply, AllocError>
-    requires front { text ≡ front_text round.now question.asked.player }
+    requires front { text ≡ front_text round.now asking.asked.player }
     requires stages { AllByRecursion (IsStage round.now.telling.facts) round.now.stages }
-    ensures { IfOk result (λ reply. IsToldBehind round.now question.steps question.asked.player question.asked.number
+    ensures { IfOk result (λ reply. IsToldBehind round.now asking.steps asking.asked.player asking.asked.number
         (answer_of reply)) }
 {
-    instead(alloc, round, question)?.behind(text.into_bytes())
+    instead(alloc, round, asking)?.behind(text.into_bytes())
 }
 
 // Puts what is told of a player: their line and their brackets, or that they are absent.

@@ -52,7 +52,7 @@ impl<'a> Model for Paired<'a> {
 /// What is asked: by whom and for whom, by their start ranks, for the bye by 0; and in how many steps a candidate may
 /// be searched for.
 #[derive(Clone, Copy)]
-pub struct Question {
+pub struct AskedInSteps {
     pub asked: Asked,
     pub steps: u64,
 }
@@ -64,19 +64,19 @@ pub struct Question {
 ///
 /// # Errors
 /// Memory was refused.
-pub fn instead(alloc: Global, round: &Paired<'_>, question: Question) -> Result<Reply, AllocError>
+pub fn instead(alloc: Global, round: &Paired<'_>, asking: AskedInSteps) -> Result<Reply, AllocError>
     requires { AllByRecursion (IsStage round.now.telling.facts) round.now.stages }
-    ensures { IfOk result (λ reply. AnswersInstead round.now question.asked.player question.asked.number
-        question.steps (answer_of reply)) }
+    ensures { IfOk result (λ reply. AnswersInstead round.now asking.asked.player asking.asked.number
+        asking.steps (answer_of reply)) }
 {
-    let (telling, asked) = (round.telling, question.asked);
+    let (telling, asked) = (round.telling, asking.asked);
     let Some(player) = telling.field.seat_with(asked.player) else {
         return stands_against(alloc, telling, asked, Obstacle::Absent);
     };
     let Some(rival) = rival_of(telling.field, asked.number) else {
         return stands_against(alloc, telling, asked, Obstacle::Absent);
     };
-    of_meeting(alloc, round, Meeting { player, rival }, question)
+    of_meeting(alloc, round, Meeting { player, rival }, asking)
 }
 
 // The same where both are present.
@@ -84,19 +84,19 @@ fn of_meeting(
     alloc: Global,
     round: &Paired<'_>,
     meeting: Meeting,
-    question: Question,
+    asking: AskedInSteps,
 ) -> Result<Reply, AllocError>
     requires { AllByRecursion (IsStage round.now.telling.facts) round.now.stages }
-    ensures { IfOk result (λ reply. AnswersPresent round.now.telling question.steps question.asked.player
-        question.asked.number (obstacle_of round.now meeting.player meeting.rival)
+    ensures { IfOk result (λ reply. AnswersPresent round.now.telling asking.steps asking.asked.player
+        asking.asked.number (obstacle_of round.now meeting.player meeting.rival)
         (decided_in round.now.stages meeting.player meeting.rival) (answer_of reply)) }
 {
     let telling = round.telling;
     if let Some(obstacle) = obstacle_of(round, meeting) {
-        return stands_against(alloc, telling, question.asked, obstacle);
+        return stands_against(alloc, telling, asking.asked, obstacle);
     }
     match decided_in(telling.field, round.stages, meeting) {
-        Some(decided) => by_wish(alloc, telling, decided, question),
+        Some(decided) => by_wish(alloc, telling, decided, asking),
         None => Ok(Reply::made(Status::Done, String::new(alloc))),
     }
 }
@@ -240,19 +240,19 @@ fn by_wish(
     alloc: Global,
     telling: &Telling<'_>,
     decided: (&Stage, Wish),
-    question: Question,
+    asking: AskedInSteps,
 ) -> Result<Reply, AllocError>
     requires { IsStage telling.now.facts decided.0.now }
-    ensures { IfOk result (λ reply. AnswersWish telling.now question.steps question.asked.player question.asked.number
+    ensures { IfOk result (λ reply. AnswersWish telling.now asking.steps asking.asked.player asking.asked.number
         decided.entry.0.now decided.entry.1 (grants decided.entry.1 decided.entry.0.now.candidate.lists)
         (answer_of reply)) }
 {
     if decided.1.is_granted(decided.0.candidate()) {
         let mut text = Page::new(alloc);
-        put_granted(&mut text, telling, question.asked)?;
+        put_granted(&mut text, telling, asking.asked)?;
         return Ok(Reply::bytes(Status::Done, text.into_bytes()));
     }
-    by_search(alloc, telling, decided, question)
+    by_search(alloc, telling, decided, asking)
 }
 
 // What a search for a candidate that grants a wish in a bracket finds.
@@ -261,15 +261,15 @@ fn by_search(
     alloc: Global,
     telling: &Telling<'_>,
     decided: (&Stage, Wish),
-    question: Question,
+    asking: AskedInSteps,
 ) -> Result<Reply, AllocError>
     requires { IsStage telling.now.facts decided.0.now }
-    ensures { IfOk result (λ reply. IsSearched telling.now question.steps question.asked.player question.asked.number
+    ensures { IfOk result (λ reply. IsSearched telling.now asking.steps asking.asked.player asking.asked.number
         decided.entry.0.now decided.entry.1 (answer_of reply)) }
 {
     let (stage, wish) = decided;
-    let found = best_instead::<WithFloors>(alloc, telling.field, stage, wish, question.steps)?;
-    tell(alloc, telling, question.asked, (stage, &found))
+    let found = best_instead::<WithFloors>(alloc, telling.field, stage, wish, asking.steps)?;
+    tell(alloc, telling, asking.asked, (stage, &found))
 }
 
 // What is told of what a search in a bracket found.
