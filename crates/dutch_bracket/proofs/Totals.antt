@@ -5,7 +5,7 @@ use Rattle.std.proofs.lemmas.Bool.{cases_Bool, eqb-true, eq-eqb}
 use Rattle.std.proofs.lemmas.List.Sums.{sum_by-cons}
 use Rattle.std.proofs.lemmas.List.Sorted.{IsPermutation-refl, IsPermutation-cons, IsPermutation-middle, IsPermutation-sym, IsPermutation-trans}
 pub use Rattle.dutch_sequence.specs.Stages.{total}
-pub use Rattle.dutch_sequence.proofs.Reach.{total-append as total_append}
+pub use Rattle.dutch_sequence.proofs.DifferenceRanges.{total-append as total_append}
 
 -- where each weighs one, it is how many there are
 pub total_length : (xs : List ℕ) → total (λ x. 1) xs ≡ length xs

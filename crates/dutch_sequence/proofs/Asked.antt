@@ -17,7 +17,7 @@ use Rattle.dutch_sequence.proofs.StageSets.{Exchange, path-exchange, stage-hits}
 use Rattle.dutch_sequence.proofs.HalfWalks.{Climbs, start-on, start-second}
 use Rattle.dutch_sequence.proofs.LimboSets.{drop_front}
 use Rattle.dutch_sequence.proofs.Members.{length-numbers, member-filter, member-none, numbers-append}
-use Rattle.dutch_sequence.proofs.Reach.{take_front_of}
+use Rattle.dutch_sequence.proofs.DifferenceRanges.{take_front_of}
 use Rattle.dutch_sequence.proofs.Skipping.{all-append, all-members}
 
 same-head : (x y : ℕ) (xs ys : List ℕ) → x ∷ xs ≡ y ∷ ys → x ≡ y

@@ -13,7 +13,7 @@ use Rattle.dutch_sequence.proofs.Sets.{in-sorted, sorted-in, Ascends-map}
 use Rattle.dutch_sequence.proofs.Hinted.{hinted-ahead, hinted-hits}
 use Rattle.dutch_sequence.proofs.FromOn.{is_late, from_on-filter, order-same, admitted-length, admitted-reaches}
 use Rattle.dutch_sequence.proofs.ExchangeSets.{set-in_pool, exchange-of, places-of_exchange}
-use Rattle.dutch_sequence.proofs.Reach.{difference-least, difference-greatest}
+use Rattle.dutch_sequence.proofs.DifferenceRanges.{difference-least, difference-greatest}
 use Rattle.dutch_sequence.proofs.StageSets.{Climbs-length, Exchange, path-set, no_difference, path-exchange, stage-exchange, stage-hits, exchange-admitted, key-at, stage-order, beyond_above, below_above, stages-in, in-stages, stages-ascend, in-sizes, size-exchange, sizes-ascend, sizes-sorted}
 use Rattle.dutch_sequence.proofs.StageMoves.{sets-low}
 use Rattle.dutch_sequence.proofs.ByKeys.{is_before, Ascends, turned_in, exchange_key}

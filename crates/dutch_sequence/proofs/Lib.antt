@@ -16,7 +16,7 @@ pub mod Totals
 pub mod StageMoves
 pub mod Members
 pub mod ExchangeSets
-pub mod Reach
+pub mod DifferenceRanges
 pub mod StageSets
 pub mod LateSets
 pub mod Skipping

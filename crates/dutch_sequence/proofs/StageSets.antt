@@ -17,7 +17,7 @@ use Rattle.dutch_sequence.proofs.Sets.{subsets-climb, subsets-map, subsets-ascen
 use Rattle.dutch_sequence.proofs.ExchangeSets.{v, v-raises, pool-is, set-is, set-in_pool, exchange_key-is, exchange-of}
 use Rattle.dutch_sequence.proofs.Moves.{lower-assoc}
 use Rattle.dutch_sequence.proofs.StageMoves.{sets-first}
-use Rattle.dutch_sequence.proofs.Reach.{out-falls, inn-raises, difference-least, difference-greatest, outs-fit, ins-fit, ins-exact, take_front_of}
+use Rattle.dutch_sequence.proofs.DifferenceRanges.{out-falls, inn-raises, difference-least, difference-greatest, outs-fit, ins-fit, ins-exact, take_front_of}
 use Rattle.dutch_sequence.proofs.ByKeys.{is_before, Ascends, turned_in, exchange_key}
 use Rattle.dutch_sequence.proofs.Comparing.{exchange_cmp-is, under_sum}
 

@@ -16,14 +16,14 @@ use crate::sums::{Sides, run_of, total_of, value_at};
 
 /// The differences of the sums that an exchange can still have.
 #[derive(Clone, Copy)]
-struct Reach {
+struct DifferenceRange {
     least: usize,
     greatest: usize,
 }
 
 /// What can still come if a place is tried for a number moved out.
 #[tactic(auto, unfolding(crate::specs::Stages::least_at, crate::specs::Stages::greatest_at))]
-fn reach_out(stage: &ExchangeStage<'_>, path: &[u16], place: usize) -> Reach
+fn range_out(stage: &ExchangeStage<'_>, path: &[u16], place: usize) -> DifferenceRange
     requires opened { length path.now < stage.now.size }
     requires walked { AllByRecursion (λ place. place < stage.now.k) path.now }
     requires room { place + (stage.now.size - 1 - length path.now) < stage.now.k }
@@ -40,7 +40,7 @@ fn reach_out(stage: &ExchangeStage<'_>, path: &[u16], place: usize) -> Reach
     let least_out = out + run_of(&sides, Side::Out, k - rest, rest);
     let least_in = run_of(&sides, Side::In, 0, size);
     let most_in = run_of(&sides, Side::In, pool.len() - k - size, size);
-    Reach {
+    DifferenceRange {
         least: least_in.saturating_sub(most_out),
         greatest: most_in.saturating_sub(least_out),
     }
@@ -48,7 +48,7 @@ fn reach_out(stage: &ExchangeStage<'_>, path: &[u16], place: usize) -> Reach
 
 /// What can still come if a place is tried for a number moved in.
 #[tactic(auto, unfolding(crate::specs::Stages::least_at, crate::specs::Stages::greatest_at))]
-fn reach_in(stage: &ExchangeStage<'_>, path: &[u16], place: usize) -> Reach
+fn range_in(stage: &ExchangeStage<'_>, path: &[u16], place: usize) -> DifferenceRange
     requires second { stage.now.size ≤ length path.now }
     requires opened { length path.now < stage.now.size + stage.now.size }
     requires walked_out { AllByRecursion (λ place. place < stage.now.k) (take stage.now.size path.now) }
@@ -69,7 +69,7 @@ fn reach_in(stage: &ExchangeStage<'_>, path: &[u16], place: usize) -> Reach
     let moved = total_of(&sides, Side::In, ins) + value_at(&sides, Side::In, place);
     let least_in = moved + run_of(&sides, Side::In, place + 1, rest);
     let most_in = moved + run_of(&sides, Side::In, pool.len() - k - rest, rest);
-    Reach {
+    DifferenceRange {
         least: least_in.saturating_sub(out),
         greatest: most_in.saturating_sub(out),
     }
@@ -91,7 +91,7 @@ pub struct ExchangeStage<'a> {
 
 /// What can still come if a place is tried in a stage.
 #[tactic(auto, unfolding(crate::specs::Halves::half_stop))]
-fn reach_of(stage: &ExchangeStage<'_>, path: &[u16], place: usize) -> Reach
+fn range_of(stage: &ExchangeStage<'_>, path: &[u16], place: usize) -> DifferenceRange
     requires opened { IsOpen (exchange_plan stage.now.pool.now stage.now.k stage.now.size stage.now.difference)
         path.now }
     requires tried { let plan = exchange_plan stage.now.pool.now stage.now.k stage.now.size stage.now.difference in
@@ -100,9 +100,9 @@ fn reach_of(stage: &ExchangeStage<'_>, path: &[u16], place: usize) -> Reach
     ensures greatest { result.greatest ≡ greatest_at stage.now.pool.now stage.now.k stage.now.size path.now place }
 {
     if path.len() < stage.size {
-        reach_out(stage, path, place)
+        range_out(stage, path, place)
     } else {
-        reach_in(stage, path, place)
+        range_in(stage, path, place)
     }
 }
 
@@ -134,15 +134,15 @@ impl<'a> Tree for ExchangeStage<'a> {
 
     #[tactic(auto, unfolding(crate::specs::Stages::within_reach))]
     fn admits(&self, path: &[u16], place: u16) -> bool {
-        let reach = reach_of(self, path, place as usize);
-        reach.least <= self.difference && self.difference <= reach.greatest
+        let range = range_of(self, path, place as usize);
+        range.least <= self.difference && self.difference <= range.greatest
     }
 
     #[tactic(auto, unfolding(crate::specs::Stages::beyond_reach))]
     fn beyond(&self, path: &[u16], place: u16) -> Option<usize> {
-        let reach = reach_of(self, path, place as usize);
-        if self.difference < reach.least {
-            Some(reach.least)
+        let range = range_of(self, path, place as usize);
+        if self.difference < range.least {
+            Some(range.least)
         } else {
             None
         }

@@ -4,7 +4,7 @@ use Rattle.dutch_sequence.specs.declared.exchange.Side.{Side}
 use Rattle.dutch_sequence.specs.declared.exchange.Side.TheVariants.{In, Out}
 use Rattle.dutch_sequence.specs.declared.numbers.TheConstants.{LIMIT}
 use Rattle.dutch_sequence.proofs.Asked.{told-room}
-use Rattle.dutch_sequence.proofs.Reach.{take_front_of}
+use Rattle.dutch_sequence.proofs.DifferenceRanges.{take_front_of}
 use Rattle.dutch_sequence.proofs.exchange.put_held_and_barred.Goals as goal
 
 -- what is told of both sides is no more than the pool has
