@@ -59,7 +59,7 @@ all-inserted P pair [] behind h all = (h, all)
 all-inserted P pair (p ∷ front) behind h all = (all.0, all-inserted P pair front behind h all.1)
 
 -- where a pair stands among others by its first member
-record Place (pair : ℕ × ℕ) (pairs : List (ℕ × ℕ)) : Type 0 where
+record Insertion (pair : ℕ × ℕ) (pairs : List (ℕ × ℕ)) : Type 0 where
   front : List (ℕ × ℕ)
   behind : List (ℕ × ℕ)
   parts : pairs ≡ front ++ behind
@@ -69,8 +69,8 @@ later_above : (low high : ℕ) (pairs : List (ℕ × ℕ)) → low < high → Al
 later_above low high [] h all = tt
 later_above low high (p ∷ pairs) h all = (let above : high < p.0 = all.0 in omega (arith, h, above), later_above low high pairs h all.1)
 
-place_behind : (pair p : ℕ × ℕ) (pairs : List (ℕ × ℕ)) → p.0 < pair.0 → AllByRecursion (λ (later : ℕ × ℕ). p.0 < later.0) pairs → Place pair pairs → Place pair (p ∷ pairs)
-place_behind pair p pairs h all later =
+insertion_behind : (pair p : ℕ × ℕ) (pairs : List (ℕ × ℕ)) → p.0 < pair.0 → AllByRecursion (λ (later : ℕ × ℕ). p.0 < later.0) pairs → Insertion pair pairs → Insertion pair (p ∷ pairs)
+insertion_behind pair p pairs h all later =
     record {
       front = p ∷ later.front;
       behind = later.behind;
@@ -78,12 +78,12 @@ place_behind pair p pairs h all later =
       ascend = (all-inserted (λ (later : ℕ × ℕ). p.0 < later.0) pair later.front later.behind h (subst (AllByRecursion (λ (later : ℕ × ℕ). p.0 < later.0)) later.parts all), later.ascend);
     }
 
-place_of : (pair : ℕ × ℕ) (pairs : List (ℕ × ℕ)) → FirstsAscend pairs → (IsIn pair.0 (players_in pairs) → ⊥) → Place pair pairs
-place_of pair [] ascend off = record { front = []; behind = []; parts = refl; ascend = (tt, tt) }
-place_of pair (p ∷ pairs) ascend off =
+insertion_of : (pair : ℕ × ℕ) (pairs : List (ℕ × ℕ)) → FirstsAscend pairs → (IsIn pair.0 (players_in pairs) → ⊥) → Insertion pair pairs
+insertion_of pair [] ascend off = record { front = []; behind = []; parts = refl; ascend = (tt, tt) }
+insertion_of pair (p ∷ pairs) ascend off =
     elim (cases_order p.0 pair.0) [
       | inl same ↦ absurd (off (inl (sym same)))
-      | inr (inl lower) ↦ place_behind pair p pairs lower ascend.0 (place_of pair pairs ascend.1 (λ m. off (inr (inr m))))
+      | inr (inl lower) ↦ insertion_behind pair p pairs lower ascend.0 (insertion_of pair pairs ascend.1 (λ m. off (inr (inr m))))
       | inr (inr higher) ↦
           record { front = []; behind = p ∷ pairs; parts = refl; ascend = ((higher, later_above pair.0 p.0 pairs higher ascend.0), ascend) }
     ]
@@ -112,24 +112,24 @@ module _ (frame : Frame) (shape : Shape) (pairs : List (ℕ × ℕ)) (form : IsI
   into_first low high =
       let off_first : IsIn pair.0 (players_in form.moved_down) → ⊥ =
       λ m. off (subst (IsIn pair.0) (sym (ap players_in form.parts ∙ players-append form.moved_down form.others)) (IsIn-front pair.0 (players_in form.moved_down) (players_in form.others) m)) in
-      let place = place_of pair form.moved_down form.moved_down_ascend off_first in
-      let front = place.front in
-      let behind = place.behind ++ form.others in
-      let parts : pairs ≡ front ++ behind = form.parts ∙ ap (λ ps. ps ++ form.others) place.parts ∙ append_assoc front place.behind form.others in
+      let insertion = insertion_of pair form.moved_down form.moved_down_ascend off_first in
+      let front = insertion.front in
+      let behind = insertion.behind ++ form.others in
+      let parts : pairs ≡ front ++ behind = form.parts ∙ ap (λ ps. ps ++ form.others) insertion.parts ∙ append_assoc front insertion.behind form.others in
       let grows = grown front behind parts in
       record {
         more = front ++ pair ∷ behind;
         inserted = record { front = front; behind = behind; before = parts; after = refl };
         in_form = record {
-          moved_down = front ++ pair ∷ place.behind;
+          moved_down = front ++ pair ∷ insertion.behind;
           others = form.others;
-          parts = sym (append_assoc front (pair ∷ place.behind) form.others);
+          parts = sym (append_assoc front (pair ∷ insertion.behind) form.others);
           count = grows.1;
-          moved_down_count = omega (arith, length-inserted pair front place.behind, ap length place.parts, form.moved_down_count);
-          of_moved_down = all-inserted (λ (p : ℕ × ℕ). IsMovedDown frame p.0 × IsResident frame p.1) pair front place.behind (low, high)
-              (subst (AllByRecursion (λ (p : ℕ × ℕ). IsMovedDown frame p.0 × IsResident frame p.1)) place.parts form.of_moved_down);
+          moved_down_count = omega (arith, length-inserted pair front insertion.behind, ap length insertion.parts, form.moved_down_count);
+          of_moved_down = all-inserted (λ (p : ℕ × ℕ). IsMovedDown frame p.0 × IsResident frame p.1) pair front insertion.behind (low, high)
+              (subst (AllByRecursion (λ (p : ℕ × ℕ). IsMovedDown frame p.0 × IsResident frame p.1)) insertion.parts form.of_moved_down);
           of_residents = form.of_residents;
-          moved_down_ascend = place.ascend;
+          moved_down_ascend = insertion.ascend;
           others_ascend = form.others_ascend;
           none_twice = grows.0;
         };
@@ -139,25 +139,25 @@ module _ (frame : Frame) (shape : Shape) (pairs : List (ℕ × ℕ)) (form : IsI
   into_others low high =
       let off_others : IsIn pair.0 (players_in form.others) → ⊥ =
       λ m. off (subst (IsIn pair.0) (sym (ap players_in form.parts ∙ players-append form.moved_down form.others)) (IsIn-back pair.0 (players_in form.moved_down) (players_in form.others) m)) in
-      let place = place_of pair form.others form.others_ascend off_others in
-      let front = form.moved_down ++ place.front in
-      let behind = place.behind in
-      let parts : pairs ≡ front ++ behind = form.parts ∙ ap (λ ps. form.moved_down ++ ps) place.parts ∙ sym (append_assoc form.moved_down place.front behind) in
+      let insertion = insertion_of pair form.others form.others_ascend off_others in
+      let front = form.moved_down ++ insertion.front in
+      let behind = insertion.behind in
+      let parts : pairs ≡ front ++ behind = form.parts ∙ ap (λ ps. form.moved_down ++ ps) insertion.parts ∙ sym (append_assoc form.moved_down insertion.front behind) in
       let grows = grown front behind parts in
       record {
         more = front ++ pair ∷ behind;
         inserted = record { front = front; behind = behind; before = parts; after = refl };
         in_form = record {
           moved_down = form.moved_down;
-          others = place.front ++ pair ∷ behind;
-          parts = append_assoc form.moved_down place.front (pair ∷ behind);
+          others = insertion.front ++ pair ∷ behind;
+          parts = append_assoc form.moved_down insertion.front (pair ∷ behind);
           count = grows.1;
           moved_down_count = form.moved_down_count;
           of_moved_down = form.of_moved_down;
-          of_residents = all-inserted (λ (p : ℕ × ℕ). IsResident frame p.0 × IsResident frame p.1) pair place.front behind (low, high)
-              (subst (AllByRecursion (λ (p : ℕ × ℕ). IsResident frame p.0 × IsResident frame p.1)) place.parts form.of_residents);
+          of_residents = all-inserted (λ (p : ℕ × ℕ). IsResident frame p.0 × IsResident frame p.1) pair insertion.front behind (low, high)
+              (subst (AllByRecursion (λ (p : ℕ × ℕ). IsResident frame p.0 × IsResident frame p.1)) insertion.parts form.of_residents);
           moved_down_ascend = form.moved_down_ascend;
-          others_ascend = place.ascend;
+          others_ascend = insertion.ascend;
           none_twice = grows.0;
         };
       }

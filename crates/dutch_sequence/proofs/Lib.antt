@@ -25,4 +25,4 @@ pub mod LeftOut
 pub mod Counts
 pub mod Gains
 pub mod Asked
-pub mod Places
+pub mod SearchStates

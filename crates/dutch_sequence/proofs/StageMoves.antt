@@ -2,7 +2,7 @@
 use Rattle.std.proofs.Common.{◌≡◌, ℕ, zero, suc, ◌+◌, ◌-◌, ◌<◌, ◌≤◌, Bool, true, false, nat_lt, nat_le, ◌⊎◌, List, [], ◌∷◌, ◌++◌, map, refl, sym, ◌∙◌, ap, append_assoc, arith, Option, Some, None, inl, inr, if◌then◌else◌}
 use Rattle.std.proofs.lemmas.Bool.{cases_Bool, ltb-true, ltb-false, leb-true, leb-false, lt-leb, le-leb}
 use Rattle.dutch_sequence.specs.Prelude.{ahead, hits, trials, lower, lowest, hinted, exchange_plan, set_of, stage_sets, stage_left, sets_of_stages, sets_of_sizes, trials_of_stages, trials_of_sizes, stages_of_sizes, least_difference, greatest_difference, most_exchanged, sets_ahead, trials_ahead, stages_ahead, is_next, following, sets_from, trials_from}
-use Rattle.dutch_sequence.specs.declared.exchange.Place.{Place}
+use Rattle.dutch_sequence.specs.declared.exchange.SearchState.{SearchState}
 
 pub lower-none : (o : Option ℕ) → lower o None ≡ o
 lower-none None = refl
@@ -280,9 +280,9 @@ module _ (pool : List ℕ) (k : ℕ) (hint : List ℕ) (size difference : ℕ) (
   trials-after = ap (trials_of_stages pool k (greatest_difference pool k size - difference) size (suc difference)) next
 
 -- a stage that is entered anew
-module _ (pool : List ℕ) (k : ℕ) (place : Place) (size difference : ℕ) (is_size : place.size ≡ size) (is_difference : place.difference ≡ difference) (no_hint : place.hint.items ≡ []) (no_path : place.descent.path.items ≡ []) (no_number : place.descent.number ≡ 0) (no_beyond : place.descent.beyond ≡ None) where
-  pub sets-entered : sets_from pool k place ≡ sets_ahead pool k [] size difference [] 0 None
+module _ (pool : List ℕ) (k : ℕ) (state : SearchState) (size difference : ℕ) (is_size : state.size ≡ size) (is_difference : state.difference ≡ difference) (no_hint : state.hint.items ≡ []) (no_path : state.descent.path.items ≡ []) (no_number : state.descent.number ≡ 0) (no_beyond : state.descent.beyond ≡ None) where
+  pub sets-entered : sets_from pool k state ≡ sets_ahead pool k [] size difference [] 0 None
   sets-entered = cc
 
-  pub trials-entered : trials_from pool k place ≡ trials_ahead pool k [] size difference [] 0 None
+  pub trials-entered : trials_from pool k state ≡ trials_ahead pool k [] size difference [] 0 None
   trials-entered = cc

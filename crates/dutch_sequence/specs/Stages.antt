@@ -4,7 +4,7 @@ use Rattle.std.specs.Prelude.{◌≡◌, ℕ, zero, suc, ◌+◌, ◌-◌, ◌�
 use Rattle.dutch_sequence.specs.Choices.{is_member, numbers_from}
 use Rattle.dutch_sequence.specs.Exchanged.{ExchangeClass}
 use Rattle.dutch_sequence.specs.Keys.{IsIn}
-use Rattle.dutch_sequence.specs.declared.exchange.Place.{Place}
+use Rattle.dutch_sequence.specs.declared.exchange.SearchState.{SearchState}
 use Rattle.dutch_sequence.specs.declared.exchange.Side.{Side}
 use Rattle.dutch_sequence.specs.declared.exchange.Side.TheVariants.{Out, In}
 use Rattle.dutch_sequence.specs.Trials.{Plan, hits, trials, lower, lowest, ahead}
@@ -220,29 +220,29 @@ module _ (pool : List ℕ) (k : ℕ) where
       (greatest_difference size - difference) + stages_of_sizes (most_exchanged - size) (suc size)
 
   -- what is known of what lies beyond a search's stage passes over no set: the same follow as if nothing were known
-  abbrev pub IsKnown : Place → Type 0
-  IsKnown place =
-      sets_of_stages (greatest_difference place.size - place.difference) place.size (suc place.difference) (beyond_all (hinted place.hint.items (exchange_plan place.size place.difference)) place.descent)
-      ≡ sets_of_stages (greatest_difference place.size - place.difference) place.size (suc place.difference) (Some 0)
+  abbrev pub IsKnown : SearchState → Type 0
+  IsKnown state =
+      sets_of_stages (greatest_difference state.size - state.difference) state.size (suc state.difference) (beyond_all (hinted state.hint.items (exchange_plan state.size state.difference)) state.descent)
+      ≡ sets_of_stages (greatest_difference state.size - state.difference) state.size (suc state.difference) (Some 0)
 
   -- each path to come is one of its stage
-  abbrev pub IsOwn : Place → Type 0
-  IsOwn place =
-      AllByRecursion (IsOfStage place.size place.difference)
-      (hits (ahead (hinted place.hint.items (exchange_plan place.size place.difference)) place.descent.path.items place.descent.number))
+  abbrev pub IsOwn : SearchState → Type 0
+  IsOwn state =
+      AllByRecursion (IsOfStage state.size state.difference)
+      (hits (ahead (hinted state.hint.items (exchange_plan state.size state.difference)) state.descent.path.items state.descent.number))
 
   -- where a search may stand: so many can be exchanged; its path is one of its stage; no set is passed over, and each path to come is
   -- one of its stage
-  abbrev pub IsPlace : Place → Type 0
-  IsPlace place =
-      (place.size ≤ k) × (place.size ≤ length pool - k)
-      × Stands (hinted place.hint.items (exchange_plan place.size place.difference)) place.descent.path.items
-      × IsKnown place × IsOwn place
+  abbrev pub IsSearchState : SearchState → Type 0
+  IsSearchState state =
+      (state.size ≤ k) × (state.size ≤ length pool - k)
+      × Stands (hinted state.hint.items (exchange_plan state.size state.difference)) state.descent.path.items
+      × IsKnown state × IsOwn state
 
   -- the sets to come from where it stands
-  abbrev pub sets_from : Place → List (List ℕ)
-  sets_from place = sets_ahead place.hint.items place.size place.difference place.descent.path.items place.descent.number place.descent.beyond
+  abbrev pub sets_from : SearchState → List (List ℕ)
+  sets_from state = sets_ahead state.hint.items state.size state.difference state.descent.path.items state.descent.number state.descent.beyond
 
   -- and the trials
-  abbrev pub trials_from : Place → ℕ
-  trials_from place = trials_ahead place.hint.items place.size place.difference place.descent.path.items place.descent.number place.descent.beyond
+  abbrev pub trials_from : SearchState → ℕ
+  trials_from state = trials_ahead state.hint.items state.size state.difference state.descent.path.items state.descent.number state.descent.beyond

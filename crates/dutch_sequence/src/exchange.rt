@@ -22,7 +22,7 @@ ghost use Rattle.dutch_sequence.specs.Choices.{GoesOn, subsets, from_on};
 ghost use Rattle.dutch_sequence.specs.Sides.{count_of};
 ghost use Rattle.dutch_sequence.specs.Stages.{IdleAt, barred_numbers, held_numbers, in_limit, exchange_plan};
 ghost use Rattle.dutch_sequence.specs.Stages.{is_fixed, out_limit, fixed_numbers};
-ghost use Rattle.dutch_sequence.specs.Stages.{IsPlace, sets_from, trials_from, stages_ahead, set_of, kept_of, value_of};
+ghost use Rattle.dutch_sequence.specs.Stages.{IsSearchState, sets_from, trials_from, stages_ahead, set_of, kept_of, value_of};
 ghost use Rattle.dutch_sequence.specs.Stages.{following, out_places, in_places, exchange_path, exchange_difference};
 ghost use Rattle.dutch_sequence.specs.Exchange.{exchanges};
 ghost use Rattle.dutch_sequence.specs.Keys.{IsIn};
@@ -73,14 +73,14 @@ fn following_of(difference: usize, greatest: usize, beyond: Option<usize>) -> Op
 
 /// Where a search of exchanges stands, and the path at which its stage began, if it was not new.
 #[derive(Drop)]
-struct Place {
+struct SearchState {
     size: usize,
     difference: usize,
     hint: Path,
     descent: Descent,
 }
 
-impl Place {
+impl SearchState {
     /// Begins a stage anew.
     fn enter(&mut self, size: usize, difference: usize)
         ensures size { self.new.size ≡ size }
@@ -128,51 +128,51 @@ fn in_places(sides: &Sides<'_>, set: &[u16]) -> Path
 }
 
 /// Begins a search anew at a set: in the set's stage, and no difference above the set's is passed over.
-fn enter_at(sides: &Sides<'_>, set: &[u16], place: &mut Place)
-    ensures size { place.new.size ≡ length (out_places sides.now.pool.now sides.now.k set.now) }
-    ensures difference { place.new.difference ≡ exchange_difference sides.now.pool.now sides.now.k set.now }
-    ensures hint { place.new.hint.items ≡ exchange_path sides.now.pool.now sides.now.k set.now }
-    ensures path { place.new.descent.path.items ≡ [] }
-    ensures number { place.new.descent.number ≡ first_hint (exchange_path sides.now.pool.now sides.now.k set.now) }
-    ensures beyond { place.new.descent.beyond ≡ Some (suc (exchange_difference sides.now.pool.now sides.now.k set.now)) }
+fn enter_at(sides: &Sides<'_>, set: &[u16], state: &mut SearchState)
+    ensures size { state.new.size ≡ length (out_places sides.now.pool.now sides.now.k set.now) }
+    ensures difference { state.new.difference ≡ exchange_difference sides.now.pool.now sides.now.k set.now }
+    ensures hint { state.new.hint.items ≡ exchange_path sides.now.pool.now sides.now.k set.now }
+    ensures path { state.new.descent.path.items ≡ [] }
+    ensures number { state.new.descent.number ≡ first_hint (exchange_path sides.now.pool.now sides.now.k set.now) }
+    ensures beyond { state.new.descent.beyond ≡ Some (suc (exchange_difference sides.now.pool.now sides.now.k set.now)) }
 {
-    place.hint = out_places(sides, set);
+    state.hint = out_places(sides, set);
     let ins = in_places(sides, set);
-    place.size = place.hint.len();
-    let out = total_of(sides, Side::Out, &place.hint);
-    place.difference = total_of(sides, Side::In, &ins).saturating_sub(out);
-    put_behind(&mut place.hint, &ins);
-    place.descent.restart(first_hint(&place.hint));
-    place.descent.beyond = Some(place.difference + 1);
+    state.size = state.hint.len();
+    let out = total_of(sides, Side::Out, &state.hint);
+    state.difference = total_of(sides, Side::In, &ins).saturating_sub(out);
+    put_behind(&mut state.hint, &ins);
+    state.descent.restart(first_hint(&state.hint));
+    state.descent.beyond = Some(state.difference + 1);
 }
 
 /// Goes on to the next stage, if there is one.
 #[tactic(auto, unfolding(crate::specs::Stages::stages_ahead))]
-fn next_stage(sides: &Sides<'_>, place: &mut Place) -> bool
-    requires spent { ahead (hinted place.old.hint.items
-        (exchange_plan sides.now.pool.now sides.now.k place.old.size place.old.difference)) place.old.descent.path.items
-        place.old.descent.number
+fn next_stage(sides: &Sides<'_>, state: &mut SearchState) -> bool
+    requires spent { ahead (hinted state.old.hint.items
+        (exchange_plan sides.now.pool.now sides.now.k state.old.size state.old.difference)) state.old.descent.path.items
+        state.old.descent.number
         ≡ [] }
-    requires standing { IsPlace sides.now.pool.now sides.now.k place.old }
-    ensures stands { IsPlace sides.now.pool.now sides.now.k place.new }
-    ensures sets { sets_from sides.now.pool.now sides.now.k place.new ≡ sets_from sides.now.pool.now sides.now.k place.old }
-    ensures trials { trials_from sides.now.pool.now sides.now.k place.new ≡ trials_from sides.now.pool.now sides.now.k place.old }
+    requires standing { IsSearchState sides.now.pool.now sides.now.k state.old }
+    ensures stands { IsSearchState sides.now.pool.now sides.now.k state.new }
+    ensures sets { sets_from sides.now.pool.now sides.now.k state.new ≡ sets_from sides.now.pool.now sides.now.k state.old }
+    ensures trials { trials_from sides.now.pool.now sides.now.k state.new ≡ trials_from sides.now.pool.now sides.now.k state.old }
     ensures nearer { result ≡ true
-        → stages_ahead sides.now.pool.now sides.now.k place.new.size place.new.difference
-        < stages_ahead sides.now.pool.now sides.now.k place.old.size place.old.difference }
-    ensures ended { result ≡ false → (sets_from sides.now.pool.now sides.now.k place.new ≡ []) × (trials_from sides.now.pool.now sides.now.k place.new ≡ 0) }
+        → stages_ahead sides.now.pool.now sides.now.k state.new.size state.new.difference
+        < stages_ahead sides.now.pool.now sides.now.k state.old.size state.old.difference }
+    ensures ended { result ≡ false → (sets_from sides.now.pool.now sides.now.k state.new ≡ []) × (trials_from sides.now.pool.now sides.now.k state.new ≡ 0) }
 {
     if let Some(next) = following_of(
-        place.difference,
-        greatest_of(sides, place.size),
-        place.descent.beyond,
+        state.difference,
+        greatest_of(sides, state.size),
+        state.descent.beyond,
     ) {
-        place.enter(place.size, next);
+        state.enter(state.size, next);
         return true;
     }
-    if place.size < sides.k.min(sides.pool.len() - sides.k) {
-        let size = place.size + 1;
-        place.enter(size, least_of(sides, size));
+    if state.size < sides.k.min(sides.pool.len() - sides.k) {
+        let size = state.size + 1;
+        state.enter(size, least_of(sides, size));
         return true;
     }
     false
@@ -180,19 +180,19 @@ fn next_stage(sides: &Sides<'_>, place: &mut Place) -> bool
 
 /// Goes on to the next set, whose path the descent then has, unless the budget or the search ends before it.
 #[tactic(auto, unfolding(crate::specs::Stages::trials_ahead))]
-fn next_set(sides: &Sides<'_>, place: &mut Place, budget: &mut Budget) -> Drawn
-    requires standing { IsPlace sides.now.pool.now sides.now.k place.old }
-    ensures stands { IsPlace sides.now.pool.now sides.now.k place.new }
+fn next_set(sides: &Sides<'_>, state: &mut SearchState, budget: &mut Budget) -> Drawn
+    requires standing { IsSearchState sides.now.pool.now sides.now.k state.old }
+    ensures stands { IsSearchState sides.now.pool.now sides.now.k state.new }
     ensures answer { MatchDrawn result
-        ((sets_from sides.now.pool.now sides.now.k place.old
-        ≡ set_of sides.now.pool.now sides.now.k place.new.size place.new.descent.path.items ∷ sets_from sides.now.pool.now sides.now.k place.new)
-        × (length place.new.descent.path.items ≡ place.new.size + place.new.size))
-        ((sets_from sides.now.pool.now sides.now.k place.old ≡ []) × (sets_from sides.now.pool.now sides.now.k place.new ≡ [])
-        × (trials_from sides.now.pool.now sides.now.k place.new ≡ 0))
-        ((sets_from sides.now.pool.now sides.now.k place.new ≡ sets_from sides.now.pool.now sides.now.k place.old)
-        × (budget.new.used ≡ budget.new.limit) × (0 < trials_from sides.now.pool.now sides.now.k place.new)) }
-    ensures steps { budget.new.used + trials_from sides.now.pool.now sides.now.k place.new
-        ≡ budget.old.used + trials_from sides.now.pool.now sides.now.k place.old }
+        ((sets_from sides.now.pool.now sides.now.k state.old
+        ≡ set_of sides.now.pool.now sides.now.k state.new.size state.new.descent.path.items ∷ sets_from sides.now.pool.now sides.now.k state.new)
+        × (length state.new.descent.path.items ≡ state.new.size + state.new.size))
+        ((sets_from sides.now.pool.now sides.now.k state.old ≡ []) × (sets_from sides.now.pool.now sides.now.k state.new ≡ [])
+        × (trials_from sides.now.pool.now sides.now.k state.new ≡ 0))
+        ((sets_from sides.now.pool.now sides.now.k state.new ≡ sets_from sides.now.pool.now sides.now.k state.old)
+        × (budget.new.used ≡ budget.new.limit) × (0 < trials_from sides.now.pool.now sides.now.k state.new)) }
+    ensures steps { budget.new.used + trials_from sides.now.pool.now sides.now.k state.new
+        ≡ budget.old.used + trials_from sides.now.pool.now sides.now.k state.old }
     ensures spends { Spends budget.old budget.new }
 {
     loop {
@@ -200,15 +200,15 @@ fn next_set(sides: &Sides<'_>, place: &mut Place, budget: &mut Budget) -> Drawn
             tree: ExchangeStage {
                 pool: sides.pool,
                 k: sides.k,
-                size: place.size,
-                difference: place.difference,
+                size: state.size,
+                difference: state.difference,
             },
-            hint: &place.hint,
+            hint: &state.hint,
         };
-        if climb_on(&tree, &mut place.descent, budget)? {
+        if climb_on(&tree, &mut state.descent, budget)? {
             return Ok(true);
         }
-        if !next_stage(sides, place) {
+        if !next_stage(sides, state) {
             return Ok(false);
         }
     }
@@ -457,17 +457,17 @@ fn climb_stage<C: CutsExchanges>(
 fn next_set_past<C: CutsExchanges>(
     sides: &Sides<'_>,
     cuts: &C,
-    place: &mut Place,
+    state: &mut SearchState,
     budget: &mut Budget,
 ) -> Drawn
-    requires standing { IsPlace sides.now.pool.now sides.now.k place.old }
-    ensures stands { IsPlace sides.now.pool.now sides.now.k place.new }
-    ensures answer { let before = sets_from sides.now.pool.now sides.now.k place.old in
-        let after = sets_from sides.now.pool.now sides.now.k place.new in
+    requires standing { IsSearchState sides.now.pool.now sides.now.k state.old }
+    ensures stands { IsSearchState sides.now.pool.now sides.now.k state.new }
+    ensures answer { let before = sets_from sides.now.pool.now sides.now.k state.old in
+        let after = sets_from sides.now.pool.now sides.now.k state.new in
         MatchDrawn result
         (Passes (C.Idle cuts.now) before
-        (set_of sides.now.pool.now sides.now.k place.new.size place.new.descent.path.items ∷ after)
-        × (length place.new.descent.path.items ≡ place.new.size + place.new.size))
+        (set_of sides.now.pool.now sides.now.k state.new.size state.new.descent.path.items ∷ after)
+        × (length state.new.descent.path.items ≡ state.new.size + state.new.size))
         (Passes (C.Idle cuts.now) before [] × (after ≡ []))
         (Passes (C.Idle cuts.now) before after × (budget.new.used ≡ budget.new.limit)) }
     ensures spends { Spends budget.old budget.new }
@@ -477,15 +477,15 @@ fn next_set_past<C: CutsExchanges>(
             tree: ExchangeStage {
                 pool: sides.pool,
                 k: sides.k,
-                size: place.size,
-                difference: place.difference,
+                size: state.size,
+                difference: state.difference,
             },
-            hint: &place.hint,
+            hint: &state.hint,
         };
-        if climb_stage(&tree, cuts, &mut place.descent, budget)? {
+        if climb_stage(&tree, cuts, &mut state.descent, budget)? {
             return Ok(true);
         }
-        if !next_stage(sides, place) {
+        if !next_stage(sides, state) {
             return Ok(false);
         }
     }
@@ -517,12 +517,12 @@ fn put_moved_in(sides: &Sides<'_>, ins: &[u16], numbers: &mut Numbers)
 }
 
 /// Fills a list with the set that a whole search has found.
-fn put_set(sides: &Sides<'_>, place: &Place, numbers: &mut Numbers)
-    requires standing { IsPlace sides.now.pool.now sides.now.k place.now }
-    requires whole { length place.now.descent.path.items ≡ place.now.size + place.now.size }
-    ensures { numbers.new.items ≡ set_of sides.now.pool.now sides.now.k place.now.size place.now.descent.path.items }
+fn put_set(sides: &Sides<'_>, state: &SearchState, numbers: &mut Numbers)
+    requires standing { IsSearchState sides.now.pool.now sides.now.k state.now }
+    requires whole { length state.now.descent.path.items ≡ state.now.size + state.now.size }
+    ensures { numbers.new.items ≡ set_of sides.now.pool.now sides.now.k state.now.size state.now.descent.path.items }
 {
-    let (outs, ins) = place.descent.path.split_at(place.size);
+    let (outs, ins) = state.descent.path.split_at(state.size);
     put_kept(sides, outs, numbers);
     put_moved_in(sides, ins, numbers);
 }
@@ -536,7 +536,7 @@ fn put_set(sides: &Sides<'_>, place: &Place, numbers: &mut Numbers)
 pub struct Exchanges {
     pool: Numbers,
     k: usize,
-    place: Place,
+    state: SearchState,
 }
 
 impl Model for Exchanges {
@@ -544,18 +544,18 @@ impl Model for Exchanges {
     ghost use Rattle.std.specs.Prelude.{◌≤◌, ◌-◌, length};
     ghost use Rattle.std.specs.List.Sorted.{IsStrictlyIncreasing};
     ghost use Rattle.dutch_sequence.specs.Steps.{Ahead};
-    ghost use Rattle.dutch_sequence.specs.Stages.{IsPlace, sets_from, trials_from};
+    ghost use Rattle.dutch_sequence.specs.Stages.{IsSearchState, sets_from, trials_from};
 
     ghost Value = { Ahead };
 
     ghost view = { λ t. record {
-      coming = sets_from t.pool.items t.k t.place;
-      left = trials_from t.pool.items t.k t.place;
+      coming = sets_from t.pool.items t.k t.state;
+      left = trials_from t.pool.items t.k t.state;
     } };
 
     ghost invariant = { λ t.
         (length t.pool.items ≤ LIMIT) × (t.k ≤ length t.pool.items) × IsStrictlyIncreasing t.pool.items
-        × IsPlace t.pool.items t.k t.place };
+        × IsSearchState t.pool.items t.k t.state };
 }
 
 impl Exchanges {
@@ -592,7 +592,7 @@ impl Exchanges {
         Exchanges {
             pool: ArrayVec::new(),
             k: 0,
-            place: Place {
+            state: SearchState {
                 size: 0,
                 difference: 0,
                 hint: ArrayVec::new(),
@@ -608,7 +608,7 @@ impl Exchanges {
     {
         fill(&mut self.pool, sides.pool);
         self.k = sides.k;
-        self.place.enter(0, 0);
+        self.state.enter(0, 0);
     }
 
     /// Begins anew, in place, as `from` does.
@@ -618,7 +618,7 @@ impl Exchanges {
     {
         fill(&mut self.pool, sides.pool);
         self.k = sides.k;
-        enter_at(sides, set, &mut self.place);
+        enter_at(sides, set, &mut self.state);
     }
 
     /// Fills a list with the next one, but sets that the cuts know to be idle may be skipped: they are asked about each
@@ -640,10 +640,10 @@ impl Exchanges {
             pool: &self.pool,
             k: self.k,
         };
-        if !next_set_past(&sides, cuts, &mut self.place, budget)? {
+        if !next_set_past(&sides, cuts, &mut self.state, budget)? {
             return Ok(false);
         }
-        put_set(&sides, &self.place, numbers);
+        put_set(&sides, &self.state, numbers);
         Ok(true)
     }
 }
@@ -656,10 +656,10 @@ impl Generator for Exchanges {
             pool: &self.pool,
             k: self.k,
         };
-        if !next_set(&sides, &mut self.place, budget)? {
+        if !next_set(&sides, &mut self.state, budget)? {
             return Ok(false);
         }
-        put_set(&sides, &self.place, numbers);
+        put_set(&sides, &self.state, numbers);
         Ok(true)
     }
 }

@@ -1,14 +1,14 @@
 use Rattle.std.proofs.Common.{◌≡◌, ◌+◌}
-use Rattle.dutch_sequence.specs.Prelude.{IsPlace, sets_from, trials_from, stages_ahead, Spends}
+use Rattle.dutch_sequence.specs.Prelude.{IsSearchState, sets_from, trials_from, stages_ahead, Spends}
 use Rattle.dutch_sequence.proofs.exchange.next_set.Given as goal
 
-abbrev pub invariant-loop-place : goal.invariant-loop-place
-invariant-loop-place l = record {
-  stands : IsPlace l.sides.pool.now l.sides.k l.place;
-  sets : sets_from l.sides.pool.now l.sides.k l.place ≡ sets_from l.sides.pool.now l.sides.k l.initial.place;
-  steps : l.budget.used + trials_from l.sides.pool.now l.sides.k l.place ≡ l.initial.budget.used + trials_from l.sides.pool.now l.sides.k l.initial.place;
+abbrev pub invariant-loop-state : goal.invariant-loop-state
+invariant-loop-state l = record {
+  stands : IsSearchState l.sides.pool.now l.sides.k l.state;
+  sets : sets_from l.sides.pool.now l.sides.k l.state ≡ sets_from l.sides.pool.now l.sides.k l.initial.state;
+  steps : l.budget.used + trials_from l.sides.pool.now l.sides.k l.state ≡ l.initial.budget.used + trials_from l.sides.pool.now l.sides.k l.initial.state;
   spends : Spends l.initial.budget l.budget;
 }
 
-abbrev pub decreases-loop-place : goal.decreases-loop-place
-decreases-loop-place l = stages_ahead l.sides.pool.now l.sides.k l.place.size l.place.difference
+abbrev pub decreases-loop-state : goal.decreases-loop-state
+decreases-loop-state l = stages_ahead l.sides.pool.now l.sides.k l.state.size l.state.difference

@@ -1,7 +1,7 @@
 use Rattle.std.proofs.Common.{◌≡◌, [], refl, None, length, ap, arith, subst, sym}
 use Rattle.std.specs.List.{AllByRecursion}
 use Rattle.dutch_sequence.specs.Prelude.{hinted, Walked, ahead, below, after, IsOfStage, exchange_plan, sets_ahead, stage_left, sets_of_stages, sets_of_sizes}
-use Rattle.dutch_sequence.proofs.Places.{ended-hits, ended-known}
+use Rattle.dutch_sequence.proofs.SearchStates.{ended-hits, ended-known}
 use Rattle.dutch_sequence.proofs.exchange.Exchanges.ended.Goals as goal
 
 pub returns : goal.returns

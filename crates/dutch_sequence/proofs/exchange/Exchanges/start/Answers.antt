@@ -1,7 +1,7 @@
 use Rattle.std.proofs.Common.{◌≡◌, ap, refl, sym, subst, arith, ◌-◌, [], None, length}
 use Rattle.std.specs.List.Sorted.{IsStrictlyIncreasing}
 use Rattle.dutch_sequence.specs.Prelude.{hinted, Walked, exchange_plan, trials_ahead, trials_of_stages, trials_of_sizes, most_exchanged}
-use Rattle.dutch_sequence.proofs.Places.{new-place}
+use Rattle.dutch_sequence.proofs.SearchStates.{new-state}
 use Rattle.dutch_sequence.proofs.StageSets.{exchanges-found}
 use Rattle.dutch_sequence.proofs.Moves.{trials-nothing}
 use Rattle.dutch_sequence.proofs.exchange.Exchanges.start.Goals as goal
@@ -22,17 +22,17 @@ returns-clause-nothing c none =
 pub invariant_of-self : goal.invariant_of-self
 invariant_of-self c =
     let entered = c.enter.ensures in
-    let place = c.enter.new.self in
+    let state = c.enter.new.self in
     let long = ap length c.fill.ensures in
     let pool = c.fill.new.list.items in
-    let new = new-place pool c.args.sides.now.k (subst IsStrictlyIncreasing (sym c.fill.ensures) c.args.sides.now.ascends) (omega (arith, long, c.args.sides.now.enough)) place entered.hint entered.path entered.number entered.beyond in (
+    let new = new-state pool c.args.sides.now.k (subst IsStrictlyIncreasing (sym c.fill.ensures) c.args.sides.now.ascends) (omega (arith, long, c.args.sides.now.enough)) state entered.hint entered.path entered.number entered.beyond in (
       omega (arith, long, c.args.sides.now.few),
       omega (arith, long, c.args.sides.now.enough),
       subst IsStrictlyIncreasing (sym c.fill.ensures) c.args.sides.now.ascends,
       (
         omega (arith, entered.size),
         omega (arith, entered.size),
-        (omega (arith, ap length entered.path), subst (Walked (hinted place.hint.items (exchange_plan pool c.args.sides.now.k place.size place.difference)) []) (sym entered.path) tt),
+        (omega (arith, ap length entered.path), subst (Walked (hinted state.hint.items (exchange_plan pool c.args.sides.now.k state.size state.difference)) []) (sym entered.path) tt),
         new.0,
         new.1,
       ),
