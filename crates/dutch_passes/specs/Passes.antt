@@ -8,7 +8,7 @@ use Rattle.dutch_bracket.specs.Prelude.{Context, Lists, quality_here, IsOfBracke
 use Rattle.dutch_choice.specs.declared.finder.Best.{Best}
 use Rattle.dutch_choice.specs.Prelude.{IsBest, best_wished}
 use Rattle.dutch_passes.specs.declared.pass.Pass.{Pass}
-use Rattle.dutch_passes.specs.declared.pass.Search.{Search}
+use Rattle.dutch_passes.specs.declared.pass.PassSoFar.{PassSoFar}
 use Rattle.dutch_passes.specs.Aims.{aim_in, best_near, best_yet, is_idle, loses, is_open}
 use Rattle.dutch_passes.specs.Remembered.{LooksBelow, Remembered}
 
@@ -24,25 +24,25 @@ LooksFor pass look = LooksBelow pass.shaped.context.now look
 abbrev pub IsHere : Context → Candidate → Type 0
 IsHere context candidate = IsOfBracket context.facts context.reached candidate
 
--- the quality of a candidate loses in a search, beside what it keeps
-abbrev pub Loses : Search → Arrangement → Type 0
-Loses search a = loses (aim_in search.pass.now.aim) search.kept.now (quality_here search.pass.now.shaped.context.now a) ≡ true
+-- the quality of a candidate loses in a pass, beside what it has kept so far
+abbrev pub Loses : PassSoFar → Arrangement → Type 0
+Loses so_far a = loses (aim_in so_far.pass.now.aim) so_far.kept.now (quality_here so_far.pass.now.shaped.context.now a) ≡ true
 
 -- the same of a candidate that can be chosen and grants what is wished
-abbrev pub LosesIfOpen : Search → Arrangement → Type 0
-LosesIfOpen search a = is_open search.pass.now.shaped.context.now search.pass.now.wish a ≡ true → Loses search a
+abbrev pub LosesIfOpen : PassSoFar → Arrangement → Type 0
+LosesIfOpen so_far a = is_open so_far.pass.now.shaped.context.now so_far.pass.now.wish a ≡ true → Loses so_far a
 
--- a candidate is idle to a search
-abbrev pub is_idle_to : Search → Arrangement → Bool
-is_idle_to search = is_idle search.pass.now.shaped.context.now search.pass.now.wish (aim_in search.pass.now.aim) search.kept.now
+-- a candidate is idle to a pass, beside what it has kept so far
+abbrev pub is_idle_to : PassSoFar → Arrangement → Bool
+is_idle_to so_far = is_idle so_far.pass.now.shaped.context.now so_far.pass.now.wish (aim_in so_far.pass.now.aim) so_far.kept.now
 
--- a list of candidates goes on as another one does, once some of its beginning is skipped, each of which is idle to a search [own]
-abbrev pub PassesIdle : Search → List Arrangement → List Arrangement → Type 0
-PassesIdle search before after = Passes (λ a. is_idle_to search a ≡ true) before after
+-- a list of candidates goes on as another one does, once some of its beginning is skipped, each of which is idle to the pass [own]
+abbrev pub PassesIdle : PassSoFar → List Arrangement → List Arrangement → Type 0
+PassesIdle so_far before after = Passes (λ a. is_idle_to so_far a ≡ true) before after
 
 -- a lister draws the next candidate, once some are skipped that are idle [own]
-abbrev pub Draws : Search → Lister ByNumber → Lister ByNumber → Type 0
-Draws search old new = PassesIdle search old.listing.coming (new.drawn.lists ∷ new.listing.coming)
+abbrev pub Draws : PassSoFar → Lister ByNumber → Lister ByNumber → Type 0
+Draws so_far old new = PassesIdle so_far old.listing.coming (new.drawn.lists ∷ new.listing.coming)
     × (new.drawn.down ≡ down old.listing.frame new.drawn.lists)
 
 -- what a pass chooses of what it keeps and of the candidates to come

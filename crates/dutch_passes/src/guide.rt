@@ -10,7 +10,7 @@ ghost use Rattle.dutch_passes.specs.Passes.{Draws, ListsFor, PassesIdle};
 ghost use Rattle.dutch_order.specs.Prelude.{MatchDrawn, Spends};
 ghost use Rattle.dutch_order.specs.declared.bracket.Shape.{Shape};
 
-use crate::pass::Search;
+use crate::pass::PassSoFar;
 use dutch_bracket::greatest::Lister;
 use dutch_bracket::quality::{Quality, QualityLists};
 use dutch_bracket::reached::ByNumber;
@@ -33,24 +33,24 @@ pub trait Guide {
     /// wished.
     ghost knows: { Self → Context → Shape → Option Wish → Type 0 };
 
-    /// Draws the next candidate that it does not know to be idle to a search. Those that it passes over are idle. A no
+    /// Draws the next candidate that it does not know to be idle to a pass. Those that it passes over are idle. A no
     /// says that there is no other.
     fn draw(
         &mut self,
-        search: Search<'_, '_>,
+        so_far: PassSoFar<'_, '_>,
         lister: &mut Lister<'_, ByNumber<'_>>,
         work: &mut Workroom<Self::Notes>,
         budget: &mut Budget,
     ) -> Result<bool, Stopped>
-        requires known { knows self.old search.pass.now.shaped.context.now search.pass.now.shaped.shape
-            search.pass.now.wish }
-        requires lists { ListsFor search.pass.now lister.old.listing }
-        requires shape { lister.old.listing.shape ≡ search.pass.now.shaped.shape }
-        ensures answer { MatchDrawn result (Draws search.entry lister.old lister.new)
-            (PassesIdle search.entry lister.old.listing.coming [])
+        requires known { knows self.old so_far.pass.now.shaped.context.now so_far.pass.now.shaped.shape
+            so_far.pass.now.wish }
+        requires lists { ListsFor so_far.pass.now lister.old.listing }
+        requires shape { lister.old.listing.shape ≡ so_far.pass.now.shaped.shape }
+        ensures answer { MatchDrawn result (Draws so_far.entry lister.old lister.new)
+            (PassesIdle so_far.entry lister.old.listing.coming [])
             (budget.new.used ≡ budget.new.limit) }
-        ensures known { knows self.new search.entry.pass.now.shaped.context.now search.entry.pass.now.shaped.shape
-            search.entry.pass.now.wish }
+        ensures known { knows self.new so_far.entry.pass.now.shaped.context.now so_far.entry.pass.now.shaped.shape
+            so_far.entry.pass.now.wish }
         ensures frame { lister.new.listing.frame ≡ lister.old.listing.frame }
         ensures shape { lister.new.listing.shape ≡ lister.old.listing.shape }
         ensures rule { lister.new.listing.rule ≡ lister.old.listing.rule }

@@ -11,6 +11,6 @@ mod passes;
 mod remembered;
 
 pub use guide::{Guide, Workroom};
-pub use pass::{Pass, Search, is_barred, loses};
+pub use pass::{Pass, PassSoFar, is_barred, loses};
 pub use passes::best_in_time;
 pub use remembered::{Judge, Look, LookAhead, look_below};

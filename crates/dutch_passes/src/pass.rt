@@ -19,9 +19,9 @@ pub struct Pass<'a> {
     pub aim: Option<Quality>,
 }
 
-/// A pass, beside the candidate that it keeps.
+/// A pass, beside the candidate that it has kept so far.
 #[derive(Clone, Copy)]
-pub struct Search<'a, 'k> {
+pub struct PassSoFar<'a, 'k> {
     pub pass: &'a Pass<'a>,
     pub kept: &'k Option<Best>,
 }

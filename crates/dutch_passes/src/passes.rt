@@ -11,7 +11,7 @@ ghost use Rattle.dutch_passes.specs.Passes.{IsChosenNext, IsEnd, IsHere, ListsFo
 ghost use Rattle.dutch_passes.specs.Passes.{wished_of};
 
 use crate::guide::Guide;
-use crate::pass::{Pass, Search, loses};
+use crate::pass::{Pass, PassSoFar, loses};
 use crate::remembered::{Judge, judge_candidate};
 use dutch_bracket::eligible::{at_most, can_be_chosen};
 use dutch_bracket::greatest::Lister;
@@ -79,7 +79,7 @@ fn best_near<'a, G: Guide>(
     lister.listing.restart(pass.shaped.shape);
     judge.kept = None;
     while judge.guide.draw(
-        Search {
+        PassSoFar {
             pass,
             kept: &judge.kept,
         },

@@ -45,7 +45,7 @@ module _ (s : Skipper) (a : Arrangement) (m : IsIn a (candidates_in (pass_of s).
   better_by (Some w) same f bar at' passed reaches = better_here w same f bar at' passed reaches
 
   -- the kept candidate is not worse than one that its bar reaches
-  pub behind_kept : (bar : Bar) (best : Best) → s.bars.kept ≡ Some bar → s.search.kept.now ≡ Some best → Reaches bar (quality_in best.quality) → IsBehindKept s a
+  pub behind_kept : (bar : Bar) (best : Best) → s.bars.kept ≡ Some bar → s.so_far.kept.now ≡ Some best → Reaches bar (quality_in best.quality) → IsBehindKept s a
   behind_kept bar best bar_is there reaches =
       ∥∥₁_elim s.best (Bool-set _ _) (λ has.
       let here' : HasBar s.weights.now (Some (quality_in best.quality)) (Some bar) =

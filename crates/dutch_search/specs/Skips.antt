@@ -10,7 +10,7 @@ use Rattle.dutch_weights.specs.Prelude.{BeginsWith, KnowsNext, WeighsNoLess}
 module _ (skipper : Skipper) where
   -- the pass of a skipper
   abbrev pub pass_of : Pass
-  pass_of = skipper.search.pass.now
+  pass_of = skipper.so_far.pass.now
 
   -- the bracket of a skipper above its lower seats
   abbrev pub context_of : Context
@@ -39,4 +39,4 @@ module _ (skipper : Skipper) where
 
   -- a candidate is not better than the one that is kept
   abbrev pub IsBehindKept : Arrangement → Type 0
-  IsBehindKept a = not (wins (quality_here context_of a) skipper.search.kept.now) ≡ true
+  IsBehindKept a = not (wins (quality_here context_of a) skipper.so_far.kept.now) ≡ true

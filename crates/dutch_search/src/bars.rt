@@ -10,7 +10,7 @@ ghost use Rattle.dutch_search.specs.Searching.{HasWeights};
 use dutch_bracket::quality::Quality;
 use dutch_choice::finder::Best;
 use dutch_floors::floor::Floors;
-use dutch_passes::{Pass, Search};
+use dutch_passes::{Pass, PassSoFar};
 use dutch_weights::asking::Bars;
 use dutch_weights::weight_floor::{Bar, WeightFloors};
 
@@ -45,46 +45,46 @@ fn kept_bar(kept: &Option<Best>, weights: &Option<WeightFloors<'_>>) -> Option<B
 }
 
 /// The bars of the aim of a pass and of the candidate that is kept.
-pub(crate) fn bars_of(search: Search<'_, '_>, weights: &Option<WeightFloors<'_>>) -> Bars
-    ensures aim { HasBar weights.now (aim_in search.entry.pass.now.aim) result.aim }
-    ensures kept { HasBar weights.now (kept_in search.entry.kept.now) result.kept }
+pub(crate) fn bars_of(so_far: PassSoFar<'_, '_>, weights: &Option<WeightFloors<'_>>) -> Bars
+    ensures aim { HasBar weights.now (aim_in so_far.entry.pass.now.aim) result.aim }
+    ensures kept { HasBar weights.now (kept_in so_far.entry.kept.now) result.kept }
 {
     Bars {
-        aim: aim_bar(search.pass, weights),
-        kept: kept_bar(search.kept, weights),
+        aim: aim_bar(so_far.pass, weights),
+        kept: kept_bar(so_far.kept, weights),
     }
 }
 
 /// Tells which beginnings a pass may skip, beside the candidate that it keeps.
 #[derive(Drop)]
 pub(crate) struct Skipper<'a, 'k> {
-    pub(crate) search: Search<'a, 'k>,
+    pub(crate) so_far: PassSoFar<'a, 'k>,
     /// What is known by counts.
     pub(crate) counts: &'k Floors<'k>,
     /// What is known by weight.
     pub(crate) weights: &'k Option<WeightFloors<'k>>,
     /// The bars of the aim and of the candidate that is kept.
     pub(crate) bars: Bars,
-    ghost basis: { IsBasisFor search.pass.now.shaped counts.now },
-    ghost weighed: { HasWeights search.pass.now weights.now },
-    ghost aim: { ∥ HasBar weights.now (aim_in search.pass.now.aim) bars.aim ∥₁ },
-    ghost best: { ∥ HasBar weights.now (kept_in search.kept.now) bars.kept ∥₁ },
+    ghost basis: { IsBasisFor so_far.pass.now.shaped counts.now },
+    ghost weighed: { HasWeights so_far.pass.now weights.now },
+    ghost aim: { ∥ HasBar weights.now (aim_in so_far.pass.now.aim) bars.aim ∥₁ },
+    ghost best: { ∥ HasBar weights.now (kept_in so_far.kept.now) bars.kept ∥₁ },
 }
 
 impl<'a, 'k> Skipper<'a, 'k> {
     /// What tells by an aim, by what is kept and by floors of both kinds.
     pub fn new(
-        search: Search<'a, 'k>,
+        so_far: PassSoFar<'a, 'k>,
         counts: &'k Floors<'k>,
         weights: &'k Option<WeightFloors<'k>>,
     ) -> Skipper<'a, 'k>
-        requires counts { IsBasisFor search.pass.now.shaped counts.now }
-        requires weights { HasWeights search.pass.now weights.now }
-        ensures { result.search ≡ search.entry }
+        requires counts { IsBasisFor so_far.pass.now.shaped counts.now }
+        requires weights { HasWeights so_far.pass.now weights.now }
+        ensures { result.so_far ≡ so_far.entry }
     {
-        let bars = bars_of(search, weights);
+        let bars = bars_of(so_far, weights);
         Skipper {
-            search,
+            so_far,
             counts,
             weights,
             bars,

@@ -17,7 +17,7 @@ use dutch_bracket::reached::ByNumber;
 use dutch_bracket::spending::spend;
 use dutch_bracket::wish::Wish;
 use dutch_order::{BoundWithRoom, Budget, Shape, Step, Stopped};
-use dutch_passes::{Guide, Search, Workroom};
+use dutch_passes::{Guide, PassSoFar, Workroom};
 use dutch_weights::asking::FloorRequest;
 use dutch_weights::scope::Scope;
 use dutch_weights::weight_floor::WeightFloors;
@@ -64,11 +64,11 @@ impl<'a> BothFloors<'a> {
     }
 
     /// Tells which beginnings a pass may skip, beside the candidate that it keeps.
-    fn skipper<'k>(&'k self, search: Search<'k, 'k>) -> Skipper<'k, 'k>
-        requires known { AreFor search.pass.now self.now }
-        ensures { result.search ≡ search.entry }
+    fn skipper<'k>(&'k self, so_far: PassSoFar<'k, 'k>) -> Skipper<'k, 'k>
+        requires known { AreFor so_far.pass.now self.now }
+        ensures { result.so_far ≡ so_far.entry }
     {
-        Skipper::new(search, &self.counts, &self.weights)
+        Skipper::new(so_far, &self.counts, &self.weights)
     }
 
     /// Keeps floors by weight, with that of a cheapest matching of the bracket. It answers what to aim at.
@@ -100,12 +100,12 @@ impl<'a> BothFloors<'a> {
     /// Behind a turn, where steps are left: floors by weight are asked for more, if there are any.
     fn go_on(
         &mut self,
-        search: Search<'_, '_>,
+        so_far: PassSoFar<'_, '_>,
         last: &LastBeginning,
         budget: &mut Budget,
     ) -> Result<(), Stopped>
         ensures stopped { MatchResult result
-            (λ _. price self.old.is_long search.pass.now.shaped.shape.pairs ≤ budget.old.limit - budget.old.used)
+            (λ _. price self.old.is_long so_far.pass.now.shaped.shape.pairs ≤ budget.old.limit - budget.old.used)
             (λ _. budget.new.used ≡ budget.new.limit) }
         ensures context { self.new.shaped.context.now ≡ self.old.shaped.context.now }
         ensures shape { self.new.shaped.shape ≡ self.old.shaped.shape }
@@ -113,11 +113,11 @@ impl<'a> BothFloors<'a> {
         ensures weights { self.new.weights ≡ self.old.weights }
         ensures spends { Spends budget.old budget.new }
     {
-        if budget.limit - budget.used < self.price(search.pass.shaped.shape) {
+        if budget.limit - budget.used < self.price(so_far.pass.shaped.shape) {
             budget.used = budget.limit;
             return Err(Stopped);
         }
-        let bars = bars_of(search, &self.weights);
+        let bars = bars_of(so_far, &self.weights);
         match &mut self.weights {
             Some(weights) => {
                 let LastBeginning { scope, pairs } = last;
@@ -135,12 +135,12 @@ fn draw_once(
     work: &mut Workroom<LastBeginning>,
     turn: &mut Budget,
 ) -> Step<()>
-    requires lists { ListsFor skipper.now.search.pass.now lister.old.listing }
-    requires shape { lister.old.listing.shape ≡ skipper.now.search.pass.now.shaped.shape }
+    requires lists { ListsFor skipper.now.so_far.pass.now lister.old.listing }
+    requires shape { lister.old.listing.shape ≡ skipper.now.so_far.pass.now.shaped.shape }
     ensures answer { MatchStep result
-        (λ _. Draws skipper.now.search lister.old lister.new)
-        (PassesIdle skipper.now.search lister.old.listing.coming [])
-        (PassesIdle skipper.now.search lister.old.listing.coming lister.new.listing.coming
+        (λ _. Draws skipper.now.so_far lister.old lister.new)
+        (PassesIdle skipper.now.so_far lister.old.listing.coming [])
+        (PassesIdle skipper.now.so_far lister.old.listing.coming lister.new.listing.coming
         × (turn.new.used ≡ turn.new.limit)) }
     ensures frame { lister.new.listing.frame ≡ lister.old.listing.frame }
     ensures shape { lister.new.listing.shape ≡ lister.old.listing.shape }
@@ -167,20 +167,20 @@ impl<'a> Guide for BothFloors<'a> {
 
     fn draw(
         &mut self,
-        search: Search<'_, '_>,
+        so_far: PassSoFar<'_, '_>,
         lister: &mut Lister<'_, ByNumber<'_>>,
         work: &mut Workroom<LastBeginning>,
         budget: &mut Budget,
     ) -> Result<bool, Stopped> {
-        let shape = search.pass.shaped.shape;
+        let shape = so_far.pass.shaped.shape;
         loop {
             let mut turn = self.turn(shape, budget);
-            let step = draw_once(&self.skipper(search), lister, work, &mut turn);
+            let step = draw_once(&self.skipper(so_far), lister, work, &mut turn);
             self.count(shape, &turn, budget);
             match step {
                 Step::Found(()) => return Ok(true),
                 Step::End => return Ok(false),
-                Step::Undecided => self.go_on(search, &work.notes, budget)?,
+                Step::Undecided => self.go_on(so_far, &work.notes, budget)?,
             }
         }
     }

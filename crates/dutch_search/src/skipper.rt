@@ -36,13 +36,13 @@ impl<'a, 'k> Skipper<'a, 'k> {
 
     #[tactic(auto, using(dutch_passes::proofs::AimLemmas::floor_loses))]
     fn loses_by_counts(&self, prefix: &Prefix<'_>, room: &mut QualityLists) -> bool
-        ensures { result ≡ true → OfEach self.now prefix.now (Loses self.now.search) }
+        ensures { result ≡ true → OfEach self.now prefix.now (Loses self.now.so_far) }
     {
         if !self.fill_floor(prefix, room) {
             return false;
         }
         let floor = &room.quality;
-        loses(floor, &self.search.pass.aim, self.search.kept)
+        loses(floor, &self.so_far.pass.aim, self.so_far.kept)
     }
 
     /// C.7: where the weights do not tell of the next bracket, the counts have to.
@@ -65,7 +65,7 @@ impl<'a, 'k> Skipper<'a, 'k> {
         let Some(bar) = &self.bars.aim else {
             return false;
         };
-        let Some(aim) = &self.search.pass.aim else {
+        let Some(aim) = &self.so_far.pass.aim else {
             return false;
         };
         bar.is_passed(least) && (bar.is_above(least) || self.knows_next(prefix, aim))
@@ -80,7 +80,7 @@ impl<'a, 'k> Skipper<'a, 'k> {
         let Some(bar) = &self.bars.kept else {
             return false;
         };
-        let Some(best) = self.search.kept else {
+        let Some(best) = self.so_far.kept else {
             return false;
         };
         bar.is_above(least) || (bar.is_reached(least) && self.knows_next(prefix, &best.quality))
@@ -88,7 +88,7 @@ impl<'a, 'k> Skipper<'a, 'k> {
 
     /// By the floor by weight at a place.
     fn loses_by(&self, place: usize, prefix: &Prefix<'_>) -> bool
-        ensures { result ≡ true → OfEach self.now prefix.now (LosesIfOpen self.now.search) }
+        ensures { result ≡ true → OfEach self.now prefix.now (LosesIfOpen self.now.so_far) }
     {
         let Some(weights) = self.weights else {
             return false;
@@ -101,7 +101,7 @@ impl<'a, 'k> Skipper<'a, 'k> {
 
     /// By any of the floors by weight.
     fn loses_by_weight(&self, prefix: &Prefix<'_>) -> bool
-        ensures { result ≡ true → OfEach self.now prefix.now (LosesIfOpen self.now.search) }
+        ensures { result ≡ true → OfEach self.now prefix.now (LosesIfOpen self.now.so_far) }
     {
         let Some(weights) = self.weights else {
             return false;
@@ -118,7 +118,7 @@ impl<'a, 'k> Skipper<'a, 'k> {
 
     /// By the floor by weight at a place, of the candidates with such an S1R.
     fn loses_with(&self, place: usize, prefix: &Prefix<'_>, exchange: &Exchange<'_>) -> bool
-        ensures { result ≡ true → OfEachWith self.now prefix.now exchange.now (LosesIfOpen self.now.search) }
+        ensures { result ≡ true → OfEachWith self.now prefix.now exchange.now (LosesIfOpen self.now.so_far) }
     {
         let Some(weights) = self.weights else {
             return false;
@@ -131,7 +131,7 @@ impl<'a, 'k> Skipper<'a, 'k> {
 
     /// By any of the floors that counts the order of S1R, of the candidates with such an S1R.
     fn loses_by_order(&self, prefix: &Prefix<'_>, exchange: &Exchange<'_>) -> bool
-        ensures { result ≡ true → OfEachWith self.now prefix.now exchange.now (LosesIfOpen self.now.search) }
+        ensures { result ≡ true → OfEachWith self.now prefix.now exchange.now (LosesIfOpen self.now.so_far) }
     {
         let Some(weights) = self.weights else {
             return false;
@@ -154,24 +154,24 @@ impl<'a, 'k> Bound for Skipper<'a, 'k> {
 
     ghost frame = { λ s. frame_here (context_of s) };
 
-    ghost shape = { λ s. s.search.pass.now.shaped.shape };
+    ghost shape = { λ s. s.so_far.pass.now.shaped.shape };
 
     ghost meets = { λ s. numbers_meet (context_of s).facts (context_of s).reached };
 
     ghost may_be_left = { λ s. number_may_be_left (context_of s).facts (context_of s).reached };
 
-    ghost is_idle = { λ s. is_idle_to s.search };
+    ghost is_idle = { λ s. is_idle_to s.so_far };
 
     #[tactic(auto, using(dutch_passes::proofs::AimLemmas::unwished_is_idle, dutch_passes::proofs::AimLemmas::loser_is_idle, dutch_passes::proofs::AimLemmas::loser_if_open_is_idle), unfolding(dutch_bracket::specs::Brackets::candidates_of))]
     fn cannot_win(&self, prefix: &Prefix<'_>, work: &mut Workroom<LastBeginning>) -> bool {
-        if is_barred(self.search.pass, prefix) {
+        if is_barred(self.so_far.pass, prefix) {
             return true;
         }
         if self.weights.is_some() {
             work.notes.note(prefix);
         }
         // (with no aim and nothing kept no quality loses)
-        if self.search.pass.aim.is_none() && self.search.kept.is_none() {
+        if self.so_far.pass.aim.is_none() && self.so_far.kept.is_none() {
             return false;
         }
         self.loses_by_weight(prefix) || self.loses_by_counts(prefix, &mut work.room)
@@ -184,7 +184,7 @@ impl<'a, 'k> Bound for Skipper<'a, 'k> {
         exchange: &Exchange<'_>,
         _work: &mut Workroom<LastBeginning>,
     ) -> bool {
-        if self.search.pass.aim.is_none() && self.search.kept.is_none() {
+        if self.so_far.pass.aim.is_none() && self.so_far.kept.is_none() {
             return false;
         }
         self.loses_by_order(prefix, exchange)

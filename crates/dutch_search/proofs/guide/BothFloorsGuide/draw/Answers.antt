@@ -8,7 +8,7 @@ use Rattle.dutch_search.proofs.guide.BothFloorsGuide.draw.Goals as goal
 
 pub returns-in-Found-clause-answer : goal.returns-in-Found-clause-answer
 returns-in-Found-clause-answer c = (
-  passes_twice (λ a. is_idle_to c.args.search a ≡ true) c.args.lister.now.listing.coming c.loop.lister.listing.coming _ c.loop.invariant.passed c.in-Found.ensures.answer.0,
+  passes_twice (λ a. is_idle_to c.args.so_far a ≡ true) c.args.lister.now.listing.coming c.loop.lister.listing.coming _ c.loop.invariant.passed c.in-Found.ensures.answer.0,
   c.in-Found.ensures.answer.1 ∙ ap (λ (frame : Frame). down frame c.draw_once-step.new.lister.drawn.lists) c.loop.invariant.frame,
 )
 
@@ -16,7 +16,7 @@ pub loop-preserved : goal.loop-preserved
 loop-preserved c =
     let before = c.loop.invariant in
     record {
-      passed = passes_twice (λ a. is_idle_to c.args.search a ≡ true) c.args.lister.now.listing.coming c.loop.lister.listing.coming _ before.passed c.in-Undecided.ensures.answer.0;
+      passed = passes_twice (λ a. is_idle_to c.args.so_far a ≡ true) c.args.lister.now.listing.coming c.loop.lister.listing.coming _ before.passed c.in-Undecided.ensures.answer.0;
       frame = c.draw_once-step.ensures.frame ∙ before.frame;
       shape = c.draw_once-step.ensures.shape ∙ before.shape;
       rule = c.draw_once-step.ensures.rule ∙ before.rule;

@@ -6,7 +6,7 @@ use Rattle.dutch_search.proofs.guide.BothFloorsGuide.draw.Given as goal
 
 abbrev pub invariant-loop : goal.invariant-loop
 invariant-loop l = record {
-  passed : PassesIdle l.search l.initial.lister.listing.coming l.lister.listing.coming;
+  passed : PassesIdle l.so_far l.initial.lister.listing.coming l.lister.listing.coming;
   frame : l.lister.listing.frame ≡ l.initial.lister.listing.frame;
   shape : l.lister.listing.shape ≡ l.initial.lister.listing.shape;
   rule : l.lister.listing.rule ≡ l.initial.lister.listing.rule;
