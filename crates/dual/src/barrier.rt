@@ -5,7 +5,7 @@ ghost use Rattle.std.specs.List.{list_any};
 ghost use Rattle.dual.specs.Matchings.{MakeUp, Completable};
 ghost use Rattle.dual.specs.Barriers.{Suits, IsBarrier, group_size, blockers, odd_groups, is_of_odd_group, IsTooNarrow};
 
-use crate::rule::Rule;
+use crate::rule::MatchingRule;
 
 // The label of a player, 0 past the table's end.
 fn label(labels: &[u16], v: u16) -> u16
@@ -45,21 +45,21 @@ fn is_of_odd_group(labels: &[u16], players: &[u16], v: u16) -> bool
 }
 
 // One odd group needs no blocker if one of its players is left over.
-fn may_leave_odd<R: Rule>(labels: &[u16], rule: &R, players: &[u16]) -> bool
+fn may_leave_odd<R: MatchingRule>(labels: &[u16], rule: &R, players: &[u16]) -> bool
     ensures { result ≡ list_any (λ v. (R.costs rule.now).may_be_left v
         && is_of_odd_group players.now (slice_index labels.now) v) players.now }
 {
     players.iter().any(|v| rule.may_be_left(*v) && is_of_odd_group(labels, players, *v))
 }
 
-fn suits<R: Rule>(labels: &[u16], rule: &R, a: u16, b: u16) -> bool
+fn suits<R: MatchingRule>(labels: &[u16], rule: &R, a: u16, b: u16) -> bool
     ensures { IsTrue result ↔ Suits (R.costs rule.now).meets (slice_index labels.now) a b }
 {
     let (first, second) = (label(labels, a), label(labels, b));
     !rule.may_meet(a, b) || first == 0 || second == 0 || first == second
 }
 
-fn suits_all<R: Rule>(labels: &[u16], rule: &R, a: u16, players: &[u16]) -> bool
+fn suits_all<R: MatchingRule>(labels: &[u16], rule: &R, a: u16, players: &[u16]) -> bool
     ensures { IsTrue result ↔ All (Suits (R.costs rule.now).meets (slice_index labels.now) a) players.now }
 {
     players.iter().all(|b| suits(labels, rule, a, *b))
@@ -71,14 +71,14 @@ fn are_labelled(labels: &[u16], most: u16, players: &[u16]) -> bool
     players.iter().all(|v| label(labels, *v) <= most)
 }
 
-fn are_apart<R: Rule>(labels: &[u16], rule: &R, players: &[u16]) -> bool
+fn are_apart<R: MatchingRule>(labels: &[u16], rule: &R, players: &[u16]) -> bool
     ensures { IsTrue result ↔ All (λ u. All
         (Suits (R.costs rule.now).meets (slice_index labels.now) u) players.now) players.now }
 {
     players.iter().all(|a| suits_all(labels, rule, *a, players))
 }
 
-fn is_barrier<R: Rule>(labels: &[u16], most: u16, rule: &R, players: &[u16]) -> bool
+fn is_barrier<R: MatchingRule>(labels: &[u16], most: u16, rule: &R, players: &[u16]) -> bool
     ensures { IsTrue result ↔ IsBarrier (R.costs rule.now).meets players.now (slice_index labels.now) most }
 {
     are_labelled(labels, most, players) && are_apart(labels, rule, players)
@@ -87,7 +87,7 @@ fn is_barrier<R: Rule>(labels: &[u16], most: u16, rule: &R, players: &[u16]) -> 
 /// Yes if a barrier shows that players are not completable: those with label 0 are the blockers, the others are in
 /// groups from 1 to `most`, and more groups are odd than the blockers serve, and one player of an odd group who may be
 /// left over. A no says only that this barrier does not show it.
-pub fn tells_incompletable<R: Rule>(labels: &[u16], most: u16, rule: &R, players: &[u16]) -> bool
+pub fn tells_incompletable<R: MatchingRule>(labels: &[u16], most: u16, rule: &R, players: &[u16]) -> bool
     ensures sound { IsTrue result → ¬ Completable (R.costs rule.now).meets (R.costs rule.now).may_be_left players.now }
     ensures whole { IsTrue result ↔ IsTooNarrow (R.costs rule.now).meets (R.costs rule.now).may_be_left players.now
         (slice_index labels.now) most }
@@ -99,7 +99,7 @@ pub fn tells_incompletable<R: Rule>(labels: &[u16], most: u16, rule: &R, players
 
 /// How many players all pairs of players who may meet leave over at least, by a barrier: so many groups more are odd
 /// than there are blockers. Labels that are no barrier tell 0.
-pub fn least_left<R: Rule>(labels: &[u16], most: u16, rule: &R, players: &[u16]) -> usize
+pub fn least_left<R: MatchingRule>(labels: &[u16], most: u16, rule: &R, players: &[u16]) -> usize
     ensures sound { (pairs : List (ℕ × ℕ)) (out : List ℕ) → MakeUp players.now pairs out
         → All (λ pair. (R.costs rule.now).meets pair.0 pair.1 ≡ true) pairs → result ≤ length out }
     ensures whole { IsBarrier (R.costs rule.now).meets players.now (slice_index labels.now) most

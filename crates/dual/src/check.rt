@@ -14,7 +14,7 @@ ghost use Rattle.dual.specs.Checks.{CanBear, CanBearLeft, AllBear, HasSlacks};
 ghost use Rattle.dual.specs.Tables.{toll_of, certificate_in};
 
 use crate::floor::Floor;
-use crate::rule::{Pool, Rule};
+use crate::rule::{MatchingRule, Pool};
 use crate::table::{MOST, MarkedSet, Table};
 use crate::wide::Wide;
 use std::alloc::{AllocError, Global};
@@ -74,7 +74,7 @@ impl Table {
     }
 
     // What a pair of the row's player could bear beyond its potentials; none if it cannot bear them.
-    fn slack<R: Rule>(&self, rule: &R, row: &Row<'_>, v: u16) -> Option<Wide>
+    fn slack<R: MatchingRule>(&self, rule: &R, row: &Row<'_>, v: u16) -> Option<Wide>
         requires first { R.knows rule.now row.now.player }
         requires second { R.knows rule.now v }
         requires sets { (v : ℕ) → sum_by (λ set. toll_of v set.now) row.now.sets.items
@@ -90,7 +90,7 @@ impl Table {
     }
 
     // What a player left over could bear beyond the potential; none if the player cannot bear it.
-    fn slack_left<R: Rule>(&self, rule: &R, v: u16) -> Option<Wide>
+    fn slack_left<R: MatchingRule>(&self, rule: &R, v: u16) -> Option<Wide>
         requires { R.knows rule.now v }
         ensures { SomeIff result (CanBearLeft (R.costs rule.now) (certificate_in self.now) (2 ^ 512) v)
             (slack_left (R.costs rule.now) (certificate_in self.now) v) }
@@ -100,7 +100,7 @@ impl Table {
     }
 
     // Writes the slacks of a row, and says whether all pairs can bear their potentials.
-    fn fill<R: Rule>(&self, pool: &Pool<'_, R>, row: &Row<'_>, extra: &mut [Wide]) -> bool
+    fn fill<R: MatchingRule>(&self, pool: &Pool<'_, R>, row: &Row<'_>, extra: &mut [Wide]) -> bool
         requires first { R.knows pool.now.rule.now row.now.player }
         requires known { All (R.knows pool.now.rule.now) pool.now.players.now }
         requires within { All (λ v. row.now.start + v < length extra.old) pool.now.players.now }
@@ -126,7 +126,7 @@ impl Table {
     }
 
     // The slacks of all pairs; none if one cannot bear its potentials.
-    fn extras<R: Rule>(
+    fn extras<R: MatchingRule>(
         &self,
         alloc: Global,
         pool: &Pool<'_, R>,
@@ -151,7 +151,7 @@ impl Table {
     }
 
     // The slacks of all who may be left over; none if one cannot bear the potential.
-    fn extras_left<R: Rule>(
+    fn extras_left<R: MatchingRule>(
         &self,
         alloc: Global,
         pool: &Pool<'_, R>,
@@ -180,7 +180,7 @@ impl Table {
 
     /// The floor that the certificate is, for matchings that leave so many players over. There is none if the
     /// certificate is not feasible, or if a sum of its numbers is 2^512 or more.
-    pub fn floor<R: Rule>(
+    pub fn floor<R: MatchingRule>(
         &self,
         alloc: Global,
         pool: &Pool<'_, R>,
@@ -232,7 +232,7 @@ impl Table {
     /// The floor that the certificate is for all matchings, however many they leave over. There is none if the
     /// certificate gives a pair another thing than twice what it gives a player left over, if it is not feasible, or if
     /// a sum of its numbers is 2^512 or more.
-    pub fn floor_for_any<R: Rule>(
+    pub fn floor_for_any<R: MatchingRule>(
         &self,
         alloc: Global,
         pool: &Pool<'_, R>,

@@ -6,7 +6,7 @@ use crate::wide::Wide;
 
 /// Who may meet and who may be left over, and at what cost. Who may meet is answered for all numbers, costs for known
 /// ones alone.
-pub trait Rule {
+pub trait MatchingRule {
     /// What it answers.
     ghost costs: { Self → Costs };
 

@@ -4,7 +4,7 @@ ghost use Rattle.std.specs.Option.{option_to_list};
 ghost use Rattle.dual.specs.Counts.{times, times_named, StandsAsOften};
 ghost use Rattle.dual.specs.Matchings.{MakeUp, Completable, IsWitness};
 
-use crate::rule::Rule;
+use crate::rule::MatchingRule;
 
 fn times(players: &[u16], v: u16) -> usize
     ensures { result ≡ times v players.now }
@@ -51,13 +51,13 @@ fn make_up(pairs: &[(u16, u16)], left: &[u16], players: &[u16]) -> bool
     are_as_many(pairs, left, players) && stand_as_often(pairs, left, players)
 }
 
-fn may_meet_either<R: Rule>(rule: &R, a: u16, b: u16) -> bool
+fn may_meet_either<R: MatchingRule>(rule: &R, a: u16, b: u16) -> bool
     ensures { IsTrue result ↔ (((R.costs rule.now).meets a b ≡ true) × ((R.costs rule.now).meets b a ≡ true)) }
 {
     rule.may_meet(a, b) && rule.may_meet(b, a)
 }
 
-fn may_all_meet<R: Rule>(rule: &R, pairs: &[(u16, u16)]) -> bool
+fn may_all_meet<R: MatchingRule>(rule: &R, pairs: &[(u16, u16)]) -> bool
     ensures { IsTrue result ↔ All (λ pair. ((R.costs rule.now).meets pair.0 pair.1 ≡ true)
         × ((R.costs rule.now).meets pair.1 pair.0 ≡ true)) pairs.now }
 {
@@ -66,7 +66,7 @@ fn may_all_meet<R: Rule>(rule: &R, pairs: &[(u16, u16)]) -> bool
         .all(|pair| may_meet_either(rule, pair.0, pair.1))
 }
 
-fn may_be_left<R: Rule>(rule: &R, left: &[u16]) -> bool
+fn may_be_left<R: MatchingRule>(rule: &R, left: &[u16]) -> bool
     ensures { IsTrue result ↔ All (λ v. (R.costs rule.now).may_be_left v ≡ true) left.now }
 {
     left.iter().all(|v| rule.may_be_left(*v))
@@ -74,7 +74,7 @@ fn may_be_left<R: Rule>(rule: &R, left: &[u16]) -> bool
 
 /// Yes if pairs, and whoever is left over, show that players are completable: each player stands in them as often as in
 /// the list, the two of each pair may meet, whoever comes first, and whoever is left over may be.
-pub fn tells_completable<R: Rule>(
+pub fn tells_completable<R: MatchingRule>(
     pairs: &[(u16, u16)],
     left: Option<u16>,
     rule: &R,

@@ -61,7 +61,7 @@ impl<'a> Rule for BySeat<'a> {
 }
 
 // (for a matching only who may meet and who may be left over counts)
-impl<'a> dual::Rule for BySeat<'a> {
+impl<'a> dual::MatchingRule for BySeat<'a> {
     ghost use Rattle.dutch_bracket.specs.Seats.{costs_nothing};
 
     ghost costs = { costs_nothing };

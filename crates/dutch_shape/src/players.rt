@@ -171,7 +171,7 @@ impl<'a> Players<'a> {
     }
 }
 
-impl dual::Rule for Players<'_> {
+impl dual::MatchingRule for Players<'_> {
     ghost use Rattle.dutch_shape.specs.ShapeCosts.{shape_costs};
 
     ghost costs = { shape_costs };
@@ -212,10 +212,10 @@ impl Costs for Players<'_> {
     }
 
     fn cost(&self, a: u16, b: u16) -> Option<Wide> {
-        if !dual::Rule::may_meet(self, a, b) {
+        if !dual::MatchingRule::may_meet(self, a, b) {
             return None;
         }
-        Some(dual::Rule::weight(self, a, b).halved())
+        Some(dual::MatchingRule::weight(self, a, b).halved())
     }
 
     fn left_cost(&self, a: u16) -> Option<Wide> {
@@ -225,6 +225,6 @@ impl Costs for Players<'_> {
         if !self.may_stay(a) {
             return None;
         }
-        Some(dual::Rule::left_cost(self, a).halved())
+        Some(dual::MatchingRule::left_cost(self, a).halved())
     }
 }

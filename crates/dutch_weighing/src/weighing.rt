@@ -442,7 +442,7 @@ impl Weighing<'_> {
     }
 }
 
-impl dual::Rule for Weighing<'_> {
+impl dual::MatchingRule for Weighing<'_> {
     ghost use Rattle.std.specs.Prelude.{◌<◌, ◌≤◌, length};
     ghost use Rattle.dutch_weighing.specs.Weights.{weighing};
 

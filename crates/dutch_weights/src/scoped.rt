@@ -23,7 +23,7 @@ ghost use Rattle.dutch_weighing.specs.Prelude.{IsNumber};
 use crate::order::Order;
 use crate::scope::{Scope, Standing};
 use arrayvec::ArrayVec;
-use dual::{Floor, Pool, Rule, Table, Wide};
+use dual::{Floor, MatchingRule, Pool, Table, Wide};
 use dutch_bracket::context::Context;
 use dutch_bracket::seats::{BySeat, seats};
 use dutch_bracket::wish::{Wish, fits_as_left, fits_as_pair};
@@ -389,7 +389,7 @@ impl<'a, 'b> Scoped<'a, 'b> {
     }
 }
 
-impl Rule for Scoped<'_, '_> {
+impl MatchingRule for Scoped<'_, '_> {
     ghost use Rattle.dutch_weights.specs.ScopedCosts.{IsReached, costs_in};
 
     ghost costs = { costs_in };

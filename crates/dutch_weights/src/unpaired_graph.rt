@@ -10,7 +10,7 @@ ghost use Rattle.dutch_weights.specs.ScopedCosts.{IsReached};
 
 use crate::scoped::Scoped;
 use cheapest::Costs;
-use dual::{Rule, Wide};
+use dual::{MatchingRule, Wide};
 use dutch_bracket::seated::Pair;
 use std::alloc::AllocError;
 use std::marker::Model;

@@ -3,7 +3,7 @@
 ghost use Rattle.std.specs.Prelude.{◌≡◌, ◌+◌, ◌*◌, get_or, nat_lt, is_some};
 
 use cheapest::{Costs, Fault, Found, cheapest};
-use dual::{Floor, Pool, Rule, Wide};
+use dual::{Floor, MatchingRule, Pool, Wide};
 use std::alloc::{AllocError, Global};
 use std::test::Fail;
 
@@ -84,7 +84,7 @@ fn twice(cost: u32) -> Wide
     Wide::from_u64(2 * u64::from(cost))
 }
 
-impl Rule for Doubled<'_> {
+impl MatchingRule for Doubled<'_> {
     ghost use Rattle.std.specs.Prelude.{◌+◌, ◌*◌, nat_lt, get_or};
 
     ghost costs = { λ t. record {

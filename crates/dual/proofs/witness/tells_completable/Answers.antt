@@ -6,5 +6,5 @@ use Rattle.dual.proofs.witness.tells_completable.Goals as goal
 
 pub returns-then-may_all_meet-clause-sound : goal.returns-then-may_all_meet-clause-sound
 returns-then-may_all_meet-clause-sound g c = λ e.
-    let witness : IsWitness (g.R.Rule.costs c.args.rule.now).meets (g.R.Rule.costs c.args.rule.now).may_be_left c.args.players.now c.args.pairs.now c.args.left = search rules in
-    completable (g.R.Rule.costs c.args.rule.now).meets (g.R.Rule.costs c.args.rule.now).may_be_left c.args.players.now c.args.pairs.now c.args.left witness
+    let witness : IsWitness (g.R.MatchingRule.costs c.args.rule.now).meets (g.R.MatchingRule.costs c.args.rule.now).may_be_left c.args.players.now c.args.pairs.now c.args.left = search rules in
+    completable (g.R.MatchingRule.costs c.args.rule.now).meets (g.R.MatchingRule.costs c.args.rule.now).may_be_left c.args.players.now c.args.pairs.now c.args.left witness

@@ -15,7 +15,7 @@ fill-requires-clause-within g c = λ k d lt.
 
 pub loop-a-preserved : goal.loop-a-preserved
 loop-a-preserved g c =
-    let costs : Costs = g.R.Rule.costs c.args.pool.now.rule.now in
+    let costs : Costs = g.R.MatchingRule.costs c.args.pool.now.rule.now in
     let certificate : Certificate = certificate_in c.args.self.now in
     let size : ℕ = c.args.size in
     let players : List ℕ = c.args.pool.now.players.now in
@@ -42,13 +42,13 @@ loop-a-preserved g c =
 
 pub returns-clause-whole : goal.returns-clause-whole
 returns-clause-whole g c =
-    let costs : Costs = g.R.Rule.costs c.args.pool.now.rule.now in
+    let costs : Costs = g.R.MatchingRule.costs c.args.pool.now.rule.now in
     let all : take c.loop-a.a-index c.args.pool.now.players.now ≡ c.args.pool.now.players.now = take_all c.loop-a.a-index c.args.pool.now.players.now c.loop-a-test.false in
     (λ _. subst (All (λ u. AllBear costs (certificate_in c.args.self.now) (2 ^ 512) u c.args.pool.now.players.now)) all c.loop-a.invariant.bear, λ _. refl)
 
 pub returns-clause-value : goal.returns-clause-value
 returns-clause-value g c =
-    let costs : Costs = g.R.Rule.costs c.args.pool.now.rule.now in
+    let costs : Costs = g.R.MatchingRule.costs c.args.pool.now.rule.now in
     let all : take c.loop-a.a-index c.args.pool.now.players.now ≡ c.args.pool.now.players.now = take_all c.loop-a.a-index c.args.pool.now.players.now c.loop-a-test.false in
     subst (All (λ u. HasSlacks costs (certificate_in c.args.self.now) u c.args.pool.now.players.now (u * c.args.size) c.loop-a.extra.items)) all
     c.loop-a.invariant.told

@@ -6,7 +6,7 @@ use Rattle.dual.proofs.table.Table.floor.Goals as goal
 
 pub returns-clause-least : goal.returns-clause-least
 returns-clause-least g c =
-    let costs : Costs = g.R.Rule.costs c.args.pool.now.rule.now in
+    let costs : Costs = g.R.MatchingRule.costs c.args.pool.now.rule.now in
     let certificate : Certificate = certificate_in c.args.self.now in
     let players : List ℕ = c.args.pool.now.players.now in
     let floor : FloorTable = record {
