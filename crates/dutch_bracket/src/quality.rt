@@ -234,8 +234,8 @@ impl Quality {
     }
 }
 
-/// Where a quality is worked out, filled anew for each candidate and each beginning: its players by seats, its items,
-/// and those with whom S1R can still be paired, by number.
+/// The lists in which a quality is worked out, filled anew for each candidate and each beginning: its players by seats,
+/// its items, and those with whom S1R can still be paired, by number.
 #[derive(Default, Drop)]
 pub struct QualityLists {
     pub seated: Seated,
