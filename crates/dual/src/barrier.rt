@@ -87,7 +87,12 @@ fn is_barrier<R: MatchingRule>(labels: &[u16], most: u16, rule: &R, players: &[u
 /// Yes if a barrier shows that players are not completable: those with label 0 are the blockers, the others are in
 /// groups from 1 to `most`, and more groups are odd than the blockers serve, and one player of an odd group who may be
 /// left over. A no says only that this barrier does not show it.
-pub fn tells_incompletable<R: MatchingRule>(labels: &[u16], most: u16, rule: &R, players: &[u16]) -> bool
+pub fn tells_incompletable<R: MatchingRule>(
+    labels: &[u16],
+    most: u16,
+    rule: &R,
+    players: &[u16],
+) -> bool
     ensures sound { IsTrue result → ¬ Completable (R.costs rule.now).meets (R.costs rule.now).may_be_left players.now }
     ensures whole { IsTrue result ↔ IsTooNarrow (R.costs rule.now).meets (R.costs rule.now).may_be_left players.now
         (slice_index labels.now) most }
