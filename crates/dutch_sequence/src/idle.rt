@@ -1,4 +1,4 @@
-// What the lists of choices see of a caller who knows which sets or tuples lead to nothing of interest.
+// What the lists of choices see of a caller who knows which sets or tuples are idle, so that they may be passed over.
 ghost use Rattle.std.specs.Prelude.{◌≡◌, ℕ, List, true};
 ghost use Rattle.dutch_sequence.specs.Choices.{GoesOn};
 ghost use Rattle.dutch_sequence.specs.Exchanged.{IsExchange};

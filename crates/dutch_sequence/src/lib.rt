@@ -2,8 +2,7 @@
 //!
 //! `Transpositions`, `Exchanges` and `LimboExchanges` list the choices of D.1, D.2 and D.3. A call answers the first of
 //! what is still to come, the end if nothing is, or that its limit was reached; then what is to come stays as it was. A
-//! caller who knows that some choices lead to nothing of interest says so (`CutsTuples`, `CutsExchanges`), and they may
-//! be passed over.
+//! caller who knows that some choices are idle says so (`CutsTuples`, `CutsExchanges`), and they may be passed over.
 //!
 //! A `Budget` counts steps, each a number tried at a place, and no call goes beyond its limit. Nothing takes memory:
 //! every list is an array with room for `LIMIT` numbers, 1,024. So generators are large values, of some KiB.

@@ -1,10 +1,10 @@
 // The one search of all generators: a path of numbers that is filled place by place, goes back where no number fits,
 // and can be stopped before each trial.
 //
-// A beginning that leads to nothing of interest is left: if the caller knows that every whole path which begins so is
-// idle, all of them are passed over. So only idle paths are ever passed over, and it costs no step. When you change it,
-// keep this: a path is left only by setting its next number past all that its place tries, and if nothing is idle, each
-// trial is still made and counted.
+// An idle path may be passed over. If the caller knows that every whole path with a beginning is idle, the beginning is
+// left, and all of them are passed over. So only idle paths are ever passed over, and it costs no step. When you change
+// it, keep this: a path is left only by setting its next number past all that its place tries, and if nothing is idle,
+// each trial is still made and counted.
 //
 // It makes no list, since it runs once for each trial: it has room for a beginning that is asked about, writes what it
 // finds into a list that it is handed (`put_next`), and begins anew in place, at the cost of what it held (`start`).
