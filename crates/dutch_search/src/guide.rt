@@ -37,6 +37,7 @@ impl<'a> BothFloors<'a> {
 
     /// The steps of a turn: all that are left, or so many that it is worth while to be told more behind them. Where
     /// those that are left suffice for one, there is one at least.
+    #[tactic(auto, using(crate::proofs::TurnCounts::some_turn))]
     fn turn(&self, shape: Shape, budget: &Budget) -> Budget
         ensures used { result.used ≡ 0 }
         ensures limit { result.limit * price self.now.is_long shape.pairs ≤ budget.now.limit - budget.now.used }
@@ -105,7 +106,7 @@ impl<'a> BothFloors<'a> {
         budget: &mut Budget,
     ) -> Result<(), Stopped>
         ensures stopped { MatchResult result
-            (λ _. price self.old.is_long so_far.pass.now.shaped.shape.pairs ≤ budget.old.limit - budget.old.used)
+            (λ _. price self.old.is_long so_far.entry.pass.now.shaped.shape.pairs ≤ budget.old.limit - budget.old.used)
             (λ _. budget.new.used ≡ budget.new.limit) }
         ensures context { self.new.shaped.context.now ≡ self.old.shaped.context.now }
         ensures shape { self.new.shaped.shape ≡ self.old.shaped.shape }

@@ -1,11 +1,11 @@
 -- What was skipped in the turns so far is idle, and the walk goes on with the rest.
-use Rattle.std.proofs.Common.{◌≡◌}
+use Rattle.std.proofs.Common.{◌≡◌, ◌-◌}
 use Rattle.dutch_order.specs.Prelude.{Spends}
 use Rattle.dutch_passes.specs.Prelude.{PassesIdle}
 use Rattle.dutch_search.proofs.guide.BothFloorsGuide.draw.Given as goal
 
-abbrev pub invariant-loop : goal.invariant-loop
-invariant-loop l = record {
+abbrev pub invariant-loop-self : goal.invariant-loop-self
+invariant-loop-self l = record {
   passed : PassesIdle l.so_far l.initial.lister.listing.coming l.lister.listing.coming;
   frame : l.lister.listing.frame ≡ l.initial.lister.listing.frame;
   shape : l.lister.listing.shape ≡ l.initial.lister.listing.shape;
@@ -16,3 +16,6 @@ invariant-loop l = record {
   weights : l.self.weights ≡ l.initial.self.weights;
   spends : Spends l.initial.budget l.budget;
 }
+
+abbrev pub decreases-loop-self : goal.decreases-loop-self
+decreases-loop-self l = l.budget.limit - l.budget.used
