@@ -159,40 +159,46 @@ pub(crate) fn more_missed(
     surplus(context, shape, seated, white).max(surplus(context, shape, seated, black))
 }
 
-/// How many players of pairs miss their preference (C.10).
-pub(crate) fn missed(context: &Context<'_>, pairs: &[Pair]) -> u16
-    requires few { length pairs.now ≤ LIMIT }
-    ensures value { result ≡ count_in_pairs context.now.facts (misses Preference) pairs.now }
-    ensures few { result ≤ LIMIT }
-{
-    let mut count = 0;
-    for pair in pairs {
-        count += u16::from(context.has_miss(*pair));
-    }
-    count
+/// How many players miss their preference (C.10), and how many a strong one (C.11).
+#[derive(Clone, Copy)]
+pub(crate) struct MissCounts {
+    pub(crate) preference: u16,
+    pub(crate) strong: u16,
 }
 
-/// How many players of a pair miss a strong preference.
+/// How many players of a pair miss theirs.
 #[tactic(auto, using(dutch_bracket::proofs::PairMisses::no_strong_miss))]
-fn strong_misses(context: &Context<'_>, pair: Pair) -> u16
-    ensures value { result ≡ count_in context.now.facts (misses StrongPreference) pair }
-    ensures few { result ≤ 2 }
+fn missed_by(context: &Context<'_>, pair: Pair) -> MissCounts
+    ensures preference { result.preference ≡ count_in context.now.facts (misses Preference) pair }
+    ensures strong { result.strong ≡ count_in context.now.facts (misses StrongPreference) pair }
+    ensures few { result.preference ≤ 1 }
+    ensures few_strong { result.strong ≤ 2 }
 {
     if !context.has_miss(pair) {
-        return 0;
+        return MissCounts {
+            preference: 0,
+            strong: 0,
+        };
     }
-    count_in(context.field(), Miss::StrongPreference, pair)
+    MissCounts {
+        preference: 1,
+        strong: count_in(context.field(), Miss::StrongPreference, pair),
+    }
 }
 
-/// How many players of pairs miss a strong preference (C.11).
-pub(crate) fn missed_strong(context: &Context<'_>, pairs: &[Pair]) -> u16
+/// How many players of pairs miss theirs.
+pub(crate) fn missed(context: &Context<'_>, pairs: &[Pair]) -> MissCounts
     requires few { length pairs.now ≤ LIMIT }
-    ensures value { result ≡ count_in_pairs context.now.facts (misses StrongPreference) pairs.now }
-    ensures few { result ≤ 2 * LIMIT }
+    ensures preference { result.preference ≡ count_in_pairs context.now.facts (misses Preference) pairs.now }
+    ensures strong { result.strong ≡ count_in_pairs context.now.facts (misses StrongPreference) pairs.now }
+    ensures few { result.preference ≤ LIMIT }
+    ensures few_strong { result.strong ≤ 2 * LIMIT }
 {
-    let mut count = 0;
+    let (mut preference, mut strong) = (0, 0);
     for pair in pairs {
-        count += strong_misses(context, *pair);
+        let more = missed_by(context, *pair);
+        preference += more.preference;
+        strong += more.strong;
     }
-    count
+    MissCounts { preference, strong }
 }

@@ -12,7 +12,7 @@ ghost use Rattle.dutch_floors.specs.FloorOf.{AreWants, is_flat, is_known, reside
 ghost use Rattle.dutch_floors.specs.FloorOf.{floor_by, floor_of};
 ghost use Rattle.dutch_floors.specs.Behind.{IsBasisFor, NoneBeats, NoneHasBetterNext};
 
-use crate::colour_floor::{Wants, missed, missed_strong, more_missed, wants_in};
+use crate::colour_floor::{Wants, missed, more_missed, wants_in};
 use crate::lonely::lonely;
 use crate::outlook::{Outlook, is_flat, leaves_first};
 use dutch_bracket::differences::fill_psd;
@@ -187,21 +187,20 @@ impl<'a> Floors<'a> {
         self.awaits_no_better(prefix, quality)
     }
 
-    /// How many more miss than in the pairs that are fixed (C.10).
-    fn more_by(&self, prefix: &Prefix<'_>, room: &mut QualityLists) -> usize
-        requires pairs { HasFewPairs (fixed_lists prefix.now) }
-        requires seated { room.old.seated ≡ fixed self.now.facts self.now.reached (fixed_lists prefix.now) }
-        ensures value { result ≡ more_by prefix.now.filling self.now (fixed_lists prefix.now) }
+    /// How many more miss than in the pairs that are fixed (C.10), while such a list is filled.
+    fn more_by(&self, filling: Filling, lists: &FixedLists<'_>, room: &mut QualityLists) -> usize
+        requires pairs { HasFewPairs lists.now }
+        requires seated { room.old.seated ≡ fixed self.now.facts self.now.reached lists.now }
+        ensures value { result ≡ more_by filling self.now lists.now }
         ensures few { result ≤ LIMIT }
         ensures seated { room.new.seated ≡ room.old.seated }
     {
         let shape = self.shape();
         let more = more_missed(self.shaped.context, shape, &room.seated, self.wants(false));
-        match prefix.filling() {
+        match filling {
             Filling::S1 | Filling::S2 => return more,
             Filling::S2r => {
-                let lists = fixed_lists(prefix);
-                return more.max(lonely(self.shaped.context, shape, &lists, &mut room.pool));
+                return more.max(lonely(self.shaped.context, shape, lists, &mut room.pool));
             }
         }
     }
@@ -233,23 +232,24 @@ impl<'a> Floors<'a> {
         self.fill_psd(s1, seated, &mut quality.psd);
         let next = self.awaited(s1);
         quality.put_next(next.pairs, &next.psd);
-        quality.missed_preferences = missed(context, &seated.pairs) + more as u16;
-        quality.missed_strong = missed_strong(context, &seated.pairs) + more_strong as u16;
+        let missed = missed(context, &seated.pairs);
+        quality.missed_preferences = missed.preference + more as u16;
+        quality.missed_strong = missed.strong + more_strong as u16;
         fill_others(context.field(), seated, quality);
     }
 
     /// No floor of a beginning is known if its lists have no room in the shape, or if S1 is not chosen and it matters
     /// which one is.
     #[tactic(auto, using(crate::proofs::FloorLemmas::known_pairs, crate::proofs::FloorLemmas::s1_few))]
-    fn is_known(&self, prefix: &Prefix<'_>) -> bool
+    fn is_known(&self, prefix: &Prefix<'_>, lists: &FixedLists<'_>) -> bool
+        requires lists { lists.now ≡ fixed_lists prefix.now }
         ensures known { result ≡ is_known self.now prefix.now }
         ensures of { IsOf self.now.facts self.now.reached }
         ensures outlook { IsOutlook self.now.facts self.now.reached self.now.lower self.now.shape self.now.outlook }
         ensures pairs { is_known self.now prefix.now ≡ true → HasFewPairs (fixed_lists prefix.now) }
         ensures few { is_known self.now prefix.now ≡ true → length (s1_of self.now prefix.now) ≤ self.now.shape.mdps }
     {
-        let lists = fixed_lists(prefix);
-        is_of_shape(self.shape(), &lists) && (has_s1(prefix.filling()) || self.uniform)
+        is_of_shape(self.shape(), lists) && (has_s1(prefix.filling()) || self.uniform)
     }
 
     /// Fills what is known by counts behind a beginning, if something is.
@@ -260,11 +260,12 @@ impl<'a> Floors<'a> {
         ensures outlook { IsOutlook self.now.facts self.now.reached self.now.lower self.now.shape self.now.outlook }
         ensures value { result ≡ true → quality_in room.new.quality ≡ floor_of self.now prefix.now }
     {
-        if !self.is_known(prefix) {
+        let lists = fixed_lists(prefix);
+        if !self.is_known(prefix, &lists) {
             return false;
         }
-        fill_fixed(self.shaped.context, &fixed_lists(prefix), &mut room.seated);
-        let more = self.more_by(prefix, room);
+        fill_fixed(self.shaped.context, &lists, &mut room.seated);
+        let more = self.more_by(prefix.filling(), &lists, room);
         self.fill_over(self.s1(prefix), more, room);
         true
     }

@@ -45,18 +45,18 @@ module _ (s : Skipper) (a : Arrangement) (m : IsIn a (candidates_in (pass_of s).
   better_by (Some w) same f bar at' passed reaches = better_here w same f bar at' passed reaches
 
   -- the kept candidate is not worse than one that its bar reaches
-  pub behind_kept : (bar : Bar) (best : Best) → s.bars.kept ≡ Some bar → s.so_far.kept.now ≡ Some best → Reaches bar (quality_in best.quality) → IsBehindKept s a
+  pub behind_kept : (bar : Bar) (best : Best) → s.bars.now.kept ≡ Some bar → s.so_far.kept.now ≡ Some best → Reaches bar (quality_in best.quality) → IsBehindKept s a
   behind_kept bar best bar_is there reaches =
       ∥∥₁_elim s.best (Bool-set _ _) (λ has.
       let here' : HasBar s.weights.now (Some (quality_in best.quality)) (Some bar) =
       subst (λ (o : Option Bar). HasBar s.weights.now (Some (quality_in best.quality)) o) bar_is
-      (subst (λ (o : Option Best). HasBar s.weights.now (kept_in o) s.bars.kept) there has) in
+      (subst (λ (o : Option Best). HasBar s.weights.now (kept_in o) s.bars.now.kept) there has) in
       ap (λ (o : Option Best). not (wins it o)) there ∙ ap not (no_better_by s.weights.now refl (quality_in best.quality) bar here' reaches))
 
   -- the aim is better than one beyond its bar
-  pub behind_aim : (bar : Bar) (aim : Fields) → s.bars.aim ≡ Some bar → (pass_of s).aim ≡ Some aim → bar.weight < least → Reaches bar (quality_in aim) → IsBehindAim s a
+  pub behind_aim : (bar : Bar) (aim : Fields) → s.bars.now.aim ≡ Some bar → (pass_of s).aim ≡ Some aim → bar.weight < least → Reaches bar (quality_in aim) → IsBehindAim s a
   behind_aim bar aim bar_is there passed reaches =
       ∥∥₁_elim s.aim (Bool-set _ _) (λ has.
       let here' : HasBar s.weights.now (Some (quality_in aim)) (Some bar) =
-      subst (λ (o : Option Bar). HasBar s.weights.now (Some (quality_in aim)) o) bar_is (subst (λ (o : Option Fields). HasBar s.weights.now (aim_in o) s.bars.aim) there has) in
+      subst (λ (o : Option Bar). HasBar s.weights.now (Some (quality_in aim)) o) bar_is (subst (λ (o : Option Fields). HasBar s.weights.now (aim_in o) s.bars.now.aim) there has) in
       ap (λ (o : Option Fields). beats (aim_in o) it) there ∙ better_by s.weights.now refl (quality_in aim) bar here' passed reaches)

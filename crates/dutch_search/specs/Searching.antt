@@ -11,6 +11,10 @@ use Rattle.dutch_search.specs.declared.both.TheConstants.{PAIRS_FOR_A_STEP}
 abbrev pub price : Bool → ℕ → ℕ
 price is_long pairs = if is_long then 1 + pairs / PAIRS_FOR_A_STEP else 1
 
+-- the same of floors of both kinds
+abbrev pub price_of : BothFloors → ℕ
+price_of floors = price floors.is_long floors.shaped.shape.pairs
+
 -- floors by weight, if there are any, are those of the bracket, the shape and the wish of a pass
 abbrev pub HasWeights : Pass → Option Weighed → Type 0
 HasWeights pass weights = ForSome weights (AreOf pass.shaped.context.now pass.shaped.shape pass.wish)

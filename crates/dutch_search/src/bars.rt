@@ -64,30 +64,9 @@ pub(crate) struct Skipper<'a, 'k> {
     /// What is known by weight.
     pub(crate) weights: &'k Option<WeightFloors<'k>>,
     /// The bars of the aim and of the candidate that is kept.
-    pub(crate) bars: Bars,
+    pub(crate) bars: &'k Bars,
     ghost basis: { IsBasisFor so_far.pass.now.shaped counts.now },
     ghost weighed: { HasWeights so_far.pass.now weights.now },
-    ghost aim: { ∥ HasBar weights.now (aim_in so_far.pass.now.aim) bars.aim ∥₁ },
-    ghost best: { ∥ HasBar weights.now (kept_in so_far.kept.now) bars.kept ∥₁ },
-}
-
-impl<'a, 'k> Skipper<'a, 'k> {
-    /// What tells by an aim, by what is kept and by floors of both kinds.
-    pub fn new(
-        so_far: PassSoFar<'a, 'k>,
-        counts: &'k Floors<'k>,
-        weights: &'k Option<WeightFloors<'k>>,
-    ) -> Skipper<'a, 'k>
-        requires counts { IsBasisFor so_far.pass.now.shaped counts.now }
-        requires weights { HasWeights so_far.pass.now weights.now }
-        ensures { result.so_far ≡ so_far.entry }
-    {
-        let bars = bars_of(so_far, weights);
-        Skipper {
-            so_far,
-            counts,
-            weights,
-            bars,
-        }
-    }
+    ghost aim: { ∥ HasBar weights.now (aim_in so_far.pass.now.aim) bars.now.aim ∥₁ },
+    ghost best: { ∥ HasBar weights.now (kept_in so_far.kept.now) bars.now.kept ∥₁ },
 }

@@ -4,8 +4,9 @@ ghost use Rattle.std.specs.Prelude.{◌≡◌, ◌+◌, ◌-◌, ◌*◌, ◌<�
 ghost use Rattle.std.specs.Option.{ForSome};
 ghost use Rattle.std.specs.Result.{MatchResult};
 ghost use Rattle.dutch_order.specs.Prelude.{MatchStep, Spends};
-ghost use Rattle.dutch_passes.specs.Prelude.{Draws, ListsFor, PassesIdle};
-ghost use Rattle.dutch_search.specs.Searching.{AreFor, price};
+ghost use Rattle.dutch_passes.specs.Prelude.{Draws, ListsFor, PassesIdle, aim_in, kept_in};
+ghost use Rattle.dutch_search.specs.Searching.{AreFor, price_of};
+ghost use Rattle.dutch_weights.specs.Prelude.{HasBar};
 
 use crate::bars::{Skipper, bars_of};
 use crate::both::{BothFloors, PAIRS_FOR_A_STEP, is_weighed};
@@ -16,20 +17,20 @@ use dutch_bracket::quality::Quality;
 use dutch_bracket::reached::ByNumber;
 use dutch_bracket::spending::spend;
 use dutch_bracket::wish::Wish;
-use dutch_order::{BoundWithRoom, Budget, Shape, Step, Stopped};
+use dutch_order::{BoundWithRoom, Budget, Step, Stopped};
 use dutch_passes::{Guide, PassSoFar, Workroom};
-use dutch_weights::asking::FloorRequest;
+use dutch_weights::asking::{Bars, FloorRequest};
 use dutch_weights::scope::Scope;
 use dutch_weights::weight_floor::WeightFloors;
 
 impl<'a> BothFloors<'a> {
     /// For how many steps each one counts: for one alone in the few steps that come first, and behind them for the
     /// more, the more pairs the questions look at that are asked.
-    fn price(&self, shape: Shape) -> u64
-        ensures { result ≡ price self.now.is_long shape.pairs }
+    fn price(&self) -> u64
+        ensures { result ≡ price_of self.now }
     {
         if self.is_long {
-            1 + (shape.pairs / PAIRS_FOR_A_STEP) as u64
+            1 + (self.shaped.shape.pairs / PAIRS_FOR_A_STEP) as u64
         } else {
             1
         }
@@ -38,12 +39,12 @@ impl<'a> BothFloors<'a> {
     /// The steps of a turn: all that are left, or so many that it is worth while to be told more behind them. Where
     /// those that are left suffice for one, there is one at least.
     #[tactic(auto, using(crate::proofs::TurnCounts::some_turn))]
-    fn turn(&self, shape: Shape, budget: &Budget) -> Budget
+    fn turn(&self, budget: &Budget) -> Budget
         ensures used { result.used ≡ 0 }
-        ensures limit { result.limit * price self.now.is_long shape.pairs ≤ budget.now.limit - budget.now.used }
-        ensures some { price self.now.is_long shape.pairs ≤ budget.now.limit - budget.now.used → 0 < result.limit }
+        ensures limit { result.limit * price_of self.now ≤ budget.now.limit - budget.now.used }
+        ensures some { price_of self.now ≤ budget.now.limit - budget.now.used → 0 < result.limit }
     {
-        let (left, price) = (budget.limit - budget.used, self.price(shape));
+        let (left, price) = (budget.limit - budget.used, self.price());
         let steps = match &self.weights {
             Some(weights) => weights.patience(budget.used).max(price).min(left),
             None => left,
@@ -55,21 +56,28 @@ impl<'a> BothFloors<'a> {
     }
 
     /// Counts the steps of a turn, each at its price, up to the limit.
-    fn count(&self, shape: Shape, turn: &Budget, budget: &mut Budget)
+    fn count(&self, turn: &Budget, budget: &mut Budget)
         ensures counts { budget.new.used
-            ≡ min (budget.old.used + turn.now.used * price self.now.is_long shape.pairs) budget.old.limit }
+            ≡ min (budget.old.used + turn.now.used * price_of self.now) budget.old.limit }
         ensures spends { Spends budget.old budget.new }
     {
-        let steps = turn.used.saturating_mul(self.price(shape));
+        let steps = turn.used.saturating_mul(self.price());
         budget.used = budget.used.saturating_add(steps).min(budget.limit);
     }
 
-    /// Tells which beginnings a pass may skip, beside the candidate that it keeps.
-    fn skipper<'k>(&'k self, so_far: PassSoFar<'k, 'k>) -> Skipper<'k, 'k>
+    /// Tells which beginnings a pass may skip, by the bars of its aim and of the candidate that it keeps.
+    fn skipper<'k>(&'k self, so_far: PassSoFar<'k, 'k>, bars: &'k Bars) -> Skipper<'k, 'k>
         requires known { AreFor so_far.pass.now self.now }
+        requires aim { HasBar self.now.weights (aim_in so_far.pass.now.aim) bars.now.aim }
+        requires kept { HasBar self.now.weights (kept_in so_far.kept.now) bars.now.kept }
         ensures { result.so_far ≡ so_far.entry }
     {
-        Skipper::new(so_far, &self.counts, &self.weights)
+        Skipper {
+            so_far,
+            counts: &self.counts,
+            weights: &self.weights,
+            bars,
+        }
     }
 
     /// Keeps floors by weight, with that of a cheapest matching of the bracket. It answers what to aim at.
@@ -101,12 +109,12 @@ impl<'a> BothFloors<'a> {
     /// Behind a turn, where steps are left: floors by weight are asked for more, if there are any.
     fn go_on(
         &mut self,
-        so_far: PassSoFar<'_, '_>,
         last: &LastBeginning,
+        bars: &Bars,
         budget: &mut Budget,
     ) -> Result<(), Stopped>
         ensures stopped { MatchResult result
-            (λ _. price self.old.is_long so_far.entry.pass.now.shaped.shape.pairs ≤ budget.old.limit - budget.old.used)
+            (λ _. price_of self.old ≤ budget.old.limit - budget.old.used)
             (λ _. budget.new.used ≡ budget.new.limit) }
         ensures context { self.new.shaped.context.now ≡ self.old.shaped.context.now }
         ensures shape { self.new.shaped.shape ≡ self.old.shaped.shape }
@@ -114,15 +122,14 @@ impl<'a> BothFloors<'a> {
         ensures weights { self.new.weights ≡ self.old.weights }
         ensures spends { Spends budget.old budget.new }
     {
-        if budget.limit - budget.used < self.price(so_far.pass.shaped.shape) {
+        if budget.limit - budget.used < self.price() {
             budget.used = budget.limit;
             return Err(Stopped);
         }
-        let bars = bars_of(so_far, &self.weights);
         match &mut self.weights {
             Some(weights) => {
                 let LastBeginning { scope, pairs } = last;
-                weights.tell_more(&FloorRequest { scope, pairs }, &bars, budget)
+                weights.tell_more(&FloorRequest { scope, pairs }, bars, budget)
             }
             None => Ok(()),
         }
@@ -173,15 +180,16 @@ impl<'a> Guide for BothFloors<'a> {
         work: &mut Workroom<LastBeginning>,
         budget: &mut Budget,
     ) -> Result<bool, Stopped> {
-        let shape = so_far.pass.shaped.shape;
+        // (more floors change nothing of the weights, and so of the bars)
+        let bars = bars_of(so_far, &self.weights);
         loop {
-            let mut turn = self.turn(shape, budget);
-            let step = draw_once(&self.skipper(so_far), lister, work, &mut turn);
-            self.count(shape, &turn, budget);
+            let mut turn = self.turn(budget);
+            let step = draw_once(&self.skipper(so_far, &bars), lister, work, &mut turn);
+            self.count(&turn, budget);
             match step {
                 Step::Found(()) => return Ok(true),
                 Step::End => return Ok(false),
-                Step::Undecided => self.go_on(so_far, &work.notes, budget)?,
+                Step::Undecided => self.go_on(&work.notes, &bars, budget)?,
             }
         }
     }
