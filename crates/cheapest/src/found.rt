@@ -44,7 +44,7 @@ impl Forest {
 }
 
 /// So many looks from a vertex at another one count as one step: a look takes far less time than a step of a walk.
-pub const LOOKS_IN_A_STEP: u64 = 3;
+pub const LOOKS_IN_A_STEP: u64 = 2;
 
 /// Finds a matching of a graph with costs, with a certificate. Each `LOOKS_IN_A_STEP` looks from a vertex at another
 /// one take one of the steps left; where none is left, the search is stopped.

@@ -7,14 +7,12 @@ use crate::eligible::at_most;
 use crate::greatest::{Lister, Shapes, greatest_shape};
 use dutch_order::{Budget, Rule, Shape, Stopped};
 
-/// The steps of the listing for each player that decide nearly all brackets.
-const FIRST_STEPS: u64 = 64;
-
-/// The greatest shape by a listing of few steps, the first arrangement of which is drawn. None says that they did not
-/// suffice.
+/// The greatest shape by a listing of so many steps, the first arrangement of which is drawn. None says that they did
+/// not suffice.
 pub fn decided_in_few_steps<R: Rule, S: Shapes<R>>(
     asked: &S,
     lister: &mut Lister<'_, R>,
+    steps: u64,
     budget: &mut Budget,
 ) -> Result<Option<Option<Shape>>, Stopped>
     requires lists { S.lists asked.now lister.old.listing }
@@ -25,7 +23,6 @@ pub fn decided_in_few_steps<R: Rule, S: Shapes<R>>(
     ensures lists { S.lists asked.now lister.new.listing }
     ensures spends { Spends budget.old budget.new }
 {
-    let steps = FIRST_STEPS.saturating_mul(asked.bracket().len() as u64);
     let mut few = at_most(steps, budget);
     let found = greatest_shape(asked, lister, &mut few);
     budget.used = few.used;

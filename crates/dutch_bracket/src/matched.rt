@@ -14,7 +14,7 @@ use crate::seats::seats;
 use dual::{tells_completable, tells_incompletable};
 use dutch_order::{Budget, LIMIT, Stopped};
 use dutch_player::Field;
-use matching::{Found, greatest};
+use matching::{Fault, Found, greatest};
 use std::alloc::{AllocError, Global};
 
 /// Pairs of seats, and the seat that has the bye, if one has.
@@ -93,14 +93,7 @@ fn confirmed(
     Ok(None)
 }
 
-/// The fewest steps in which a matching of so many seats, and the bye, is worth a try.
-fn few_steps(players: &[u16]) -> u64 {
-    let size = players.len() as u64 + 1;
-    size.saturating_mul(size)
-}
-
-/// Looks for a greatest matching in half of the steps that are left. None says that it was not looked for, since they
-/// are too few, that it was not found in them, or not confirmed, or that memory was refused.
+/// Looks for a greatest matching. None says that it was not confirmed, or that memory was refused.
 pub(crate) fn decided_by_matching(
     alloc: Global,
     field: &Field,
@@ -112,15 +105,12 @@ pub(crate) fn decided_by_matching(
         (budget.new.used ≡ budget.new.limit) }
     ensures spends { Spends budget.old budget.new }
 {
-    let half = (budget.limit - budget.used) / 2;
-    if half < few_steps(players) {
-        return Ok(None);
-    }
-    let mut left = half;
+    let mut left = budget.limit - budget.used;
     let found = greatest(alloc, &Meetings::new(field, players), &mut left);
-    budget.used += half - left;
+    budget.used = budget.limit - left;
     match found {
         Ok(found) => Ok(confirmed(alloc, field, players, &found).unwrap_or(None)),
-        Err(_) => Ok(None),
+        Err(Fault::Stopped) => Err(Stopped),
+        Err(Fault::OutOfMemory) => Ok(None),
     }
 }

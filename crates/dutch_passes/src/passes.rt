@@ -191,7 +191,7 @@ fn best_within<G: Guide>(
 }
 
 /// Keeps what the passes end with by weights that are found now. A no says that the steps for it do not suffice. Where
-/// C.7 counts and they do not tell of the next bracket, these are a quarter of the steps that are left, else all.
+/// C.7 counts and they do not tell of the next bracket, these are four times the few steps, else all that are left.
 /// (Apart from its caller, as most brackets do not come to it.)
 #[inline(never)]
 fn best_by_weight<G: Guide>(
@@ -209,18 +209,18 @@ fn best_by_weight<G: Guide>(
     ensures pass { SeeksTheSame pass.old pass.new }
     ensures spends { Spends budget.old budget.new }
 {
-    let left = budget.limit - budget.used;
     pass.aim = judge.guide.weigh(pass.wish, next, budget)?;
     let steps = if tells_next(pass, &judge.guide) && !next {
-        left / 4
+        few_steps(pass.shaped.context.len()).saturating_mul(4)
     } else {
-        left
+        budget.limit - budget.used
     };
     best_within(pass, judge, steps, budget)
 }
 
 /// Keeps what the passes end with: first in few steps, since most brackets want no more; then with floors by weight;
-/// and where C.7 counts and a quarter of the steps does not suffice, with weights that tell of the next bracket too.
+/// and where C.7 counts and four times the few steps do not suffice, with weights that tell of the next bracket too.
+/// (Nothing here depends on the limit: with a higher one the same way goes on.)
 pub fn best_in_time<G: Guide>(
     pass: &mut Pass<'_>,
     judge: &mut Judge<'_, G>,

@@ -7,7 +7,7 @@ use dutch_floors::floor::Floors;
 use dutch_weights::weight_floor::WeightFloors;
 
 /// Behind the few steps that come first, a step counts once more for each so many pairs of the shape.
-pub(crate) const PAIRS_FOR_A_STEP: usize = 24;
+pub(crate) const PAIRS_FOR_A_STEP: usize = 16;
 
 /// The pairs of brackets with more players are not weighed.
 const MOST_WEIGHED: usize = 400;

@@ -15,12 +15,20 @@ use dutch_floors::floor::Floors;
 use dutch_order::{Budget, Step, Stopped};
 use dutch_passes::{Judge, Pass, Workroom, best_in_time, look_below};
 
-/// The floors of a bracket, which know of the next bracket what a quarter of the steps that are left tells of it.
+/// In how many steps it is looked for what the next bracket can be at best: a step for each player of the bracket with
+/// each of the next scoregroup, and a listing.
+fn steps_for_outlook(players: usize) -> u64 {
+    let players = players as u64;
+    players.saturating_add(128).saturating_mul(players)
+}
+
+/// The floors of a bracket, which know of the next bracket what so many steps tell of it.
 fn floors_of<'a>(shaped: &ShapedBracket<'a>, budget: &mut Budget) -> Result<Floors<'a>, Stopped>
     ensures answer { MatchResult result (IsBasisFor shaped.now) (λ _. budget.new.used ≡ budget.new.limit) }
     ensures spends { Spends budget.old budget.new }
 {
-    let mut few = at_most((budget.limit - budget.used) / 4, budget);
+    let steps = steps_for_outlook(shaped.context.len_below());
+    let mut few = at_most(steps, budget);
     let found = Floors::find(shaped, &mut few);
     budget.used = few.used;
     if let Ok(floors) = found {

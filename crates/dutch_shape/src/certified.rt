@@ -19,9 +19,6 @@ use dutch_bracket::spending::spend;
 use dutch_order::{Budget, Shape, Stopped, numbered_from};
 use std::alloc::{AllocError, Global};
 
-/// Of more players than so many no matching of least cost is looked for: the check takes room with their square.
-const MOST_PLAYERS: u64 = 400;
-
 /// What every shape that has a candidate that can be chosen costs at least, beside what is owed.
 #[derive(Drop)]
 pub(crate) struct ShapeFloor {
@@ -110,8 +107,18 @@ fn shape_by(
     Ok(Some(shape))
 }
 
-/// A matching of least cost. None says that it was not looked for, since too few steps are left or the players are too
-/// many, or that memory was refused.
+/// The steps of a listing for each player that decide nearly all brackets.
+const FIRST_STEPS: u64 = 64;
+
+/// How many steps a listing makes before a matching of so many players is looked for: those that decide nearly all
+/// brackets, and as many as the matching takes at least, an eighth of the cube of the players in looks.
+pub(crate) fn steps_before(players: usize) -> u64 {
+    let count = players as u64;
+    let least = count.saturating_mul(count).saturating_mul(count) / (8 * LOOKS_IN_A_STEP);
+    count.saturating_mul(FIRST_STEPS).max(least)
+}
+
+/// A matching of least cost. None says that memory was refused.
 fn found(players: &Players<'_>, budget: &mut Budget) -> Result<Option<Found>, Stopped>
     ensures answer { MatchFound result
         (λ found. IsMatching (vertices players.now) (joined players.now) found.partners.items) (Unit {0})
@@ -119,11 +126,6 @@ fn found(players: &Players<'_>, budget: &mut Budget) -> Result<Option<Found>, St
     ensures spends { Spends budget.old budget.new }
 {
     let mut left = budget.limit - budget.used;
-    let count = players.count() as u64;
-    // As many as an eighth of their cube has looks have to be left; some take more.
-    if MOST_PLAYERS < count || left < count * count * count / (8 * LOOKS_IN_A_STEP) {
-        return Ok(None);
-    }
     let found = cheapest(players.alloc, players, &mut left);
     budget.used = budget.limit - left;
     match found {
@@ -133,7 +135,7 @@ fn found(players: &Players<'_>, budget: &mut Budget) -> Result<Option<Found>, St
     }
 }
 
-/// What a matching of least cost tells of a bracket's shape: nothing if it was not looked for, or not confirmed.
+/// What a matching of least cost tells of a bracket's shape: nothing if it was not confirmed, or memory was refused.
 pub(crate) fn told_by_cost(players: &Players<'_>, budget: &mut Budget) -> Result<Told, Stopped>
     ensures answer { MatchResult result
         (λ told. IsShapeFloor players.now told.floor

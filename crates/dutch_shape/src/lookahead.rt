@@ -19,7 +19,7 @@ ghost use Rattle.dutch_bracket.specs.NextBracket.{IsOfBracket, IsFlat, AreLeft, 
 ghost use Rattle.dutch_bracket.specs.NextBracket.{value_in, value_of, quality};
 ghost use Rattle.dutch_order.specs.Prelude.{Spends};
 
-use crate::certified::told_by_cost;
+use crate::certified::{steps_before, told_by_cost};
 use crate::players::Players;
 use dutch_bracket::differences::fill_psd;
 use dutch_bracket::few_steps::decided_in_few_steps;
@@ -153,7 +153,8 @@ fn value_of(
         rule: &rule,
     };
     let mut lister = Lister::new(&bracket, &rule);
-    if let Some(found) = decided_in_few_steps(&legal, &mut lister, budget)? {
+    let few = steps_before(bracket.len());
+    if let Some(found) = decided_in_few_steps(&legal, &mut lister, few, budget)? {
         return Ok(value_drawn(&legal, found, &lister.drawn));
     }
     let matched = shape_by_cost(alloc, rule, budget)?;

@@ -7,7 +7,7 @@ ghost use Rattle.dutch_bracket.specs.Prelude.{FitsHere, ListsHere, eligible_here
 ghost use Rattle.dutch_bracket.specs.Prelude.{shape_here, shapes_with};
 ghost use Rattle.dutch_shape.specs.ShapeCosts.{IsTooCheap, IsShapeFloor};
 
-use crate::certified::{ShapeFloor, told_by_cost};
+use crate::certified::{ShapeFloor, steps_before, told_by_cost};
 use crate::players::Players;
 use dutch_bracket::ByNumber;
 use dutch_bracket::context::Context;
@@ -92,10 +92,12 @@ fn found_shape<'b>(
         context,
         floor: ShapeFloor::none(),
     };
-    if let Some(shape) = decided_in_few_steps(&shapes, lister, budget)? {
+    let players = Players::of(context);
+    let few = steps_before(players.count());
+    if let Some(shape) = decided_in_few_steps(&shapes, lister, few, budget)? {
         return Ok(shape);
     }
-    let told = told_by_cost(&Players::of(context), budget)?;
+    let told = told_by_cost(&players, budget)?;
     if let Some(shape) = told.shape {
         return Ok(Some(shape));
     }

@@ -119,13 +119,6 @@ fn nth_resident(mdps: usize, count: usize, pairs: &[Pair], place: usize) -> Opti
     None
 }
 
-/// How many steps have to be left for a matching of so many players to be looked for: as many as an eighth of their
-/// cube has looks. Some take more.
-fn steps_for(players: usize) -> u64 {
-    let players = players as u64;
-    players.saturating_mul(players).saturating_mul(players) / (8 * LOOKS_IN_A_STEP)
-}
-
 impl<'a> WeightFloors<'a> {
     /// What being left over costs beside half of a weight: more than any weight, so that as many pairs are made as can
     /// be; nothing where C.7 is measured, since there the weights tell of it.
@@ -174,8 +167,7 @@ impl<'a> WeightFloors<'a> {
     }
 
     /// Looks for a cheapest matching of the players who are in none of some pairs, and keeps the floor that its
-    /// certificate gives. It answers the matching; none if it was not looked for, since too few steps are left, or
-    /// nothing was confirmed.
+    /// certificate gives. It answers the matching; none if nothing was confirmed, or memory was refused.
     fn ask_with(
         &mut self,
         request: &FloorRequest<'_>,
@@ -187,11 +179,7 @@ impl<'a> WeightFloors<'a> {
         ensures spends { Spends budget.old budget.new }
     {
         let count = self.size();
-        let free = count.saturating_sub(2 * request.pairs.len());
         let mut left = budget.limit - budget.used;
-        if left < steps_for(free) {
-            return Ok(None);
-        }
         let proposal = self.propose(request, &order, &mut left);
         budget.used = budget.limit - left;
         let Some(proposal) = proposal? else {
