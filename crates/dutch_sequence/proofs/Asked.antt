@@ -7,7 +7,7 @@ use Rattle.std.proofs.lemmas.List.{take_all, drop_all, length-map, length-take-l
 use Rattle.std.proofs.lemmas.List.Elements.{filter-append}
 use Rattle.std.proofs.lemmas.List.Folds.{list_any-append}
 use Rattle.std.proofs.lemmas.Bool.{true≢false, cases_Bool, and_parts, or_from, or_left, ltb-true, ltb-false}
-use Rattle.dutch_sequence.specs.Prelude.{is_member, numbers_from, subsets, moved_in, sum_of, IsExchange, ExchangeClass, GoesOn, count_of, half_start, IsIn, IsOfStage, fixed_numbers, is_fixed, kept_of, exchange_class, out_limit, in_limit, set_of, total, value_of}
+use Rattle.dutch_sequence.specs.Prelude.{is_member, numbers_from, subsets, moved_in, sum_of, IsExchange, GoesOn, count_of, half_start, IsIn, IsOfStage, fixed_numbers, is_fixed, kept_of, exchange_class, out_limit, in_limit, set_of, total, value_of}
 use Rattle.dutch_sequence.specs.declared.exchange.Side.{Side}
 use Rattle.dutch_sequence.specs.declared.exchange.Side.TheVariants.{Out, In}
 use Rattle.dutch_sequence.proofs.Orders.{in-member, member-in, IsIn-filter, IsIn-map}
@@ -310,11 +310,3 @@ told-room pool k side taken limit =
       length-map (filter (is_fixed taken limit true) all) (value_of pool k side),
       length-map (filter (is_fixed taken limit false) all) (value_of pool k side),
     )
-
--- the same exchange, at the lists that the code has
-pub exchange-at : (e : ExchangeClass) (set original others held barred : List ℕ) → IsExchange e set → original ≡ e.original → others ≡ e.others → held ≡ e.held → barred ≡ e.barred → IsExchange (record { original = original; others = others; size = e.size; difference = e.difference; held = held; barred = barred }) set
-exchange-at e set original others held barred is is_original is_others is_held is_barred =
-    subst (λ l. IsExchange (record { original = l; others = others; size = e.size; difference = e.difference; held = held; barred = barred }) set) (sym is_original)
-    (subst (λ l. IsExchange (record { original = e.original; others = l; size = e.size; difference = e.difference; held = held; barred = barred }) set) (sym is_others)
-    (subst (λ l. IsExchange (record { original = e.original; others = e.others; size = e.size; difference = e.difference; held = l; barred = barred }) set) (sym is_held)
-    (subst (λ l. IsExchange (record { original = e.original; others = e.others; size = e.size; difference = e.difference; held = e.held; barred = l }) set) (sym is_barred) is)))

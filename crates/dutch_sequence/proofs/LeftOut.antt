@@ -1,39 +1,16 @@
 -- What a search leaves out: all below a beginning goes on from it, so it is idle if all that begins so is.
-use Rattle.std.proofs.Common.{◌≡◌, ℕ, zero, suc, ◌-◌, Bool, true, false, cond, List, [], ◌∷◌, ◌++◌, length, map, Option, Result, Ok, Err, refl, sym, ◌∙◌, ap, append_assoc, subst}
+use Rattle.std.proofs.Common.{◌≡◌, ℕ, zero, suc, ◌-◌, Bool, true, false, cond, List, [], ◌∷◌, ◌++◌, length, Option, sym, ◌∙◌, ap, append_assoc, subst}
 use Rattle.std.specs.List.{flat_map, AllByRecursion}
-use Rattle.std.proofs.lemmas.List.{append-nil, map-append}
-use Rattle.dutch_sequence.specs.Prelude.{numbers_from, GoesOn, MatchDrawn, Passes, Plan, Event, hits, entry, below, after, ahead, IsSpent, NoneIdle}
+use Rattle.std.proofs.lemmas.List.{append-nil}
+use Rattle.dutch_sequence.specs.Prelude.{numbers_from, GoesOn, Passes, Plan, Event, hits, entry, below, after, ahead, IsSpent}
 use Rattle.dutch_sequence.specs.Trials.{Tried}
 use Rattle.dutch_sequence.proofs.Found.{hits-append}
 use Rattle.dutch_sequence.proofs.Skipping.{all-append}
-pub use Rattle.dutch_sequence.proofs.Skipping.{passes-none, passes-more, drawn, drawn-stopped}
 
 -- and of what follows from it
 pub all-each : {T : Type 0} (P Q : T → Type 0) → ((x : T) → P x → Q x) → (xs : List T) → AllByRecursion P xs → AllByRecursion Q xs
 all-each P Q each [] all = tt
 all-each P Q each (x ∷ xs) all = (each x all.0, all-each P Q each xs all.1)
-
-module _ {T : Type 0} (Idle : T → Type 0) where
-  -- what is left may be named otherwise
-  pub passes-same : (xs ys zs : List T) → Passes Idle xs ys → ys ≡ zs → Passes Idle xs zs
-  passes-same xs ys zs passes same = passes-more Idle xs ys zs passes (passes-none Idle ys zs same)
-
-  none-left_out : NoneIdle Idle → (front : List T) → AllByRecursion Idle front → front ≡ []
-  none-left_out none [] idle = refl
-  none-left_out none (x ∷ front) idle = absurd (none x idle.0)
-
-  -- where nothing is idle nothing is skipped
-  pub passes-nothing : NoneIdle Idle → (xs ys : List T) → Passes Idle xs ys → xs ≡ ys
-  passes-nothing none xs ys (front, same, idle) = same ∙ ap (λ list. list ++ ys) (none-left_out none front idle)
-
-all-map : {S T : Type 0} (P : T → Type 0) (f : S → T) (xs : List S) → AllByRecursion (λ x. P (f x)) xs → AllByRecursion P (map f xs)
-all-map P f [] all = tt
-all-map P f (x ∷ xs) all = (all.0, all-map P f xs all.1)
-
--- what is skipped of a list is skipped of its values
-pub passes-map : {S T : Type 0} (Idle : T → Type 0) (f : S → T) (xs ys : List S) → Passes (λ x. Idle (f x)) xs ys → Passes Idle (map f xs) (map f ys)
-passes-map Idle f xs ys (front, same, idle) =
-    (map f front, ap (map f) same ∙ map-append f front ys, all-map Idle f front idle)
 
 -- what goes on from a longer path goes on from it
 goes-on-shorter : (path : List ℕ) (number : ℕ) (c : List ℕ) → GoesOn (path ++ number ∷ []) c → GoesOn path c
@@ -75,9 +52,3 @@ idle-left plan Idle path number end spent idle = (
   ap hits (ahead-left plan path number end spent) ∙ hits-append (below plan (plan.places - length path) path number) (ahead plan path end),
   all-each (GoesOn path) Idle idle (hits (below plan (plan.places - length path) path number)) (below-beginning plan (plan.places - length path) path number),
 )
-
--- what follows of each answer follows of the answer
-pub drawn-each : {E : Type 0} (F F' N N' S S' : Type 0) → (F → F') → (N → N') → (S → S') → (answer : Result Bool E) → MatchDrawn answer F N S → MatchDrawn answer F' N' S'
-drawn-each F F' N N' S S' f n s (Ok true) given = f given
-drawn-each F F' N N' S S' f n s (Ok false) given = n given
-drawn-each F F' N N' S S' f n s (Err e) given = s given

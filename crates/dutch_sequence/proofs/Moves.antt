@@ -1,5 +1,5 @@
 -- What is ahead of a search after each of its moves.
-use Rattle.std.proofs.Common.{◌≡◌, ℕ, zero, suc, ◌+◌, ◌-◌, ◌<◌, ◌≤◌, true, false, cond, List, [], ◌∷◌, ◌++◌, length, refl, sym, ◌∙◌, ap, append_assoc, arith, length-append, subst, take, drop, Option, Some, None, ◌⊎◌, inl, inr}
+use Rattle.std.proofs.Common.{◌≡◌, ℕ, zero, suc, ◌+◌, ◌-◌, ◌<◌, ◌≤◌, true, false, cond, List, [], ◌∷◌, ◌++◌, length, refl, sym, ◌∙◌, ap, append_assoc, arith, length-append, subst, take, drop, Option, Some, None}
 use Rattle.std.specs.List.{flat_map, AllByRecursion}
 use Rattle.std.proofs.lemmas.List.{append-nil}
 use Rattle.dutch_sequence.specs.Prelude.{numbers_from, Plan, Event, entry, below, after, ahead, trials, lower, lowest, Walked}
@@ -240,16 +240,3 @@ beyond-same old new before later kept same = ap (λ b. lower b (lowest later)) k
 pub lower-zero : (o : Option ℕ) → lower (Some 0) o ≡ Some 0
 lower-zero None = refl
 lower-zero (Some x) = ap Some (omega arith)
-
--- what is kept and then kept
-pub keeps-more : (a b c : Option ℕ) → (b ≡ Some 0) ⊎ (b ≡ a) → (c ≡ Some 0) ⊎ (c ≡ b) → (c ≡ Some 0) ⊎ (c ≡ a)
-keeps-more a b c first (inl none) = inl none
-keeps-more a b c (inl none) (inr same) = inl (same ∙ none)
-keeps-more a b c (inr kept) (inr same) = inr (same ∙ kept)
-
--- where something may have been left
-pub leave-keeps : (plan : Plan) (path path' : List ℕ) (number number' : ℕ) (old new : Option ℕ) → path' ≡ path → (new ≡ Some 0) ⊎ ((number' ≡ number) × (new ≡ old)) → (lower new (lowest (ahead plan path' number')) ≡ Some 0) ⊎ (lower new (lowest (ahead plan path' number')) ≡ lower old (lowest (ahead plan path number)))
-leave-keeps plan path path' number number' old new same (inl none) =
-    inl (ap (λ b. lower b (lowest (ahead plan path' number'))) none ∙ lower-zero (lowest (ahead plan path' number')))
-leave-keeps plan path path' number number' old new same (inr kept) =
-    inr (beyond-same old new (ahead plan path number) (ahead plan path' number') kept.1 (ahead-same plan path' path number' number same kept.0))

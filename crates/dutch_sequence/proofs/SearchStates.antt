@@ -1,12 +1,13 @@
 -- Where a search of exchanges stands: what is known of what lies beyond its stage, and which paths are to come.
-use Rattle.std.proofs.Common.{◌≡◌, ℕ, suc, ◌-◌, ◌≤◌, List, [], ◌∷◌, ◌++◌, map, length, refl, sym, ◌∙◌, ap, arith, subst, ◌⊎◌, inl, inr, Option, Some, None}
+use Rattle.std.proofs.Common.{◌≡◌, ℕ, suc, ◌-◌, ◌<◌, ◌≤◌, List, [], ◌++◌, map, length, refl, sym, ◌∙◌, ap, arith, subst, Option, Some, None}
 use Rattle.std.specs.List.Sorted.{IsStrictlyIncreasing}
-use Rattle.dutch_sequence.specs.Prelude.{subsets, hinted, first_hint, IsIn, IdleAt, IsKnown, IsOfStage, IsOwn, IsSearchState, exchange_difference, exchange_path, exchange_plan, greatest_difference, most_exchanged, out_places, set_of, sets_ahead, sets_from, sets_of_sizes, sets_of_stages, stage_left, Passes, Plan, after, ahead, below, hits, lower, lowest, KeepsBeyond, beyond_all}
+use Rattle.dutch_sequence.specs.Prelude.{GoesOn, IsExchange, class_from, subsets, hinted, first_hint, IsIn, IsKnown, IsOfStage, IsOwn, IsSearchState, exchange_difference, exchange_path, exchange_plan, greatest_difference, most_exchanged, out_places, set_of, sets_ahead, sets_from, sets_of_sizes, sets_of_stages, stage_left, Passes, Plan, after, ahead, below, hits, lower, lowest, beyond_all}
 use Rattle.dutch_sequence.specs.declared.exchange.SearchState.{SearchState}
 use Rattle.dutch_sequence.specs.declared.search.Descent.{Descent}
+use Rattle.dutch_sequence.proofs.Asked.{path-of_class}
 use Rattle.dutch_sequence.proofs.LateSets.{late-known, late-own}
-use Rattle.dutch_sequence.proofs.LeftOut.{passes-same}
-use Rattle.dutch_sequence.proofs.Skipping.{all-members, passes-before, passes-weaker, passes-map}
+use Rattle.dutch_sequence.proofs.Moves.{lower-zero}
+use Rattle.dutch_sequence.proofs.Skipping.{all-members, passes-before, passes-same, passes-weaker, passes-map}
 use Rattle.dutch_sequence.proofs.StageSets.{stages-known}
 
 -- where nothing is exchanged, no stage follows
@@ -30,11 +31,6 @@ new-state pool k rises enough state no_hint no_path no_number no_beyond =
       all-members (IsOfStage pool k state.size state.difference) (hits (ahead (hinted state.hint.items plan) state.descent.path.items state.descent.number))
           (λ x m. subst (IsIn x) (ap hits start) m),
     )
-
--- what was known stays known, or nothing is known any more
-pub known-kept : (pool : List ℕ) (k count size difference : ℕ) (old new : Option ℕ) → (new ≡ Some 0) ⊎ (new ≡ old) → sets_of_stages pool k count size difference old ≡ sets_of_stages pool k count size difference (Some 0) → sets_of_stages pool k count size difference new ≡ sets_of_stages pool k count size difference (Some 0)
-known-kept pool k count size difference old new (inl none) known = ap (sets_of_stages pool k count size difference) none
-known-kept pool k count size difference old new (inr same) known = ap (sets_of_stages pool k count size difference) same ∙ known
 
 -- a stage that begins at a set
 pub late-state : (pool : List ℕ) (k : ℕ) → IsStrictlyIncreasing pool → k ≤ length pool → (set : List ℕ) → IsIn set (subsets pool k) → (copy : List ℕ) → copy ≡ pool → (state : SearchState) → state.size ≡ length (out_places pool k set) → state.difference ≡ exchange_difference pool k set → state.hint.items ≡ exchange_path pool k set → state.descent.path.items ≡ [] → state.descent.number ≡ first_hint (exchange_path pool k set) → state.descent.beyond ≡ Some (suc (exchange_difference pool k set)) → IsKnown copy k state × IsOwn copy k state
@@ -72,8 +68,9 @@ ended-hits pool hint path number no_pool no_hint no_path is_number =
     ∙ ap (λ number. hits (ahead (exchange_plan [] 0 0 0) [] number)) is_number
     ∙ none
 
--- what is passed over of a stage's paths is passed over of its sets, and the same sets follow
-module _ (pool : List ℕ) (k : ℕ) (state : SearchState) (descent : Descent) (stands : IsSearchState pool k state) (kept : KeepsBeyond (hinted state.hint.items (exchange_plan pool k state.size state.difference)) state.descent descent) where
+-- where what begins so is left, and nothing is known of what lies beyond it, the sets that are passed over are of the class of the
+-- beginning, and the same sets follow
+module _ (pool : List ℕ) (k : ℕ) (rises : IsStrictlyIncreasing pool) (enough : k ≤ length pool) (state : SearchState) (descent : Descent) (stands : IsSearchState pool k state) (unknown : descent.beyond ≡ Some 0) where
   abbrev size : ℕ
   size = state.size
 
@@ -83,29 +80,25 @@ module _ (pool : List ℕ) (k : ℕ) (state : SearchState) (descent : Descent) (
   abbrev following_sets : Option ℕ → List (List ℕ)
   following_sets next = sets_of_stages pool k (greatest_difference pool k size - state.difference) size (suc state.difference) next
 
-  pub still-known : following_sets (beyond_all plan descent) ≡ following_sets (Some 0)
-  still-known = known-kept pool k (greatest_difference pool k size - state.difference) size (suc state.difference) (beyond_all plan state.descent) (beyond_all plan descent) kept stands.3
+  pub left-known : following_sets (beyond_all plan descent) ≡ following_sets (Some 0)
+  left-known =
+      let lying = lowest (ahead plan descent.path.items descent.number) in
+      ap following_sets (ap (λ o. lower o lying) unknown ∙ lower-zero lying)
 
-  module _ (Idle : List ℕ → Type 0) where
-    abbrev xs : List (List ℕ)
-    xs = hits (ahead plan state.descent.path.items state.descent.number)
+  abbrev before_them : Option ℕ → List (List ℕ) → List (List ℕ)
+  before_them next ys = map (set_of pool k size) ys ++ (following_sets next ++ sets_of_sizes pool k (most_exchanged pool k - size) (suc size))
 
-    abbrev before_them : Option ℕ → List (List ℕ) → List (List ℕ)
-    before_them next ys = map (set_of pool k size) ys ++ (following_sets next ++ sets_of_sizes pool k (most_exchanged pool k - size) (suc size))
+  left-list : 0 < size → (ys : List (List ℕ)) → Passes (GoesOn state.descent.path.items) (hits (ahead plan state.descent.path.items state.descent.number)) ys → Passes (IsExchange (class_from pool k state)) (before_them (beyond_all plan state.descent) (hits (ahead plan state.descent.path.items state.descent.number))) (before_them (beyond_all plan descent) ys)
+  left-list some ys passes =
+      let xs = hits (ahead plan state.descent.path.items state.descent.number) in
+      let sets = set_of pool k size in
+      let Left = IsExchange (class_from pool k state) in
+      let later = following_sets (beyond_all plan state.descent) ++ sets_of_sizes pool k (most_exchanged pool k - size) (suc size) in
+      let there : Passes (λ p. Left (sets p)) xs ys = passes-weaker (GoesOn state.descent.path.items) (λ p. Left (sets p)) (IsOfStage pool k size state.difference) xs ys (λ p of on. path-of_class pool k rises enough size state.difference state.descent.path.items p some of on) stands.4 passes in
+      passes-same Left (before_them (beyond_all plan state.descent) xs) (before_them (beyond_all plan state.descent) ys) (before_them (beyond_all plan descent) ys)
+      (passes-before Left (map sets xs) (map sets ys) later (passes-map (λ p. Left (sets p)) Left sets xs ys (λ p left. left) there))
+      (ap (λ later. map sets ys ++ (later ++ sets_of_sizes pool k (most_exchanged pool k - size) (suc size))) (stands.3 ∙ sym left-known))
 
-    passed-list : (ys : List (List ℕ)) → Passes (IdleAt pool k Idle size state.difference) xs ys → Passes Idle (before_them (beyond_all plan state.descent) xs) (before_them (beyond_all plan descent) ys)
-    passed-list ys passes =
-        let sets = set_of pool k size in
-        let later = following_sets (beyond_all plan state.descent) ++ sets_of_sizes pool k (most_exchanged pool k - size) (suc size) in
-        let there : Passes (λ p. Idle (sets p)) xs ys = passes-weaker (IdleAt pool k Idle size state.difference) (λ p. Idle (sets p)) (IsOfStage pool k size state.difference) xs ys (λ p of idle. idle of) stands.4 passes in
-        passes-same Idle (before_them (beyond_all plan state.descent) xs) (before_them (beyond_all plan state.descent) ys) (before_them (beyond_all plan descent) ys)
-        (passes-before Idle (map sets xs) (map sets ys) later (passes-map (λ p. Idle (sets p)) Idle sets xs ys (λ p idle. idle) there))
-        (ap (λ later. map sets ys ++ (later ++ sets_of_sizes pool k (most_exchanged pool k - size) (suc size))) (stands.3 ∙ sym still-known))
-
-    pub passed-on : Passes (IdleAt pool k Idle size state.difference) xs (hits (ahead plan descent.path.items descent.number)) → Passes Idle (sets_from pool k state) (sets_ahead pool k state.hint.items size state.difference descent.path.items descent.number descent.beyond)
-    unfolding stage_left sets_ahead
-    passed-on passes = passed-list (hits (ahead plan descent.path.items descent.number)) passes
-
-    pub passed-found : Passes (IdleAt pool k Idle size state.difference) xs (descent.path.items ∷ hits (ahead plan descent.path.items descent.number)) → Passes Idle (sets_from pool k state) (set_of pool k size descent.path.items ∷ sets_ahead pool k state.hint.items size state.difference descent.path.items descent.number descent.beyond)
-    unfolding stage_left sets_ahead
-    passed-found passes = passed-list (descent.path.items ∷ hits (ahead plan descent.path.items descent.number)) passes
+  pub sets-left : 0 < size → Passes (GoesOn state.descent.path.items) (hits (ahead plan state.descent.path.items state.descent.number)) (hits (ahead plan descent.path.items descent.number)) → Passes (IsExchange (class_from pool k state)) (sets_from pool k state) (sets_ahead pool k state.hint.items size state.difference descent.path.items descent.number descent.beyond)
+  unfolding stage_left sets_ahead
+  sets-left some passes = left-list some (hits (ahead plan descent.path.items descent.number)) passes

@@ -3,7 +3,8 @@ use Rattle.std.proofs.Common.{◌≡◌, ◌≤◌, Bool, true, false, cond, Lis
 use Rattle.std.specs.List.{AllByRecursion, filter}
 use Rattle.std.specs.Result.{IsErr}
 use Rattle.std.proofs.lemmas.List.Elements.{filter-append}
-use Rattle.dutch_sequence.specs.Prelude.{IsIn, joined, MatchDrawn, Passes}
+use Rattle.dutch_sequence.specs.Prelude.{IsIn, joined, MatchDrawn, MatchProgress, Passes}
+use Rattle.dutch_sequence.specs.declared.steps.Progress.{Progress}
 use Rattle.dutch_sequence.specs.declared.steps.Stopped.{Stopped}
 
 -- what holds of each in two lists holds of each in both
@@ -71,6 +72,10 @@ module _ {T : Type 0} (Idle : T → Type 0) where
     all-append Idle front front' idle idle',
   )
 
+  -- what is left may be named otherwise
+  pub passes-same : (xs ys zs : List T) → Passes Idle xs ys → ys ≡ zs → Passes Idle xs zs
+  passes-same xs ys zs passes same = passes-more xs ys zs passes (passes-none ys zs same)
+
   -- what stands behind is no matter
   pub passes-before : (xs ys more : List T) → Passes Idle xs ys → Passes Idle (xs ++ more) (ys ++ more)
   passes-before xs ys more (front, same, idle) =
@@ -136,3 +141,11 @@ drawn F N S same = subst (λ answer. MatchDrawn {E = Stopped} (Ok answer) F N S)
 pub drawn-stopped : (F N S : Type 0) (answer : Result Bool Stopped) → IsErr answer → S → MatchDrawn answer F N S
 drawn-stopped F N S (Err e) is given = given
 drawn-stopped F N S (Ok answer) is given = cc
+
+-- and the same of a search that stands still at each beginning
+pub came : {was is : Progress} (B W O S : Type 0) → was ≡ is → MatchProgress {E = Stopped} (Ok was) B W O S → MatchProgress {E = Stopped} (Ok is) B W O S
+came B W O S same = subst (λ answer. MatchProgress {E = Stopped} (Ok answer) B W O S) same
+
+pub came-stopped : (B W O S : Type 0) (answer : Result Progress Stopped) → IsErr answer → S → MatchProgress answer B W O S
+came-stopped B W O S (Err e) is given = given
+came-stopped B W O S (Ok answer) is given = cc

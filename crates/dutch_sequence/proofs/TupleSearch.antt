@@ -9,8 +9,7 @@ use Rattle.std.proofs.lemmas.List.{append-nil, map-append}
 use Rattle.std.proofs.lemmas.List.Folds.{flat_map-map, list_any-append}
 use Rattle.std.proofs.lemmas.List.Kept.{AllPairs-from_increasing}
 use Rattle.std.proofs.lemmas.Bool.{ne_eqb, eq-eqb, eqb-true, lt-ltb, le-ltb, cases_order, cases_Bool, true≢false}
-use Rattle.dutch_sequence.specs.Prelude.{Plan, entry, ahead, hits, trials, tuples, without, all_meet, from_on, numbers_from, transpositions, short_beginnings, beginnings_below, transposition_plan, numbers_at, place_in, places_in, hinted, first_hint, Passes, Stands, sorted, IsIn, lower_first}
-use Rattle.dutch_sequence.proofs.LeftOut.{passes-none, passes-more, passes-same, passes-map}
+use Rattle.dutch_sequence.specs.Prelude.{Plan, entry, ahead, hits, trials, tuples, without, all_meet, from_on, numbers_from, transpositions, short_beginnings, beginnings_below, transposition_plan, numbers_at, place_in, places_in, hinted, first_hint, Stands, sorted, IsIn, lower_first}
 use Rattle.dutch_sequence.proofs.Moves.{Walked-below}
 use Rattle.dutch_sequence.proofs.Lists.{map-flat_map, filter-flat_map, flat_map-filter, flat_map-below, map-numbers_from, map-same, filter-same, filter-filter, filter-all}
 use Rattle.dutch_sequence.proofs.HalfWalks.{Admitted}
@@ -323,15 +322,6 @@ pub plan-at : (meets : ℕ → ℕ → Bool) (first first' pool pool' hint path 
 plan-at meets first first' pool pool' hint path number same_first same_pool =
     ap (λ first. hits (ahead (hinted hint (transposition_plan meets first pool)) path number)) same_first
     ∙ ap (λ pool. hits (ahead (hinted hint (transposition_plan meets first' pool)) path number)) same_pool
-
--- where the paths that are passed have idle tuples, the tuples that are passed are idle
-pub tuples-passed : (Idle : List ℕ → Type 0) (pool pool' : List ℕ) (coming before before' later later' : List (List ℕ)) → map (numbers_at pool) before ≡ coming → pool' ≡ pool → before' ≡ before → later' ≡ later → Passes (λ path. Idle (numbers_at pool' path)) before' later' → Passes Idle coming (map (numbers_at pool) later)
-tuples-passed Idle pool pool' coming before before' later later' is same_pool same_before same_later passes =
-    passes-more Idle coming (map (numbers_at pool) before') (map (numbers_at pool) later)
-    (passes-none Idle coming (map (numbers_at pool) before') (sym is ∙ ap (map (numbers_at pool)) (sym same_before)))
-    (passes-same Idle (map (numbers_at pool) before') (map (numbers_at pool) later') (map (numbers_at pool) later)
-    (subst (λ l. Passes Idle (map (numbers_at l) before') (map (numbers_at l) later')) same_pool (passes-map Idle (numbers_at pool') before' later' passes))
-    (ap (map (numbers_at pool)) same_later))
 
 -- a path of the search is one of places of the pool, no longer than the first list
 pub stands-within : (meets : ℕ → ℕ → Bool) (first first' pool pool' pool'' hint path : List ℕ) → first' ≡ first → pool' ≡ pool → pool'' ≡ pool → Stands (hinted hint (transposition_plan meets first' pool')) path → AllByRecursion (λ place. place < length pool'') path × (length path ≤ length first)

@@ -1,5 +1,5 @@
 -- Where a search may stand: a model that carries the search, and which a reader of the promises may pass by.
-use Rattle.std.specs.Prelude.{◌≡◌, ◌⊎◌, ℕ, ◌-◌, ◌<◌, ◌≤◌, List, [], ◌∷◌, ◌++◌, length, Option, Some}
+use Rattle.std.specs.Prelude.{◌≡◌, ℕ, ◌+◌, ◌-◌, ◌*◌, ◌<◌, ◌≤◌, List, [], ◌∷◌, ◌++◌, length, if◌then◌else◌, Option}
 use Rattle.dutch_sequence.specs.Trials.{Plan, below, ahead, lower, lowest}
 use Rattle.dutch_sequence.specs.declared.search.Descent.{Descent}
 
@@ -20,14 +20,10 @@ IsOpen plan path = (length path < plan.places) × Walked plan [] path
 abbrev pub IsSpent : Plan → List ℕ → ℕ → Type 0
 IsSpent plan path number = below plan (plan.places - length path) path number ≡ []
 
--- nothing is idle, so nothing is ever left out
-abbrev pub NoneIdle : {T : Type 0} → (T → Type 0) → Type 0
-NoneIdle {T} Idle = (x : T) → Idle x → ⊥
+-- how many moves a search can make at most that are no trial: it gives back each place, and stands still at each beginning once
+abbrev pub free_moves : Descent → ℕ
+free_moves descent = 2 * length descent.path.items + (if descent.asked then 0 else 1)
 
 -- what lies beyond the trials of a search, those made and those to come, if anything was noted
 abbrev pub beyond_all : Plan → Descent → Option ℕ
 beyond_all plan descent = lower descent.beyond (lowest (ahead plan descent.path.items descent.number))
-
--- a descent keeps what lies beyond its trials, or it has left some without a trial, and nothing is known
-abbrev pub KeepsBeyond : Plan → Descent → Descent → Type 0
-KeepsBeyond plan old new = (beyond_all plan new ≡ Some 0) ⊎ (beyond_all plan new ≡ beyond_all plan old)

@@ -1,6 +1,6 @@
 -- How exchanges are searched, stage by stage, one for each number of exchanged players and each difference of the sums: a model that
 -- carries the search, and which a reader of the promises may pass by.
-use Rattle.std.specs.Prelude.{◌≡◌, ℕ, zero, suc, ◌+◌, ◌-◌, ◌≤◌, Bool, true, false, not, ◌&&◌, nat_lt, nat_le, min, List, [], ◌∷◌, ◌++◌, map, filter, reverse, take, drop, length, slice_index, if◌then◌else◌, Option, Some, None}
+use Rattle.std.specs.Prelude.{◌≡◌, ℕ, zero, suc, ◌+◌, ◌*◌, ◌-◌, ◌≤◌, Bool, true, false, not, ◌&&◌, nat_lt, nat_le, min, List, [], ◌∷◌, ◌++◌, map, filter, reverse, take, drop, length, slice_index, if◌then◌else◌, Option, Some, None}
 use Rattle.dutch_sequence.specs.Choices.{is_member, numbers_from}
 use Rattle.dutch_sequence.specs.Exchanged.{ExchangeClass}
 use Rattle.dutch_sequence.specs.Keys.{IsIn}
@@ -11,7 +11,7 @@ use Rattle.dutch_sequence.specs.Trials.{Plan, hits, trials, lower, lowest, ahead
 use Rattle.dutch_sequence.specs.Halves.{half_start, two_halves}
 use Rattle.dutch_sequence.specs.Sides.{count_of}
 use Rattle.dutch_sequence.specs.Hints.{hinted}
-use Rattle.dutch_sequence.specs.Descents.{Stands, beyond_all}
+use Rattle.dutch_sequence.specs.Descents.{Stands, beyond_all, free_moves}
 use Rattle.std.specs.List.{AllByRecursion}
 
 -- the sum of what a function gives for the members of a list
@@ -147,10 +147,6 @@ module _ (pool : List ℕ) (k : ℕ) where
   abbrev pub IsOfStage : ℕ → ℕ → List ℕ → Type 0
   IsOfStage size difference path = IsIn path (hits (ahead (exchange_plan size difference) [] 0))
 
-  -- a path is idle if its set is
-  abbrev pub IdleAt : (List ℕ → Type 0) → ℕ → ℕ → List ℕ → Type 0
-  IdleAt Idle size difference path = IsOfStage size difference path → Idle (set_of size path)
-
   -- the least difference of exchanges of so many
   abbrev pub least_difference : ℕ → ℕ
   least_difference size = run In 0 size - run Out 0 size
@@ -246,3 +242,11 @@ module _ (pool : List ℕ) (k : ℕ) where
   -- and the trials
   abbrev pub trials_from : SearchState → ℕ
   trials_from state = trials_ahead state.hint.items state.size state.difference state.descent.path.items state.descent.number state.descent.beyond
+
+  -- and how many moves that are no trial: those in its stage, and two for each stage that follows
+  abbrev pub free_moves_from : SearchState → ℕ
+  free_moves_from state = 2 * stages_ahead state.size state.difference + free_moves state.descent
+
+  -- the class of the sets whose paths begin as its path does
+  abbrev pub class_from : SearchState → ExchangeClass
+  class_from state = exchange_class state.size state.difference state.descent.path.items

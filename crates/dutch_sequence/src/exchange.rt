@@ -10,39 +10,37 @@
 // A search that begins at a set begins in that set's stage, at the set's own path, and then tries the very next
 // difference, since what lies beyond the paths before the set was not seen.
 //
-// A search past idle sets asks about a whole stage where it begins, and about each beginning of its paths at which it
-// arrives: what it tells is who is in each set whose path begins so, and who is in none. What lies beyond paths that
-// were left is not known, so then it tries the very next difference too.
+// A search that its caller may leave stands still where a stage begins, and at each beginning of the stage's paths: what
+// it tells is who is in each set whose path begins so, and who is in none. What lies beyond paths that were left is not
+// known, so then it tries the very next difference too.
 ghost use Rattle.dutch_sequence.specs.declared.numbers.TheConstants.{LIMIT};
-ghost use Rattle.std.specs.Prelude.{◌≡◌, ◌+◌, ◌*◌, ◌-◌, ◌<◌, ◌≤◌, ℕ, List, suc, true, false, Some, [], ◌∷◌, ◌++◌};
+ghost use Rattle.std.specs.Prelude.{◌≡◌, ◌+◌, ◌*◌, ◌-◌, ◌<◌, ◌≤◌, suc, true, false, Some, [], ◌∷◌, ◌++◌};
 ghost use Rattle.std.specs.Prelude.{length, map, take, drop};
 ghost use Rattle.std.specs.List.{AllByRecursion};
 ghost use Rattle.std.specs.Result.{IsErr};
-ghost use Rattle.dutch_sequence.specs.Choices.{GoesOn, subsets, from_on};
+ghost use Rattle.dutch_sequence.specs.Choices.{subsets, from_on};
 ghost use Rattle.dutch_sequence.specs.Sides.{count_of};
-ghost use Rattle.dutch_sequence.specs.Stages.{IdleAt, barred_numbers, held_numbers, in_limit, exchange_plan};
-ghost use Rattle.dutch_sequence.specs.Stages.{is_fixed, out_limit, fixed_numbers};
+ghost use Rattle.dutch_sequence.specs.Stages.{barred_numbers, held_numbers, in_limit, exchange_plan, exchange_class};
+ghost use Rattle.dutch_sequence.specs.Stages.{is_fixed, out_limit, fixed_numbers, class_from, free_moves_from};
 ghost use Rattle.dutch_sequence.specs.Stages.{IsSearchState, sets_from, trials_from, stages_ahead, set_of, kept_of, value_of};
 ghost use Rattle.dutch_sequence.specs.Stages.{following, out_places, in_places, exchange_path, exchange_difference};
+ghost use Rattle.dutch_sequence.specs.Exchanged.{IsExchange};
 ghost use Rattle.dutch_sequence.specs.Exchange.{exchanges};
 ghost use Rattle.dutch_sequence.specs.Keys.{IsIn};
 ghost use Rattle.std.specs.List.Sorted.{IsStrictlyIncreasing};
 ghost use Rattle.dutch_sequence.specs.declared.exchange.Side.TheVariants.{In, Out};
-ghost use Rattle.dutch_sequence.specs.Steps.{MatchDrawn, Passes, Spends};
-ghost use Rattle.dutch_sequence.specs.Descents.{KeepsBeyond, Stands};
-ghost use Rattle.dutch_sequence.specs.Trials.{ahead, hits};
+ghost use Rattle.dutch_sequence.specs.Steps.{MatchProgress, Passes, Spends, way};
+ghost use Rattle.dutch_sequence.specs.Descents.{free_moves};
+ghost use Rattle.dutch_sequence.specs.Trials.{ahead};
 ghost use Rattle.dutch_sequence.specs.Hints.{hinted, first_hint};
 
 use crate::exchanged::Exchange;
 use crate::generator::Generator;
 use crate::halves::first_of_half;
-use crate::idle::CutsExchanges;
 use crate::numbers::{LIMIT, Numbers, fill};
-use crate::search::{
-    CutsPaths, Descent, Hinted, Path, climb_on, climb_past, end_number, first_hint, put_behind,
-};
+use crate::search::{Descent, Hinted, Path, advance, first_hint, leave, put_behind};
 use crate::stage::{ExchangeStage, greatest_of, least_of};
-use crate::steps::{Budget, Drawn, Stopped};
+use crate::steps::{Budget, Drawn, Progress, Stopped};
 use crate::sums::{Sides, total_of, value_at};
 use arrayvec::ArrayVec;
 use std::marker::Model;
@@ -89,6 +87,7 @@ impl SearchState {
         ensures path { self.new.descent.path.items ≡ [] }
         ensures number { self.new.descent.number ≡ 0 }
         ensures beyond { self.new.descent.beyond ≡ None }
+        ensures asked { self.new.descent.asked ≡ false }
     {
         self.size = size;
         self.difference = difference;
@@ -160,6 +159,7 @@ fn next_stage(sides: &Sides<'_>, state: &mut SearchState) -> bool
     ensures nearer { result ≡ true
         → stages_ahead sides.now.pool.now sides.now.k state.new.size state.new.difference
         < stages_ahead sides.now.pool.now sides.now.k state.old.size state.old.difference }
+    ensures fresh { result ≡ true → free_moves state.new.descent ≤ 1 }
     ensures ended { result ≡ false → (sets_from sides.now.pool.now sides.now.k state.new ≡ []) × (trials_from sides.now.pool.now sides.now.k state.new ≡ 0) }
 {
     if let Some(next) = following_of(
@@ -176,42 +176,6 @@ fn next_stage(sides: &Sides<'_>, state: &mut SearchState) -> bool
         return true;
     }
     false
-}
-
-/// Goes on to the next set, whose path the descent then has, unless the budget or the search ends before it.
-#[tactic(auto, unfolding(crate::specs::Stages::trials_ahead))]
-fn next_set(sides: &Sides<'_>, state: &mut SearchState, budget: &mut Budget) -> Drawn
-    requires standing { IsSearchState sides.now.pool.now sides.now.k state.old }
-    ensures stands { IsSearchState sides.now.pool.now sides.now.k state.new }
-    ensures answer { MatchDrawn result
-        ((sets_from sides.now.pool.now sides.now.k state.old
-        ≡ set_of sides.now.pool.now sides.now.k state.new.size state.new.descent.path.items ∷ sets_from sides.now.pool.now sides.now.k state.new)
-        × (length state.new.descent.path.items ≡ state.new.size + state.new.size))
-        ((sets_from sides.now.pool.now sides.now.k state.old ≡ []) × (sets_from sides.now.pool.now sides.now.k state.new ≡ [])
-        × (trials_from sides.now.pool.now sides.now.k state.new ≡ 0))
-        ((sets_from sides.now.pool.now sides.now.k state.new ≡ sets_from sides.now.pool.now sides.now.k state.old)
-        × (budget.new.used ≡ budget.new.limit) × (0 < trials_from sides.now.pool.now sides.now.k state.new)) }
-    ensures steps { budget.new.used + trials_from sides.now.pool.now sides.now.k state.new
-        ≡ budget.old.used + trials_from sides.now.pool.now sides.now.k state.old }
-    ensures spends { Spends budget.old budget.new }
-{
-    loop {
-        let tree = Hinted {
-            tree: ExchangeStage {
-                pool: sides.pool,
-                k: sides.k,
-                size: state.size,
-                difference: state.difference,
-            },
-            hint: &state.hint,
-        };
-        if climb_on(&tree, &mut state.descent, budget)? {
-            return Ok(true);
-        }
-        if !next_stage(sides, state) {
-            return Ok(false);
-        }
-    }
 }
 
 /// What the beginning of a path tells of one side: the places that it has chosen, and below which place it is known of
@@ -334,142 +298,55 @@ fn put_held_and_barred(stage: &ExchangeStage<'_>, beginning: &[u16], numbers: &m
     held
 }
 
-/// The original set is not asked about: it is one set, and no stage of others.
-fn cuts_beginning<C: CutsExchanges>(
-    stage: &ExchangeStage<'_>,
-    cuts: &C,
-    beginning: &[u16],
-    numbers: &mut Numbers,
-) -> bool
-    ensures { result ≡ true → (path : List ℕ) → GoesOn beginning.now path
-        → IdleAt stage.now.pool.now stage.now.k (C.Idle cuts.now) stage.now.size stage.now.difference path }
+/// The class of the sets whose paths begin as the search's path does. The list is for who is in them, and who is not.
+fn exchange_at<'a>(sides: &Sides<'a>, state: &SearchState, numbers: &'a mut Numbers) -> Exchange<'a>
+    requires { IsSearchState sides.now.pool.now sides.now.k state.now }
+    ensures { result ≡ class_from sides.now.pool.now sides.now.k state.now }
 {
-    if stage.size == 0 {
-        return false;
-    }
-    let count = put_held_and_barred(stage, beginning, numbers);
+    let stage = ExchangeStage {
+        pool: sides.pool,
+        k: sides.k,
+        size: state.size,
+        difference: state.difference,
+    };
+    let count = put_held_and_barred(&stage, &state.descent.path, numbers);
     let (held, barred) = numbers.split_at(count);
-    let (original, others) = stage.pool.split_at(stage.k);
-    let exchange = Exchange {
+    let (original, others) = sides.pool.split_at(sides.k);
+    Exchange {
         original,
         others,
-        size: stage.size,
-        difference: stage.difference,
+        size: state.size,
+        difference: state.difference,
         held,
         barred,
-    };
-    cuts.cuts(&exchange)
-}
-
-/// What is told of exchanges, told of the beginnings of a stage's paths.
-#[derive(Drop)]
-struct OfStage<'c, C> {
-    stage: &'c ExchangeStage<'c>,
-    cuts: &'c C,
-}
-
-impl<'c, C: CutsExchanges> CutsPaths for OfStage<'c, C> {
-    ghost use Rattle.dutch_sequence.specs.Stages.{IdleAt};
-
-    ghost Idle = { λ t path. IdleAt t.stage.now.pool.now t.stage.now.k (C.Idle t.cuts.now) t.stage.now.size
-        t.stage.now.difference path };
-
-    ghost MayAsk = { λ _ _. Unit {0} };
-
-    fn cuts(&self, beginning: &[u16], numbers: &mut Numbers) -> bool {
-        // a whole stage is asked about where it begins, since that is a step
-        !beginning.is_empty() && cuts_beginning(self.stage, self.cuts, beginning, numbers)
     }
 }
 
-/// Leaves a stage in which nothing is chosen, if all its sets are known to be idle. That is a step, so the budget is
-/// asked first.
-fn leave_stage<C: CutsExchanges>(
-    tree: &Hinted<'_, ExchangeStage<'_>>,
-    cuts: &C,
-    descent: &mut Descent,
-    budget: &mut Budget,
-) -> Result<(), Stopped>
-    requires standing { Stands (hinted tree.now.hint.now.items (exchange_plan tree.now.tree.pool.now tree.now.tree.k
-        tree.now.tree.size tree.now.tree.difference)) descent.old.path.items }
-    ensures path { descent.new.path.items ≡ descent.old.path.items }
-    ensures passes { Passes (IdleAt tree.now.tree.pool.now tree.now.tree.k (C.Idle cuts.now) tree.now.tree.size
-        tree.now.tree.difference)
-        (hits (ahead (hinted tree.now.hint.now.items (exchange_plan tree.now.tree.pool.now tree.now.tree.k
-        tree.now.tree.size tree.now.tree.difference)) descent.old.path.items descent.old.number))
-        (hits (ahead (hinted tree.now.hint.now.items (exchange_plan tree.now.tree.pool.now tree.now.tree.k
-        tree.now.tree.size tree.now.tree.difference)) descent.new.path.items descent.new.number)) }
-    ensures known { KeepsBeyond (hinted tree.now.hint.now.items (exchange_plan tree.now.tree.pool.now tree.now.tree.k
-        tree.now.tree.size tree.now.tree.difference)) descent.old descent.new }
-    ensures stopped { IsErr result → budget.new.used ≡ budget.new.limit }
-    ensures spends { Spends budget.old budget.new }
-{
-    let stop = end_number(tree, &descent.path);
-    if tree.tree.size == 0 || !descent.path.is_empty() || stop <= descent.number {
-        return Ok(());
-    }
-    if budget.used == budget.limit {
-        return Err(Stopped);
-    }
-    if cuts_beginning(&tree.tree, cuts, &descent.path, &mut descent.room) {
-        budget.used += 1;
-        descent.number = stop;
-        descent.beyond = Some(0);
-    }
-    Ok(())
-}
-
-/// Goes on to the next whole path of a stage, or leaves out such as are known to be idle.
-fn climb_stage<C: CutsExchanges>(
-    tree: &Hinted<'_, ExchangeStage<'_>>,
-    cuts: &C,
-    descent: &mut Descent,
-    budget: &mut Budget,
-) -> Drawn
-    requires standing { Stands (hinted tree.now.hint.now.items (exchange_plan tree.now.tree.pool.now tree.now.tree.k
-        tree.now.tree.size tree.now.tree.difference)) descent.old.path.items }
-    ensures stands { Stands (hinted tree.now.hint.now.items (exchange_plan tree.now.tree.pool.now tree.now.tree.k
-        tree.now.tree.size tree.now.tree.difference)) descent.new.path.items }
-    ensures answer { let stage = tree.now.tree in
-        let plan = hinted tree.now.hint.now.items (exchange_plan stage.pool.now stage.k stage.size stage.difference) in
-        let Idle = IdleAt stage.pool.now stage.k (C.Idle cuts.now) stage.size stage.difference in
-        let before = hits (ahead plan descent.old.path.items descent.old.number) in
-        let after = hits (ahead plan descent.new.path.items descent.new.number) in
-        MatchDrawn result
-        (Passes Idle before (descent.new.path.items ∷ after)
-        × (length descent.new.path.items ≡ stage.size + stage.size))
-        (Passes Idle before [] × (ahead plan descent.new.path.items descent.new.number ≡ []))
-        (Passes Idle before after × (budget.new.used ≡ budget.new.limit)) }
-    ensures known { KeepsBeyond (hinted tree.now.hint.now.items (exchange_plan tree.now.tree.pool.now tree.now.tree.k
-        tree.now.tree.size tree.now.tree.difference)) descent.old descent.new }
-    ensures spends { Spends budget.old budget.new }
-{
-    leave_stage(tree, cuts, descent, budget)?;
-    let paths = OfStage {
-        stage: &tree.tree,
-        cuts,
-    };
-    climb_past(tree, &paths, descent, budget)
-}
-
-/// Goes on to the next set, whose path the descent then has, past such as are known to be idle. All that was passed
-/// over is idle.
-fn next_set_past<C: CutsExchanges>(
+/// Goes on to the next beginning about which the caller is to be asked, if it wants to be, or to the next set. The
+/// descent then has the path, unless the budget or the search ends before it. The original set is not asked about: it is
+/// one set, and no stage of others. To leave a whole stage is a step, so where a stage begins the budget is asked first.
+#[tactic(auto, unfolding(crate::specs::Stages::trials_ahead))]
+fn advance_set(
     sides: &Sides<'_>,
-    cuts: &C,
+    ask: bool,
     state: &mut SearchState,
     budget: &mut Budget,
-) -> Drawn
-    requires standing { IsSearchState sides.now.pool.now sides.now.k state.old }
+) -> Result<Progress, Stopped>
+    requires { IsSearchState sides.now.pool.now sides.now.k state.old }
     ensures stands { IsSearchState sides.now.pool.now sides.now.k state.new }
     ensures answer { let before = sets_from sides.now.pool.now sides.now.k state.old in
         let after = sets_from sides.now.pool.now sides.now.k state.new in
-        MatchDrawn result
-        (Passes (C.Idle cuts.now) before
-        (set_of sides.now.pool.now sides.now.k state.new.size state.new.descent.path.items ∷ after)
+        MatchProgress result
+        ((after ≡ before) × (ask ≡ true) × (0 < state.new.size)
+        × (way budget.new (free_moves_from sides.now.pool.now sides.now.k state.new)
+        < way budget.old (free_moves_from sides.now.pool.now sides.now.k state.old)))
+        ((before ≡ set_of sides.now.pool.now sides.now.k state.new.size state.new.descent.path.items ∷ after)
         × (length state.new.descent.path.items ≡ state.new.size + state.new.size))
-        (Passes (C.Idle cuts.now) before [] × (after ≡ []))
-        (Passes (C.Idle cuts.now) before after × (budget.new.used ≡ budget.new.limit)) }
+        ((before ≡ []) × (after ≡ []) × (trials_from sides.now.pool.now sides.now.k state.new ≡ 0))
+        ((after ≡ before) × (budget.new.used ≡ budget.new.limit)
+        × (ask ≡ false → 0 < trials_from sides.now.pool.now sides.now.k state.new)) }
+    ensures steps { budget.new.used + trials_from sides.now.pool.now sides.now.k state.new
+        ≡ budget.old.used + trials_from sides.now.pool.now sides.now.k state.old }
     ensures spends { Spends budget.old budget.new }
 {
     loop {
@@ -482,13 +359,58 @@ fn next_set_past<C: CutsExchanges>(
             },
             hint: &state.hint,
         };
-        if climb_stage(&tree, cuts, &mut state.descent, budget)? {
-            return Ok(true);
-        }
-        if !next_stage(sides, state) {
-            return Ok(false);
+        match advance(&tree, ask && 0 < state.size, &mut state.descent, budget)? {
+            Progress::Beginning => {
+                if state.descent.path.is_empty() && budget.used == budget.limit {
+                    state.descent.asked = false;
+                    return Err(Stopped);
+                }
+                return Ok(Progress::Beginning);
+            }
+            Progress::Whole => return Ok(Progress::Whole),
+            Progress::Over => {
+                if !next_stage(sides, state) {
+                    return Ok(Progress::Over);
+                }
+            }
         }
     }
+}
+
+/// Leaves all sets whose paths begin as the search's path does. Where nothing is chosen that is a whole stage, which is
+/// a step.
+fn leave_sets(
+    sides: &Sides<'_>,
+    state: &mut SearchState,
+    budget: &mut Budget,
+) -> Result<(), Stopped>
+    requires stood { IsSearchState sides.now.pool.now sides.now.k state.old }
+    requires exchanged { 0 < state.old.size }
+    ensures stands { IsSearchState sides.now.pool.now sides.now.k state.new }
+    ensures passes { Passes (IsExchange (class_from sides.now.pool.now sides.now.k state.old))
+        (sets_from sides.now.pool.now sides.now.k state.old) (sets_from sides.now.pool.now sides.now.k state.new) }
+    ensures same { free_moves_from sides.now.pool.now sides.now.k state.new
+        ≡ free_moves_from sides.now.pool.now sides.now.k state.old }
+    ensures stopped { IsErr result → budget.new.used ≡ budget.new.limit }
+    ensures spends { Spends budget.old budget.new }
+{
+    if state.descent.path.is_empty() {
+        if budget.used == budget.limit {
+            return Err(Stopped);
+        }
+        budget.used += 1;
+    }
+    let tree = Hinted {
+        tree: ExchangeStage {
+            pool: sides.pool,
+            k: sides.k,
+            size: state.size,
+            difference: state.difference,
+        },
+        hint: &state.hint,
+    };
+    leave(&tree, &mut state.descent);
+    Ok(())
 }
 
 /// Fills a list with the original numbers that were not moved out, lowest first.
@@ -543,13 +465,15 @@ impl Model for Exchanges {
     ghost use Rattle.dutch_sequence.specs.declared.numbers.TheConstants.{LIMIT};
     ghost use Rattle.std.specs.Prelude.{◌≤◌, ◌-◌, length};
     ghost use Rattle.std.specs.List.Sorted.{IsStrictlyIncreasing};
-    ghost use Rattle.dutch_sequence.specs.Steps.{Ahead};
-    ghost use Rattle.dutch_sequence.specs.Stages.{IsSearchState, sets_from, trials_from};
+    ghost use Rattle.dutch_sequence.specs.Steps.{SetsAhead};
+    ghost use Rattle.dutch_sequence.specs.Stages.{IsSearchState, class_from, free_moves_from, sets_from, trials_from};
 
-    ghost Value = { Ahead };
+    ghost Value = { SetsAhead };
 
     ghost view = { λ t. record {
       coming = sets_from t.pool.items t.k t.state;
+      exchange = class_from t.pool.items t.k t.state;
+      free_moves = free_moves_from t.pool.items t.k t.state;
       left = trials_from t.pool.items t.k t.state;
     } };
 
@@ -621,43 +545,75 @@ impl Exchanges {
         enter_at(sides, set, &mut self.state);
     }
 
-    /// Fills a list with the next one, but sets that the cuts know to be idle may be skipped: they are asked about each
-    /// stage where it begins, which is a step if it is left, and about each beginning at which the search arrives, at
-    /// no step. All that was skipped is idle, whatever the answer.
-    pub fn put_next_past<C: CutsExchanges>(
+    /// Goes on to the next beginning, or to the next set, with which the list is then filled. It stands still where a
+    /// stage begins, and at each beginning of the paths in it: `exchange` tells what all sets that begin so have in
+    /// common, and `leave` leaves them.
+    pub fn advance(
         &mut self,
-        cuts: &C,
         numbers: &mut Numbers,
         budget: &mut Budget,
-    ) -> Drawn
-        ensures answer { MatchDrawn result
-            (Passes (C.Idle cuts.now) self.old.coming (numbers.new.items ∷ self.new.coming))
-            (Passes (C.Idle cuts.now) self.old.coming [] × (self.new.coming ≡ []))
-            (Passes (C.Idle cuts.now) self.old.coming self.new.coming × (budget.new.used ≡ budget.new.limit)) }
+    ) -> Result<Progress, Stopped>
+        ensures answer { MatchProgress result
+            ((self.new.coming ≡ self.old.coming) × (0 < self.new.exchange.size)
+            × (way budget.new self.new.free_moves < way budget.old self.old.free_moves))
+            (self.old.coming ≡ numbers.new.items ∷ self.new.coming)
+            ((self.old.coming ≡ []) × (self.new.coming ≡ []))
+            ((self.new.coming ≡ self.old.coming) × (budget.new.used ≡ budget.new.limit)) }
         ensures spends { Spends budget.old budget.new }
     {
         let sides = Sides {
             pool: &self.pool,
             k: self.k,
         };
-        if !next_set_past(&sides, cuts, &mut self.state, budget)? {
-            return Ok(false);
+        match advance_set(&sides, true, &mut self.state, budget)? {
+            Progress::Beginning => return Ok(Progress::Beginning),
+            Progress::Over => return Ok(Progress::Over),
+            Progress::Whole => {}
         }
         put_set(&sides, &self.state, numbers);
-        Ok(true)
+        Ok(Progress::Whole)
+    }
+
+    /// The class of the sets that begin as the search stands. The list is for who is in them, and who is not.
+    pub fn exchange<'n>(&'n self, numbers: &'n mut Numbers) -> Exchange<'n>
+        ensures { result ≡ self.now.exchange }
+    {
+        let sides = Sides {
+            pool: &self.pool,
+            k: self.k,
+        };
+        exchange_at(&sides, &self.state, numbers)
+    }
+
+    /// Leaves all sets of the class that `exchange` tells, which has to exchange somebody. To leave a whole stage is a
+    /// step.
+    pub fn leave(&mut self, budget: &mut Budget) -> Result<(), Stopped>
+        requires { 0 < self.old.exchange.size }
+        ensures passes { Passes (IsExchange self.old.exchange) self.old.coming self.new.coming }
+        ensures same { self.new.free_moves ≡ self.old.free_moves }
+        ensures stopped { IsErr result → budget.new.used ≡ budget.new.limit }
+        ensures spends { Spends budget.old budget.new }
+    {
+        let sides = Sides {
+            pool: &self.pool,
+            k: self.k,
+        };
+        leave_sets(&sides, &mut self.state, budget)
     }
 }
 
 impl Generator for Exchanges {
-    ghost ahead = { λ t. t };
+    ghost ahead = { λ t. record { coming = t.coming; left = t.left } };
 
     fn put_next(&mut self, numbers: &mut Numbers, budget: &mut Budget) -> Drawn {
         let sides = Sides {
             pool: &self.pool,
             k: self.k,
         };
-        if !next_set(&sides, &mut self.state, budget)? {
-            return Ok(false);
+        match advance_set(&sides, false, &mut self.state, budget)? {
+            Progress::Beginning => unreachable!(),
+            Progress::Over => return Ok(false),
+            Progress::Whole => {}
         }
         put_set(&sides, &self.state, numbers);
         Ok(true)

@@ -2,7 +2,8 @@
 //!
 //! `Transpositions`, `Exchanges` and `LimboExchanges` list the choices of D.1, D.2 and D.3. A call answers the first of
 //! what is still to come, the end if nothing is, or that its limit was reached; then what is to come stays as it was. A
-//! caller who knows that some choices are idle says so (`CutsTuples`, `CutsExchanges`), and they may be passed over.
+//! caller who knows that some choices are idle goes on by `advance`, which stands still at each beginning. There the
+//! caller may `leave` all choices that begin so.
 //!
 //! A `Budget` counts steps, each a number tried at a place, and no call goes beyond its limit. Nothing takes memory:
 //! every list is an array with room for `LIMIT` numbers, 1,024. So generators are large values, of some KiB.
@@ -12,7 +13,6 @@ mod exchange;
 mod exchanged;
 mod generator;
 mod halves;
-mod idle;
 mod limbo;
 pub mod numbers;
 mod rules;
@@ -25,10 +25,9 @@ mod transposition;
 pub use exchange::Exchanges;
 pub use exchanged::Exchange;
 pub use generator::Generator;
-pub use idle::{CutsExchanges, CutsTuples};
 pub use limbo::LimboExchanges;
 pub use numbers::{LIMIT, Numbers, numbered_from};
 pub use rules::Rule;
-pub use steps::{Budget, Drawn, Step, Stopped};
+pub use steps::{Budget, Drawn, Progress, Step, Stopped};
 pub use sums::Sides;
 pub use transposition::{Meeting, Transpositions};

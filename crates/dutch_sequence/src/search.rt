@@ -1,24 +1,23 @@
 // The one search of all generators: a path of numbers that is filled place by place, goes back where no number fits,
 // and can be stopped before each trial.
 //
-// An idle path may be passed over. If the caller knows that every whole path with a beginning is idle, the beginning is
-// left, and all of them are passed over. So only idle paths are ever passed over, and it costs no step. When you change
-// it, keep this: a path is left only by setting its next number past all that its place tries, and if nothing is idle,
-// each trial is still made and counted.
+// A caller may be asked about each beginning at which the search arrives: the search stands still there, at no step. If
+// the caller knows that every whole path with that beginning is idle, it leaves the beginning, and so passes over all of
+// them. When you change it, keep this: a path is left only by setting its next number past all that its place tries, and
+// where nothing is left, each trial is made and counted.
 //
-// It makes no list, since it runs once for each trial: it has room for a beginning that is asked about, writes what it
-// finds into a list that it is handed (`put_next`), and begins anew in place, at the cost of what it held (`start`).
-ghost use Rattle.std.specs.Prelude.{◌≡◌, ◌+◌, ◌-◌, ◌<◌, ◌≤◌, ◌⊎◌, ℕ, List, None, Some, [], ◌∷◌, ◌++◌, length, true};
-ghost use Rattle.std.specs.Prelude.{false};
+// It makes no list, since it runs once for each trial: it writes what it finds into a list that it is handed
+// (`put_next`), and begins anew in place, at the cost of what it held (`start`).
+ghost use Rattle.std.specs.Prelude.{◌≡◌, ◌+◌, ◌-◌, ◌<◌, ◌≤◌, None, Some, [], ◌∷◌, ◌++◌, length, true, false};
 ghost use Rattle.dutch_sequence.specs.declared.search.TheConstants.{PLACES};
 ghost use Rattle.dutch_sequence.specs.Trials.{Plan, Tried, entry, below, ahead, hits, trials, lower, lowest};
 ghost use Rattle.dutch_sequence.specs.Hints.{hint_after, first_hint};
 ghost use Rattle.dutch_sequence.specs.Choices.{GoesOn};
-ghost use Rattle.dutch_sequence.specs.Steps.{MatchDrawn, Passes, Spends};
-ghost use Rattle.dutch_sequence.specs.Descents.{Stands, IsOpen, IsSpent, KeepsBeyond, NoneIdle};
+ghost use Rattle.dutch_sequence.specs.Steps.{MatchDrawn, MatchProgress, Passes, Spends, way};
+ghost use Rattle.dutch_sequence.specs.Descents.{Stands, IsOpen, IsSpent, free_moves};
 
-use crate::numbers::{LIMIT, Numbers};
-use crate::steps::{Budget, Drawn, Stopped};
+use crate::numbers::LIMIT;
+use crate::steps::{Budget, Drawn, Progress, Stopped};
 use arrayvec::ArrayVec;
 
 /// The most places of a search: an exchange or a set of moved-down players fills two for each number.
@@ -65,35 +64,6 @@ pub trait Tree {
 
     /// And for each number that is tried.
     ghost narrow: { (tree : Self) → (plan tree).width ≤ PLACES };
-}
-
-/// Tells of a beginning of paths whether all whole paths that begin so are idle.
-pub trait CutsPaths {
-    /// A whole path is idle.
-    ghost Idle: { Self → List ℕ → Type 0 };
-
-    /// A beginning can be asked about.
-    ghost MayAsk: { Self → List ℕ → Type 0 };
-
-    /// Yes if all paths that begin so are known to be idle; a no says nothing. There is a list for the numbers that a
-    /// path stands for.
-    fn cuts(&self, beginning: &[u16], numbers: &mut Numbers) -> bool
-        requires { MayAsk self.now beginning.now }
-        ensures { result ≡ true → (path : List ℕ) → GoesOn beginning.now path → Idle self.now path };
-}
-
-/// Leaves nothing out.
-#[derive(Drop)]
-struct CutsNothing;
-
-impl CutsPaths for CutsNothing {
-    ghost Idle = { λ _ _. ⊥ };
-
-    ghost MayAsk = { λ _ _. Unit {0} };
-
-    fn cuts(&self, _beginning: &[u16], _numbers: &mut Numbers) -> bool {
-        false
-    }
 }
 
 /// Puts places behind a path.
@@ -180,8 +150,8 @@ pub struct Descent {
     pub path: Path,
     pub number: usize,
     pub beyond: Option<usize>,
-    // lives as long as the descent, so that no question makes a list
-    pub room: Numbers,
+    /// The caller was asked about this path.
+    pub asked: bool,
 }
 
 impl Descent {
@@ -190,12 +160,13 @@ impl Descent {
         ensures path { result.path.items ≡ [] }
         ensures number { result.number ≡ number }
         ensures beyond { result.beyond ≡ None }
+        ensures asked { result.asked ≡ false }
     {
         Descent {
             path: ArrayVec::new(),
             number,
             beyond: None,
-            room: ArrayVec::new(),
+            asked: false,
         }
     }
 
@@ -204,10 +175,12 @@ impl Descent {
         ensures path { self.new.path.items ≡ [] }
         ensures number { self.new.number ≡ number }
         ensures beyond { self.new.beyond ≡ None }
+        ensures asked { self.new.asked ≡ false }
     {
         self.path.clear();
         self.number = number;
         self.beyond = None;
+        self.asked = false;
     }
 }
 
@@ -246,29 +219,38 @@ pub fn end_number<T: Tree>(tree: &T, path: &[u16]) -> usize
     }
 }
 
-/// Leaves out all that is still to come below a path, if all of it is known to be idle. What lies beyond it is not
-/// known then.
-fn leave_idle<T: Tree, C: CutsPaths>(tree: &T, cuts: &C, descent: &mut Descent)
-    requires standing { Stands (T.plan tree.now) descent.old.path.items }
-    requires may_ask { (path : List ℕ) → Stands (T.plan tree.now) path → C.MayAsk cuts.now path }
+/// Leaves all that is still to come below the path. What lies beyond it is not known then.
+pub fn leave<T: Tree>(tree: &T, descent: &mut Descent)
+    requires { Stands (T.plan tree.now) descent.old.path.items }
     ensures path { descent.new.path.items ≡ descent.old.path.items }
-    ensures passes { Passes (C.Idle cuts.now) (hits (ahead (T.plan tree.now) descent.old.path.items descent.old.number))
+    ensures passes { Passes (GoesOn descent.old.path.items)
+        (hits (ahead (T.plan tree.now) descent.old.path.items descent.old.number))
         (hits (ahead (T.plan tree.now) descent.new.path.items descent.new.number)) }
-    ensures same { NoneIdle (C.Idle cuts.now)
-        → (descent.new.number ≡ descent.old.number) × (descent.new.beyond ≡ descent.old.beyond) }
-    ensures known { (descent.new.beyond ≡ Some 0)
-        ⊎ ((descent.new.number ≡ descent.old.number) × (descent.new.beyond ≡ descent.old.beyond)) }
+    ensures beyond { descent.new.beyond ≡ Some 0 }
+    ensures asked { descent.new.asked ≡ descent.old.asked }
 {
-    let end = end_number(tree, &descent.path);
-    if descent.number < end && cuts.cuts(&descent.path, &mut descent.room) {
-        descent.number = end;
-        descent.beyond = Some(0);
-    }
+    descent.number = end_number(tree, &descent.path);
+    descent.beyond = Some(0);
 }
 
-/// Makes one trial: takes the number if it fits, and otherwise goes on to the next one. The answer is whether it was
-/// taken.
-fn try_number<T: Tree>(tree: &T, descent: &mut Descent) -> bool
+/// Comes to a beginning about which the caller was not asked yet, and below which something is left.
+fn comes_to_ask<T: Tree>(tree: &T, ask: bool, descent: &mut Descent) -> bool
+    requires { Stands (T.plan tree.now) descent.old.path.items }
+    ensures path { descent.new.path.items ≡ descent.old.path.items }
+    ensures number { descent.new.number ≡ descent.old.number }
+    ensures beyond { descent.new.beyond ≡ descent.old.beyond }
+    ensures asks { result ≡ true → (ask ≡ true) × (free_moves descent.new < free_moves descent.old) }
+    ensures nearer { free_moves descent.new ≤ free_moves descent.old }
+{
+    if descent.asked || !ask {
+        return false;
+    }
+    descent.asked = true;
+    descent.number < end_number(tree, &descent.path)
+}
+
+/// Makes one trial: takes the number if it fits, and otherwise goes on to the next one.
+fn try_number<T: Tree>(tree: &T, descent: &mut Descent)
     requires opened { IsOpen (T.plan tree.now) descent.old.path.items }
     requires tried { descent.old.number < (T.plan tree.now).stop descent.old.path.items }
     ensures stands { Stands (T.plan tree.now) descent.new.path.items }
@@ -277,100 +259,96 @@ fn try_number<T: Tree>(tree: &T, descent: &mut Descent) -> bool
         ∷ ahead (T.plan tree.now) descent.new.path.items descent.new.number }
     ensures beyond { descent.new.beyond
         ≡ lower descent.old.beyond ((T.plan tree.now).beyond descent.old.path.items descent.old.number) }
-    ensures places { length descent.new.path.items ≤ length descent.old.path.items + 1 }
+    ensures nearer { free_moves descent.new < free_moves descent.old + 4 }
 {
     let number = descent.number as u16;
     descent.beyond = lower_of(descent.beyond, tree.beyond(&descent.path, number));
     if tree.admits(&descent.path, number) {
         descent.path.push(number);
         descent.number = first_number(tree, &descent.path);
-        true
+        descent.asked = false;
     } else {
         descent.number += 1;
-        false
     }
 }
 
 /// Takes the last number from a path below which nothing is left, and goes on to the next one; false if the path is
 /// empty.
 fn go_back<T: Tree>(tree: &T, descent: &mut Descent) -> bool
-    requires standing { Stands (T.plan tree.now) descent.old.path.items }
+    requires stood { Stands (T.plan tree.now) descent.old.path.items }
     requires spent { IsSpent (T.plan tree.now) descent.old.path.items descent.old.number }
     ensures stands { Stands (T.plan tree.now) descent.new.path.items }
     ensures same { ahead (T.plan tree.now) descent.new.path.items descent.new.number
         ≡ ahead (T.plan tree.now) descent.old.path.items descent.old.number }
     ensures beyond { descent.new.beyond ≡ descent.old.beyond }
-    ensures shorter { result ≡ true → length descent.new.path.items < length descent.old.path.items }
+    ensures shorter { result ≡ true → free_moves descent.new < free_moves descent.old }
+    ensures nearer { free_moves descent.new ≤ free_moves descent.old }
     ensures ended { result ≡ false → ahead (T.plan tree.now) descent.new.path.items descent.new.number ≡ [] }
 {
     match descent.path.pop() {
         Some(number) => {
             descent.number = number as usize + 1;
+            descent.asked = false;
             true
         }
         None => false,
     }
 }
 
-/// Goes on to the next whole path, which the descent then has, unless the budget or the search ends before it. It
-/// leaves out beginnings that are known to be idle: it asks at the start, and wherever a number was taken or given
-/// back. No question is a step.
-pub fn climb_past<T: Tree, C: CutsPaths>(
+/// Goes on to the next beginning about which the caller is to be asked, if it wants to be, or to the next whole path.
+/// The descent then has it, unless the budget or the search ends before it.
+pub fn advance<T: Tree>(
     tree: &T,
-    cuts: &C,
+    ask: bool,
     descent: &mut Descent,
     budget: &mut Budget,
-) -> Drawn
-    requires standing { Stands (T.plan tree.now) descent.old.path.items }
-    requires may_ask { (path : List ℕ) → Stands (T.plan tree.now) path → C.MayAsk cuts.now path }
+) -> Result<Progress, Stopped>
+    requires { Stands (T.plan tree.now) descent.old.path.items }
     ensures stands { Stands (T.plan tree.now) descent.new.path.items }
-    ensures answer { MatchDrawn result
-        (Passes (C.Idle cuts.now) (hits (ahead (T.plan tree.now) descent.old.path.items descent.old.number))
-        (descent.new.path.items ∷ hits (ahead (T.plan tree.now) descent.new.path.items descent.new.number))
+    ensures answer { let before = hits (ahead (T.plan tree.now) descent.old.path.items descent.old.number) in
+        let ahead = ahead (T.plan tree.now) descent.new.path.items descent.new.number in
+        MatchProgress result
+        ((hits ahead ≡ before) × (ask ≡ true)
+        × (way budget.new (free_moves descent.new) < way budget.old (free_moves descent.old)))
+        ((before ≡ descent.new.path.items ∷ hits ahead)
         × (length descent.new.path.items ≡ (T.plan tree.now).places))
-        (Passes (C.Idle cuts.now) (hits (ahead (T.plan tree.now) descent.old.path.items descent.old.number)) []
-        × (ahead (T.plan tree.now) descent.new.path.items descent.new.number ≡ []))
-        (Passes (C.Idle cuts.now) (hits (ahead (T.plan tree.now) descent.old.path.items descent.old.number))
-        (hits (ahead (T.plan tree.now) descent.new.path.items descent.new.number))
-        × (budget.new.used ≡ budget.new.limit)
-        × (0 < trials (ahead (T.plan tree.now) descent.new.path.items descent.new.number))) }
-    ensures steps { NoneIdle (C.Idle cuts.now)
-        → budget.new.used + trials (ahead (T.plan tree.now) descent.new.path.items descent.new.number)
+        ((before ≡ []) × (ahead ≡ []))
+        ((hits ahead ≡ before) × (budget.new.used ≡ budget.new.limit) × (0 < trials ahead)) }
+    ensures steps { budget.new.used + trials (ahead (T.plan tree.now) descent.new.path.items descent.new.number)
         ≡ budget.old.used + trials (ahead (T.plan tree.now) descent.old.path.items descent.old.number) }
-    ensures beyond { NoneIdle (C.Idle cuts.now)
-        → lower descent.new.beyond (lowest (ahead (T.plan tree.now) descent.new.path.items descent.new.number))
+    ensures beyond { lower descent.new.beyond
+        (lowest (ahead (T.plan tree.now) descent.new.path.items descent.new.number))
         ≡ lower descent.old.beyond (lowest (ahead (T.plan tree.now) descent.old.path.items descent.old.number)) }
-    ensures known { KeepsBeyond (T.plan tree.now) descent.old descent.new }
     ensures spends { Spends budget.old budget.new }
 {
-    leave_idle(tree, cuts, descent);
     loop {
+        if comes_to_ask(tree, ask, descent) {
+            return Ok(Progress::Beginning);
+        }
         if descent.path.len() == tree.places() {
             if descent.number == 0 {
                 descent.number = 1;
-                return Ok(true);
+                return Ok(Progress::Whole);
             }
         } else if descent.number < tree.stop(&descent.path) {
             if budget.used == budget.limit {
+                descent.asked = false;
                 return Err(Stopped);
             }
             budget.used += 1;
-            if try_number(tree, descent) {
-                leave_idle(tree, cuts, descent);
-            }
+            try_number(tree, descent);
             continue;
         }
         if !go_back(tree, descent) {
-            return Ok(false);
+            return Ok(Progress::Over);
         }
-        leave_idle(tree, cuts, descent);
     }
 }
 
 /// Goes on to the next whole path, which the descent then has, unless the budget or the search ends before it. Nothing
 /// is left out.
 pub fn climb_on<T: Tree>(tree: &T, descent: &mut Descent, budget: &mut Budget) -> Drawn
-    requires standing { Stands (T.plan tree.now) descent.old.path.items }
+    requires { Stands (T.plan tree.now) descent.old.path.items }
     ensures stands { Stands (T.plan tree.now) descent.new.path.items }
     ensures answer { MatchDrawn result
         ((hits (ahead (T.plan tree.now) descent.old.path.items descent.old.number)
@@ -389,5 +367,9 @@ pub fn climb_on<T: Tree>(tree: &T, descent: &mut Descent, budget: &mut Budget) -
         ≡ lower descent.old.beyond (lowest (ahead (T.plan tree.now) descent.old.path.items descent.old.number)) }
     ensures spends { Spends budget.old budget.new }
 {
-    climb_past(tree, &CutsNothing, descent, budget)
+    match advance(tree, false, descent, budget)? {
+        Progress::Whole => Ok(true),
+        Progress::Over => Ok(false),
+        Progress::Beginning => unreachable!(),
+    }
 }

@@ -29,6 +29,17 @@ pub struct Stopped;
 /// Yes or no, mostly whether there was a next one, unless the limit was reached first.
 pub type Drawn = Result<bool, Stopped>;
 
+/// How far a search came that stands still at each beginning.
+#[derive(Clone, Copy)]
+pub enum Progress {
+    /// It stands at a beginning. A caller who knows that all that begins so is idle may leave it.
+    Beginning,
+    /// It has found the next one.
+    Whole,
+    /// There is none left.
+    Over,
+}
+
 impl<T: Drop> Step<T> {
     ghost use Rattle.std.specs.Prelude.{◌≡◌, Ok, Some, None};
     ghost use Rattle.std.specs.Result.{IsErr};

@@ -6,16 +6,15 @@ ghost use Rattle.std.specs.List.Sorted.{IsStrictlyIncreasing};
 ghost use Rattle.dutch_sequence.specs.declared.numbers.TheConstants.{LIMIT};
 ghost use Rattle.dutch_sequence.specs.Transposition.{all_tuples, transpositions, short_beginnings};
 ghost use Rattle.dutch_sequence.specs.TranspositionSearch.{transposition_plan, numbers_at, place_in, places_in};
-ghost use Rattle.dutch_sequence.specs.Choices.{tuples, all_meet, from_on};
+ghost use Rattle.dutch_sequence.specs.Choices.{GoesOn, tuples, all_meet, from_on};
 ghost use Rattle.dutch_sequence.specs.Keys.{IsIn};
-ghost use Rattle.dutch_sequence.specs.Steps.{MatchDrawn, Passes, Spends};
+ghost use Rattle.dutch_sequence.specs.Steps.{MatchProgress, Passes, Spends, way};
 
 use crate::generator::Generator;
-use crate::idle::CutsTuples;
 use crate::numbers::{LIMIT, Numbers, fill};
 use crate::rules::Rule;
-use crate::search::{CutsPaths, Descent, Hinted, Path, Tree, climb_on, climb_past, first_hint};
-use crate::steps::{Budget, Drawn};
+use crate::search::{Descent, Hinted, Path, Tree, advance, climb_on, first_hint, leave};
+use crate::steps::{Budget, Drawn, Progress, Stopped};
 use arrayvec::ArrayVec;
 use std::marker::Model;
 
@@ -113,29 +112,6 @@ impl<'a, R: Rule> Tree for Opponents<'a, R> {
     }
 }
 
-/// Tells of beginnings of paths whether they are cut, by the numbers at their places.
-#[derive(Drop)]
-struct CutsPlaces<'a, C> {
-    pool: &'a Numbers,
-    cuts: &'a C,
-}
-
-impl<'a, C: CutsTuples> CutsPaths for CutsPlaces<'a, C> {
-    ghost use Rattle.dutch_sequence.specs.declared.numbers.TheConstants.{LIMIT};
-    ghost use Rattle.std.specs.Prelude.{◌<◌, ◌≤◌, length};
-    ghost use Rattle.std.specs.List.{AllByRecursion};
-    ghost use Rattle.dutch_sequence.specs.TranspositionSearch.{numbers_at};
-
-    ghost Idle = { λ t path. C.Idle t.cuts.now (numbers_at t.pool.now.items path) };
-
-    ghost MayAsk = { λ t path. AllByRecursion (λ place. place < length t.pool.now.items) path × (length path ≤ LIMIT) };
-
-    fn cuts(&self, beginning: &[u16], numbers: &mut Numbers) -> bool {
-        pick(self.pool, beginning, numbers);
-        self.cuts.cuts(numbers)
-    }
-}
-
 /// The lists of opponents that the pool has for the first players, one by one, in the order of their numbers (C.04.3
 /// D.1): tuples of the pool whose players may meet the first ones by the rule, place by place. It takes no memory. A
 /// step is one member of the pool tried at one place.
@@ -151,18 +127,20 @@ pub struct Transpositions<'a, R: Rule> {
 impl<'a, R: Rule> Model for Transpositions<'a, R> {
     ghost use Rattle.dutch_sequence.specs.declared.numbers.TheConstants.{LIMIT};
     ghost use Rattle.std.specs.Prelude.{◌≤◌, length, map};
-    ghost use Rattle.dutch_sequence.specs.Steps.{Ahead};
+    ghost use Rattle.dutch_sequence.specs.Steps.{TuplesAhead};
     ghost use Rattle.dutch_sequence.specs.Trials.{ahead, hits, trials};
-    ghost use Rattle.dutch_sequence.specs.Descents.{Stands};
+    ghost use Rattle.dutch_sequence.specs.Descents.{Stands, free_moves};
     ghost use Rattle.dutch_sequence.specs.Hints.{hinted};
     ghost use Rattle.dutch_sequence.specs.TranspositionSearch.{transposition_plan, numbers_at};
 
-    ghost Value = { Ahead };
+    ghost Value = { TuplesAhead };
 
     ghost view = { λ t. record {
       coming = map (numbers_at t.pool.items)
           (hits (ahead (hinted t.hint.items
           (transposition_plan (R.meets t.rule.now) t.first.items t.pool.items)) t.descent.path.items t.descent.number));
+      beginning = numbers_at t.pool.items t.descent.path.items;
+      free_moves = free_moves t.descent;
       left = trials (ahead (hinted t.hint.items
           (transposition_plan (R.meets t.rule.now) t.first.items t.pool.items)) t.descent.path.items t.descent.number);
     } };
@@ -243,19 +221,19 @@ impl<'a, R: Rule> Transpositions<'a, R> {
         self.descent.restart(first_hint(&self.hint));
     }
 
-    /// Fills a list with the next one, but lists that the cuts know to be idle may be skipped, at no step: they are
-    /// asked with the numbers of each beginning at which the search arrives. All that was skipped is idle, whatever the
-    /// answer.
-    pub fn put_next_past<C: CutsTuples>(
+    /// Goes on to the next beginning, or to the next of the lists: the list is filled with what it comes to. At a
+    /// beginning it stands still, and `leave` leaves all lists that begin so.
+    pub fn advance(
         &mut self,
-        cuts: &C,
         numbers: &mut Numbers,
         budget: &mut Budget,
-    ) -> Drawn
-        ensures answer { MatchDrawn result
-            (Passes (C.Idle cuts.now) self.old.coming (numbers.new.items ∷ self.new.coming))
-            (Passes (C.Idle cuts.now) self.old.coming [] × (self.new.coming ≡ []))
-            (Passes (C.Idle cuts.now) self.old.coming self.new.coming × (budget.new.used ≡ budget.new.limit)) }
+    ) -> Result<Progress, Stopped>
+        ensures answer { MatchProgress result
+            ((self.new.coming ≡ self.old.coming) × (numbers.new.items ≡ self.new.beginning)
+            × (way budget.new self.new.free_moves < way budget.old self.old.free_moves))
+            (self.old.coming ≡ numbers.new.items ∷ self.new.coming)
+            ((self.old.coming ≡ []) × (self.new.coming ≡ []))
+            ((self.new.coming ≡ self.old.coming) × (budget.new.used ≡ budget.new.limit)) }
         ensures spends { Spends budget.old budget.new }
     {
         let tree = Hinted {
@@ -266,20 +244,30 @@ impl<'a, R: Rule> Transpositions<'a, R> {
             },
             hint: &self.hint,
         };
-        let places = CutsPlaces {
-            pool: &self.pool,
-            cuts,
-        };
-        if !climb_past(&tree, &places, &mut self.descent, budget)? {
-            return Ok(false);
-        }
+        let progress = advance(&tree, true, &mut self.descent, budget)?;
         pick(&self.pool, &self.descent.path, numbers);
-        Ok(true)
+        Ok(progress)
+    }
+
+    /// Leaves all lists that begin as the search stands, at no step.
+    pub fn leave(&mut self)
+        ensures passes { Passes (GoesOn self.old.beginning) self.old.coming self.new.coming }
+        ensures same { self.new.free_moves ≡ self.old.free_moves }
+    {
+        let tree = Hinted {
+            tree: Opponents {
+                first: &self.first,
+                pool: &self.pool,
+                rule: self.rule,
+            },
+            hint: &self.hint,
+        };
+        leave(&tree, &mut self.descent);
     }
 }
 
 impl<'a, R: Rule> Generator for Transpositions<'a, R> {
-    ghost ahead = { λ t. t };
+    ghost ahead = { λ t. record { coming = t.coming; left = t.left } };
 
     fn put_next(&mut self, numbers: &mut Numbers, budget: &mut Budget) -> Drawn {
         let tree = Hinted {

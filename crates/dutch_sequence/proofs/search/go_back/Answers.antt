@@ -5,7 +5,7 @@ use Rattle.dutch_sequence.proofs.search.go_back.Goals as goal
 pub returns-in-Some-clause-same : goal.returns-in-Some-clause-same
 returns-in-Some-clause-same g c =
     ahead-gone_back (g.T.Tree.plan c.args.tree.now) c.args.descent.now.path.items c.pop.new.self.items c.in-Some.number c.args.descent.now.number
-    c.in-Some.ensures.items c.requires.standing.0 c.requires.spent
+    c.in-Some.ensures.items c.requires.stood.0 c.requires.spent
 
 -- what is above 0 only where something false holds is 0
 zero_from : (n : ℕ) → (0 < n → false ≡ true) → n ≡ 0
@@ -19,5 +19,5 @@ returns-in-None-clause-ended g c =
 
 pub returns-in-Some-clause-stands : goal.returns-in-Some-clause-stands
 returns-in-Some-clause-stands g c =
-    let popped = Walked-shorter (g.T.Tree.plan c.args.tree.now) c.args.descent.now.path.items c.pop.new.self.items c.in-Some.number c.in-Some.ensures.items c.requires.standing.1 in
+    let popped = Walked-shorter (g.T.Tree.plan c.args.tree.now) c.args.descent.now.path.items c.pop.new.self.items c.in-Some.number c.in-Some.ensures.items c.requires.stood.1 in
     (omega (arith, c.in-Some.ensures.len), popped.0)
