@@ -1,10 +1,10 @@
 -- One turn of a level that goes through its blocks: the choice that comes is the cursor's own, or any other.
-use Rattle.std.proofs.Common.{◌≡◌, ℕ, Bool, true, false, if◌then◌else◌, List, [], ◌∷◌, refl, map, sym, subst, inl, inr, append-nil, is_some, option_copied, Bor, Option, Some, None, ap, ◌∙◌}
+use Rattle.std.proofs.Common.{◌≡◌, ℕ, Bool, true, false, if◌then◌else◌, List, [], ◌∷◌, ◌++◌, refl, map, sym, subst, inl, inr, append-nil, is_some, option_copied, Bor, Option, Some, None, ap, ◌∙◌}
 use Rattle.std.specs.List.{AllByRecursion}
-use Rattle.dutch_order.specs.Prelude.{Arrangement, left_of, is_same, Of, arranged, blocks_from, if_own, in_s1r, in_s2, s1r_blocks, exchanges, GoesOn, Passes}
+use Rattle.dutch_order.specs.Prelude.{Arrangement, IsPassedTuple, left_of, is_same, Of, arranged, blocks_from, if_own, in_s1r, in_s2, s1r_blocks, exchanges, GoesOn, Passes}
+use Rattle.dutch_order.specs.declared.prefix.Filling.TheVariants.{S2r}
 use Rattle.std.proofs.lemmas.Bool.{cases_Bool, true≢false}
 use Rattle.dutch_sequence.proofs.FromOn.{is_same-true}
-use Rattle.dutch_sequence.proofs.LeftOut.{passes-nothing}
 use Rattle.dutch_sequence.proofs.Skipping.{all-joined, passes-map, passes-none}
 
 -- the next choice is taken: its block stands before whole ones
@@ -68,16 +68,10 @@ pub goes-whole : (front list : List ℕ) → front ≡ list → GoesOn front lis
 goes-whole front list same = record { rest = []; is = sym same ∙ sym (append-nil front) }
 
 -- where S1, S2 and S1R are chosen, arrangements are skipped as their S2R are
-pub passes-arranged : (Idle : Arrangement → Type 0) (s1 s2 s1r chosen_s1 chosen_s2 chosen_s1r : List ℕ) → chosen_s1 ≡ s1 → chosen_s2 ≡ s2 → chosen_s1r ≡ s1r → (xs ys : List (List ℕ)) → Passes (λ s2r. Idle (arranged chosen_s1 chosen_s2 chosen_s1r s2r)) xs ys → Passes Idle (map (arranged s1 s2 s1r) xs) (map (arranged s1 s2 s1r) ys)
-passes-arranged Idle s1 s2 s1r chosen_s1 chosen_s2 chosen_s1r at_s1 at_s2 at_s1r xs ys passes =
-    passes-map (λ s2r. Idle (arranged chosen_s1 chosen_s2 chosen_s1r s2r)) Idle (arranged s1 s2 s1r) xs ys
-    (λ s2r idle.
-    subst Idle
-    (ap (λ list. arranged list chosen_s2 chosen_s1r s2r) at_s1
-    ∙ ap (λ list. arranged s1 list chosen_s1r s2r) at_s2
-    ∙ ap (λ list. arranged s1 s2 list s2r) at_s1r)
-    idle)
-    passes
+pub passes-arranged : (Idle : Arrangement → Type 0) (s1 s2 s1r chosen_s1 chosen_s2 chosen_s1r none : List ℕ) (very_next : Bool) → chosen_s1 ≡ s1 → chosen_s2 ≡ s2 → chosen_s1r ≡ s1r → (xs ys : List (List ℕ)) → Passes (IsPassedTuple Idle (record { filling = S2r; lists = arranged chosen_s1 chosen_s2 chosen_s1r none }) very_next) xs ys → Passes Idle (map (arranged s1 s2 s1r) xs) (map (arranged s1 s2 s1r) ys)
+passes-arranged Idle s1 s2 s1r chosen_s1 chosen_s2 chosen_s1r none very_next at_s1 at_s2 at_s1r xs ys =
+    passes-map (IsPassedTuple Idle (record { filling = S2r; lists = arranged chosen_s1 chosen_s2 chosen_s1r none }) very_next) Idle (arranged s1 s2 s1r) xs ys
+    (λ s2r passed. passed.1 (arranged s1 s2 s1r s2r) (at_s1, at_s2, at_s1r, goes-whole s2r s2r refl))
 
 -- four lists that are copied
 pub same-lists : (a b : Arrangement) → a.s1 ≡ b.s1 → a.s2 ≡ b.s2 → a.s1r ≡ b.s1r → a.s2r ≡ b.s2r → a ≡ b
@@ -92,17 +86,16 @@ pub some-lent : {T : Type 0} (own : Option (Bor T)) → is_some (option_copied o
 some-lent None = refl
 some-lent (Some own) = refl
 
--- each arrangement with an S1 and an S2 is idle, and each with an S1R too
-abbrev pub IdleS2 : (Arrangement → Type 0) → List ℕ → List ℕ → Type 0
-IdleS2 Idle s1 s2 = (a : Arrangement) → s1 ≡ a.s1 → s2 ≡ a.s2 → Idle a
+-- once S1 and S2 are chosen, all is idle where each arrangement that begins so is
+pub idle-behind-s2 : (Idle : Arrangement → Type 0) (s1 chosen_s1 s2 : List ℕ) → chosen_s1 ≡ s1 → ((a : Arrangement) → (chosen_s1 ≡ a.s1) × GoesOn s2 a.s2 → Idle a) → (meets : ℕ → ℕ → Bool) (k : ℕ) (residents : List ℕ) → AllByRecursion Idle (in_s2 meets k s1 residents None s2)
+idle-behind-s2 Idle s1 chosen_s1 s2 at_s1 each =
+    idle-in-s2 Idle s1 s2 (λ a is_s1 is_s2. each a (at_s1 ∙ is_s1, goes-whole s2 a.s2 is_s2))
 
-abbrev pub IdleS1r : (Arrangement → Type 0) → List ℕ → List ℕ → List ℕ → Type 0
-IdleS1r Idle s1 s2 s1r = (a : Arrangement) → s1 ≡ a.s1 → s2 ≡ a.s2 → s1r ≡ a.s1r → Idle a
-
--- once S1, S2 and S1R are chosen, all is idle where each arrangement that has them is
-pub idle-in-s1r : (Idle : Arrangement → Type 0) (meets : ℕ → ℕ → Bool) (s1 s2 remainder s1r : List ℕ) → IdleS1r Idle s1 s2 s1r → AllByRecursion Idle (in_s1r meets s1 s2 remainder None s1r)
+-- and so once S1R is
+pub idle-behind-s1r : (Idle : Arrangement → Type 0) (s1 chosen_s1 s2 chosen_s2 s1r : List ℕ) → chosen_s1 ≡ s1 → chosen_s2 ≡ s2 → ((a : Arrangement) → (chosen_s1 ≡ a.s1) × GoesOn chosen_s2 a.s2 → s1r ≡ a.s1r → Idle a) → (meets : ℕ → ℕ → Bool) (remainder : List ℕ) → AllByRecursion Idle (in_s1r meets s1 s2 remainder None s1r)
 unfolding in_s1r
-idle-in-s1r Idle meets s1 s2 remainder s1r each = all-made Idle (arranged s1 s2 s1r) _ (λ s2r. each (arranged s1 s2 s1r s2r) refl refl refl)
+idle-behind-s1r Idle s1 chosen_s1 s2 chosen_s2 s1r at_s1 at_s2 each meets remainder =
+    all-made Idle (arranged s1 s2 s1r) _ (λ s2r. each (arranged s1 s2 s1r s2r) (at_s1, goes-whole chosen_s2 s2 at_s2) refl)
 
 -- choices of which idle ones may be passed over, but none while a cursor is left: the next one, the end, or a stop
 module _ (Idle : Arrangement → Type 0) (part : Arrangement → List ℕ) (block : Option Arrangement → List ℕ → List Arrangement) (IsIdle : List ℕ → Type 0) (each : (choice : List ℕ) → IsIdle choice → AllByRecursion Idle (block None choice)) (very : Bool) where
@@ -112,8 +105,12 @@ module _ (Idle : Arrangement → Type 0) (part : Arrangement → List ℕ) (bloc
   passes-choices : (xs ys : List (List ℕ)) → Passes IsPassed xs ys → Passes (AllByRecursion Idle) (map (block None) xs) (map (block None) ys)
   passes-choices xs ys passes = passes-map IsPassed (AllByRecursion Idle) (block None) xs ys (λ choice passed. each choice passed.1) passes
 
+  none-in : very ≡ true → (front : List (List ℕ)) → AllByRecursion IsPassed front → front ≡ []
+  none-in is [] passed = refl
+  none-in is (choice ∷ front) passed = absurd (true≢false (sym is ∙ passed.0.0))
+
   none-passed-over : very ≡ true → (xs ys : List (List ℕ)) → Passes IsPassed xs ys → xs ≡ ys
-  none-passed-over is = passes-nothing IsPassed (λ choice passed. true≢false (sym is ∙ passed.0))
+  none-passed-over is xs ys (front, same, passed) = same ∙ ap (λ list. list ++ ys) (none-in is front passed)
 
   pub comes : (own : Option Arrangement) → very ≡ is_some own → (xs ys : List (List ℕ)) (choice : List ℕ) → Passes IsPassed xs (choice ∷ ys) → Passes (AllByRecursion Idle) (blocks_from part block own xs) (block (if_own part own choice) choice ∷ map (block None) ys)
   comes None is xs ys choice passes = passes-choices xs (choice ∷ ys) passes

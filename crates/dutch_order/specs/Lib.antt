@@ -6,5 +6,6 @@ pub mod Listings
 pub mod Cursors
 pub mod CursorLists
 pub mod Prefixes
+pub mod Past
 pub mod Forms
 pub mod Prelude

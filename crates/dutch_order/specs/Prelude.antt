@@ -3,8 +3,8 @@ pub use Rattle.dutch_sequence.specs.Choices.{all_meet, from_on, is_member, is_sa
 pub use Rattle.dutch_sequence.specs.Keys.{Ascends, HasEachOnce, IsIn, higher_first, lower_first, put, sorted}
 pub use Rattle.dutch_sequence.specs.Trials.{Event, Plan, entry, hits, lower, lowest, trials}
 unfoldable pub use Rattle.dutch_sequence.specs.Trials.{after, ahead, below}
-pub use Rattle.dutch_sequence.specs.Steps.{Ahead, MatchDrawn, MatchFound, MatchStep, Passes, Spends}
-pub use Rattle.dutch_sequence.specs.Descents.{IsOpen, IsSpent, KeepsBeyond, NoneIdle, Stands, Walked, beyond_all}
+pub use Rattle.dutch_sequence.specs.Steps.{Ahead, MatchDrawn, MatchFound, MatchProgress, MatchStep, Passes, SetsAhead, Spends, TuplesAhead, way}
+pub use Rattle.dutch_sequence.specs.Descents.{IsOpen, IsSpent, Stands, Walked, beyond_all, free_moves}
 pub use Rattle.dutch_sequence.specs.Hints.{first_hint, hint_after, hinted, number_or}
 pub use Rattle.dutch_sequence.specs.Transposition.{all_tuples, beginnings_below, short_beginnings, transpositions}
 pub use Rattle.dutch_sequence.specs.Halves.{two_halves}
@@ -14,7 +14,7 @@ unfoldable pub use Rattle.dutch_sequence.specs.Limbo.{limbo_cmp}
 pub use Rattle.dutch_sequence.specs.Exchange.{exchanges, highest_out, moved_count, moved_in, moved_out, sum_difference, sum_of}
 unfoldable pub use Rattle.dutch_sequence.specs.Exchange.{exchange_cmp}
 pub use Rattle.dutch_sequence.specs.Exchanged.{IsExchange, ExchangeClass}
-pub use Rattle.dutch_sequence.specs.Stages.{IdleAt, IsKnown, IsOfStage, IsOwn, IsSearchState, barred_numbers, exchange_difference, exchange_path, exchange_plan, fixed_numbers, following, greatest_difference, held_numbers, in_places, is_fixed, is_next, kept_of, exchange_class, least_difference, most_exchanged, out_places, run, set_of, sets_from, stages_of, total, trials_from, value_of}
+pub use Rattle.dutch_sequence.specs.Stages.{IsKnown, IsOfStage, IsOwn, IsSearchState, barred_numbers, exchange_difference, exchange_path, exchange_plan, fixed_numbers, following, greatest_difference, held_numbers, in_places, is_fixed, is_next, kept_of, exchange_class, least_difference, most_exchanged, out_places, run, set_of, sets_from, stages_of, total, trials_from, value_of}
 unfoldable pub use Rattle.dutch_sequence.specs.Stages.{beyond_reach, greatest_at, in_limit, least_at, out_limit, sets_ahead, sets_of_sizes, sets_of_stages, stage_left, stage_sets, stages_ahead, stages_of_sizes, trials_ahead, trials_of_sizes, trials_of_stages, within_reach}
 pub use Rattle.dutch_sequence.specs.Sides.{count_of}
 pub use Rattle.dutch_sequence.specs.TranspositionSearch.{numbers_at, place_in, places_in, transposition_plan}
@@ -28,5 +28,6 @@ pub use Rattle.dutch_order.specs.Listings.{Ends, EndsAtOnce, EndsPast, Gives, Gi
 unfoldable pub use Rattle.dutch_order.specs.Listings.{AreCandidates}
 pub use Rattle.dutch_order.specs.Cursors.{are_different, are_of, arrangement_of, ascends_above, cursor_of, cursor_text, has_syntax, is_among, is_numeral, is_of, is_set_of, is_tuple_of, list_of, list_text, moved_down_of, number_after, number_of, of_bracket, onto_first, parsed, parts}
 pub use Rattle.dutch_order.specs.CursorLists.{IsLong, is_short}
-pub use Rattle.dutch_order.specs.Prefixes.{Beginning, Begins, BeginsAt}
+pub use Rattle.dutch_order.specs.Prefixes.{Beginning, Begins, BeginsAt, filled, with_list}
+pub use Rattle.dutch_order.specs.Past.{IsPassedSet, IsPassedTuple}
 pub use Rattle.dutch_order.specs.Forms.{FirstsAscend, HasArrangement, HasOneMore, IsInForm, IsInsertion, IsMovedDown, IsResident, NoneTwice, TakesPair, by_place, pairs_by_number, players_in}

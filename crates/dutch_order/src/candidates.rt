@@ -96,17 +96,19 @@ fn leaves_too_many(fitting: &FittingShape<'_>) -> bool
 /// Draws the next arrangement: the one that is kept, or else the level's next.
 fn draw_listed<L: Arranges, C: Cuts>(
     drawing: &mut Drawing<L>,
-    cuts: &C,
+    cuts: &mut C,
     lists: &mut Arrangement,
     budget: &mut Budget,
 ) -> Drawn
-    ensures answer { MatchDrawn result
-        (Passes (C.Idle cuts.now) (listed drawing.old.kept ++ L.coming drawing.old.level)
-        (lists.new ∷ L.coming drawing.new.level))
-        (Passes (C.Idle cuts.now) (listed drawing.old.kept ++ L.coming drawing.old.level) [])
-        (Passes (C.Idle cuts.now) (listed drawing.old.kept ++ L.coming drawing.old.level) (L.coming drawing.new.level)
+    ensures answer { let Idle = C.Idle cuts.old in
+        let before = listed drawing.old.kept ++ L.coming drawing.old.level in
+        MatchDrawn result
+        (Passes Idle before (lists.new ∷ L.coming drawing.new.level))
+        (Passes Idle before [])
+        (Passes Idle before (L.coming drawing.new.level)
         × (budget.new.used ≡ budget.new.limit)) }
     ensures taken { drawing.new.kept ≡ None }
+    ensures keeps { (a : Arrangement) → C.Idle cuts.new a → C.Idle cuts.old a }
     ensures spends { Spends budget.old budget.new }
 {
     Ok(drawing.kept.take(lists) || drawing.level.next(cuts, lists, budget)?)
@@ -114,25 +116,24 @@ fn draw_listed<L: Arranges, C: Cuts>(
 
 /// What an arrangement is asked: whom it leaves over in its bracket, whether the rule lets it, and whether it is idle.
 #[derive(Drop)]
-struct Asking<'q, R, C> {
+struct Tests<'q, 'c, R, C> {
     bracket: &'q Bracket,
     rule: &'q R,
-    cuts: &'q C,
+    cuts: &'c mut C,
 }
 
-/// Draws the next arrangement that leaves over whom its bracket may leave. It may skip those that the cuts know to be
-/// idle.
+/// Draws the next arrangement that leaves over whom its bracket may leave. It may skip those that are known to be idle.
 fn draw_legal<R: Rule, L: Arranges, C: Cuts>(
-    asking: &Asking<'_, R, C>,
+    tests: &mut Tests<'_, '_, R, C>,
     drawing: &mut Drawing<L>,
     candidate: &mut Candidate,
     budget: &mut Budget,
 ) -> Drawn
-    ensures answer { let frame = asking.now.bracket.now in
-        let may = may_leave (R.may_be_left asking.now.rule.now) frame in
+    ensures answer { let frame = tests.old.bracket.now in
+        let may = may_leave (R.may_be_left tests.old.rule.now) frame in
         let before = filter may (listed drawing.old.kept ++ L.coming drawing.old.level) in
         let after = filter may (listed drawing.new.kept ++ L.coming drawing.new.level) in
-        let Idle = C.Idle asking.now.cuts.now in
+        let Idle = C.Idle tests.old.cuts.now in
         MatchDrawn result
         (Passes Idle before (candidate.new.lists ∷ after)
         × (candidate.new.down ≡ down frame candidate.new.lists))
@@ -141,16 +142,11 @@ fn draw_legal<R: Rule, L: Arranges, C: Cuts>(
     ensures spends { Spends budget.old budget.new }
 {
     loop {
-        if !draw_listed(drawing, asking.cuts, &mut candidate.lists, budget)? {
+        if !draw_listed(drawing, tests.cuts, &mut candidate.lists, budget)? {
             return Ok(false);
         }
-        put_left_over(asking.bracket, &candidate.lists, &mut candidate.down);
-        match ask_leave(
-            asking.rule,
-            asking.bracket.is_last(),
-            &candidate.down,
-            budget,
-        ) {
+        put_left_over(tests.bracket, &candidate.lists, &mut candidate.down);
+        match ask_leave(tests.rule, tests.bracket.is_last(), &candidate.down, budget) {
             Ok(true) => return Ok(true),
             Ok(false) => {}
             Err(Stopped) => {
@@ -328,17 +324,17 @@ impl<'a, R: Rule> Candidates<'a, R> {
         self.begin(FittingShape { bracket, shape }, None);
     }
 
-    // The next candidate. Those that `cuts` knows to be idle may be skipped.
+    // The next candidate. Those that are known to be idle may be skipped.
     fn go_on<C: Cuts>(
         &mut self,
-        cuts: &C,
+        cuts: &mut C,
         candidate: &mut Candidate,
         budget: &mut Budget,
     ) -> Step<()>
         ensures answer { MatchStep result
-            (λ _. GivesPast self.old self.new (C.Idle cuts.now) candidate.new)
-            (EndsPast self.old self.new (C.Idle cuts.now))
-            (StopsPast self.old self.new (C.Idle cuts.now) budget.new) }
+            (λ _. GivesPast self.old self.new (C.Idle cuts.old) candidate.new)
+            (EndsPast self.old self.new (C.Idle cuts.old))
+            (StopsPast self.old self.new (C.Idle cuts.old) budget.new) }
         ensures candidates { AreCandidates (R.meets self.old.rule)
             (R.may_be_left self.old.rule) self.old.frame self.old.shape self.old.coming }
         ensures too_many_left { leaves_too_many self.old.frame self.old.shape ≡ true
@@ -357,12 +353,12 @@ impl<'a, R: Rule> Candidates<'a, R> {
             self.ended = true;
             return Step::End;
         }
-        let asking = Asking {
+        let mut tests = Tests {
             bracket: self.fitting.bracket,
             rule: self.rule,
             cuts,
         };
-        match draw_legal(&asking, &mut self.drawing, candidate, budget) {
+        match draw_legal(&mut tests, &mut self.drawing, candidate, budget) {
             Ok(true) => {
                 self.latest.hold(&candidate.lists);
                 Step::Found(())
@@ -388,7 +384,7 @@ impl<'a, R: Rule> Candidates<'a, R> {
         ensures rule { self.new.rule ≡ self.old.rule }
         ensures spends { Spends budget.old budget.new }
     {
-        self.go_on(&NoCuts, candidate, budget)
+        self.go_on(&mut NoCuts, candidate, budget)
     }
 
     /// The next candidate. `Found` gives the first of those to come. `End` says that none is left. `Undecided` says
@@ -422,18 +418,18 @@ impl<'a, R: Rule> Candidates<'a, R> {
     /// answers `End` without a step.
     pub fn put_next_within<B: Bound>(
         &mut self,
-        within: &BoundWithRoom<'_, B>,
+        within: &mut BoundWithRoom<'_, B>,
         candidate: &mut Candidate,
         budget: &mut Budget,
     ) -> Step<()>
-        requires frame { B.frame within.now.bound.now ≡ self.old.frame }
-        requires shape { B.shape within.now.bound.now ≡ self.old.shape }
-        requires meets { B.meets within.now.bound.now ≡ R.meets self.old.rule }
-        requires may_be_left { B.may_be_left within.now.bound.now ≡ R.may_be_left self.old.rule }
+        requires frame { B.frame within.old.bound.now ≡ self.old.frame }
+        requires shape { B.shape within.old.bound.now ≡ self.old.shape }
+        requires meets { B.meets within.old.bound.now ≡ R.meets self.old.rule }
+        requires may_be_left { B.may_be_left within.old.bound.now ≡ R.may_be_left self.old.rule }
         ensures answer { MatchStep result
-            (λ _. GivesPast self.old self.new (λ a. B.is_idle within.now.bound.now a ≡ true) candidate.new)
-            (EndsPast self.old self.new (λ a. B.is_idle within.now.bound.now a ≡ true))
-            (StopsPast self.old self.new (λ a. B.is_idle within.now.bound.now a ≡ true) budget.new) }
+            (λ _. GivesPast self.old self.new (λ a. B.is_idle within.old.bound.now a ≡ true) candidate.new)
+            (EndsPast self.old self.new (λ a. B.is_idle within.old.bound.now a ≡ true))
+            (StopsPast self.old self.new (λ a. B.is_idle within.old.bound.now a ≡ true) budget.new) }
         ensures too_many_left { leaves_too_many self.old.frame self.old.shape ≡ true
             → EndsAtOnce result budget.old budget.new }
         ensures ended { TellsEnd self.old self.new result }
@@ -471,7 +467,8 @@ impl<'a, R: Rule> Candidates<'a, R> {
         ensures spends { Spends budget.old budget.new }
     {
         let mut candidate = Candidate::empty();
-        let step = self.put_next_within(&BoundWithRoom::new(bound, room), &mut candidate, budget);
+        let mut within = BoundWithRoom { bound, room };
+        let step = self.put_next_within(&mut within, &mut candidate, budget);
         holding(step, candidate)
     }
 

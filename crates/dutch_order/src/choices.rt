@@ -12,16 +12,19 @@ ghost use Rattle.dutch_sequence.specs.Choices.{left_of, joined};
 ghost use Rattle.dutch_sequence.specs.Keys.{IsIn};
 ghost use Rattle.dutch_order.specs.Levels.{HasS1r, HasS2, HasS2r, Of, if_own, in_bracket, in_s1, in_s1r, in_s2};
 ghost use Rattle.dutch_order.specs.Levels.{without_own};
+ghost use Rattle.dutch_order.specs.Past.{IsPassedTuple};
 ghost use Rattle.dutch_sequence.specs.Steps.{MatchDrawn, Passes, Spends};
 
 use crate::arrangement::Arrangement;
 use crate::bracket::FittingShape;
 use crate::cursor::Cursor;
-use crate::cuts::{Cuts, CutsAfterFirst, S1rCuts, S2Cuts, S2rCuts};
+use crate::cuts::Cuts;
 use crate::levels::{Arranges, Blocks, Level};
+use crate::past::{Chooser, Chosen, choose_next, choose_set, choose_tuple};
+use crate::prefix::{Filling, Prefix};
 use dutch_sequence::numbers::{is_same, put_left_of, refill};
 use dutch_sequence::{
-    Budget, CutsTuples, Drawn, Exchanges, Generator, LimboExchanges, Meeting, Numbers, Rule, Sides,
+    Budget, Drawn, Exchanges, Generator, LimboExchanges, Meeting, Numbers, Rule, Sides,
     Transpositions,
 };
 use std::marker::Model;
@@ -40,7 +43,7 @@ pub struct ByS2r<'a, R: Rule> {
 /// Lists S2R, all but a cursor's own.
 #[derive(Drop)]
 struct Others<'a, R: Rule> {
-    lists: Transpositions<'a, R>,
+    s2r: Chooser<Transpositions<'a, R>>,
     // the cursor behind which the lists begin, until the first one has come
     resume: Option<&'a Cursor>,
 }
@@ -63,7 +66,7 @@ impl<'a, R: Rule> Model for ByS2r<'a, R> {
     ghost Value = { List Arrangement };
 
     ghost view = { λ l. map (arranged l.s1.items l.s2.items l.s1r.items)
-        (without_own (option_copied l.others.resume) l.others.lists.coming) };
+        (without_own (option_copied l.others.resume) l.others.s2r.choices.coming) };
 }
 
 impl<'a, R: Rule> ByS2r<'a, R> {
@@ -77,7 +80,10 @@ impl<'a, R: Rule> ByS2r<'a, R> {
             s1r: Numbers::new(),
             pool: Numbers::new(),
             others: Others {
-                lists: Transpositions::ended(rule),
+                s2r: Chooser {
+                    choices: Transpositions::ended(rule),
+                    latest: Numbers::new(),
+                },
                 resume: None,
             },
         }
@@ -103,60 +109,72 @@ impl<'a, R: Rule> ByS2r<'a, R> {
         match own {
             Some(cursor) => self
                 .others
-                .lists
+                .s2r
+                .choices
                 .start_from(&meeting, rule, &cursor.lists.s2r),
-            None => self.others.lists.start(&meeting, rule),
+            None => self.others.s2r.choices.start(&meeting, rule),
         }
     }
 }
 
-/// Fills a list with the next one, except a cursor's own, which may come first. None is skipped before the first one
-/// has come.
-fn put_next_other<R: Rule, C: CutsTuples>(
+/// Goes on to the next one, except a cursor's own, which may come first. None is skipped before the first one has come.
+fn choose_other<R: Rule, C: Cuts>(
     others: &mut Others<'_, R>,
-    cuts: &C,
-    numbers: &mut Numbers,
+    chosen: &Chosen<'_>,
+    cuts: &mut C,
     budget: &mut Budget,
 ) -> Drawn
-    ensures answer { MatchDrawn result
-        (Passes (C.Idle cuts.now) (without_own (option_copied others.old.resume) others.old.lists.coming)
-        (numbers.new.items ∷ without_own (option_copied others.new.resume) others.new.lists.coming))
-        (Passes (C.Idle cuts.now) (without_own (option_copied others.old.resume) others.old.lists.coming) [])
-        (Passes (C.Idle cuts.now) (without_own (option_copied others.old.resume) others.old.lists.coming)
-        (without_own (option_copied others.new.resume) others.new.lists.coming)
+    ensures answer { let IsPassed = IsPassedTuple (C.Idle cuts.old) chosen.now.lists chosen.now.very_next in
+        MatchDrawn result
+        (Passes IsPassed (without_own (option_copied others.old.resume) others.old.s2r.choices.coming)
+        (others.new.s2r.latest.items ∷ without_own (option_copied others.new.resume) others.new.s2r.choices.coming))
+        (Passes IsPassed (without_own (option_copied others.old.resume) others.old.s2r.choices.coming) [])
+        (Passes IsPassed (without_own (option_copied others.old.resume) others.old.s2r.choices.coming)
+        (without_own (option_copied others.new.resume) others.new.s2r.choices.coming)
         × (budget.new.used ≡ budget.new.limit)) }
+    ensures keeps { (a : Arrangement) → C.Idle cuts.new a → C.Idle cuts.old a }
     ensures spends { Spends budget.old budget.new }
 {
     let Some(cursor) = others.resume else {
-        return others.lists.put_next_past(cuts, numbers, budget);
+        return choose_tuple(&mut others.s2r, chosen, cuts, budget);
     };
-    if !others.lists.put_next(numbers, budget)? {
+    if !choose_next(&mut others.s2r, budget)? {
         return Ok(false);
     }
-    let is_own = is_same(numbers, &cursor.lists.s2r);
+    let is_own = is_same(&others.s2r.latest, &cursor.lists.s2r);
     others.resume = None;
     if !is_own {
         return Ok(true);
     }
-    others.lists.put_next_past(cuts, numbers, budget)
+    choose_tuple(&mut others.s2r, chosen, cuts, budget)
 }
 
 impl<'a, R: Rule> Arranges for ByS2r<'a, R> {
     ghost coming = { λ l. l };
 
-    fn next<C: Cuts>(&mut self, cuts: &C, lists: &mut Arrangement, budget: &mut Budget) -> Drawn {
-        let tuples = S2rCuts {
-            cuts,
-            s1: &self.s1,
-            s2: &self.s2,
-            s1r: &self.s1r,
+    fn next<C: Cuts>(
+        &mut self,
+        cuts: &mut C,
+        lists: &mut Arrangement,
+        budget: &mut Budget,
+    ) -> Drawn {
+        let chosen = Chosen {
+            lists: Prefix {
+                filling: Filling::S2r,
+                s1: &self.s1,
+                s2: &self.s2,
+                s1r: &self.s1r,
+                s2r: &[],
+            },
+            very_next: false,
         };
-        if !put_next_other(&mut self.others, &tuples, &mut lists.s2r, budget)? {
+        if !choose_other(&mut self.others, &chosen, cuts, budget)? {
             return Ok(false);
         }
         refill(&mut lists.s1, &self.s1);
         refill(&mut lists.s2, &self.s2);
         refill(&mut lists.s1r, &self.s1r);
+        refill(&mut lists.s2r, &self.others.s2r.latest);
         Ok(true)
     }
 }
@@ -167,9 +185,8 @@ pub struct ByS1r<'a, R: Rule> {
     s1: Numbers,
     s2: Numbers,
     remainder: Numbers,
-    // the S1R of the block
-    s1r: Numbers,
-    sets: Exchanges,
+    // the S1R of the block is the one that came last
+    s1r: Chooser<Exchanges>,
     rule: &'a R,
     // the cursor behind which the blocks begin, until the first one has come
     resume: Option<&'a Cursor>,
@@ -195,7 +212,7 @@ impl<'a, R: Rule> Model for ByS1r<'a, R> {
     ghost Value = { List (List Arrangement) };
 
     ghost view = { λ l. s1r_blocks (R.meets l.rule.now) l.s1.items l.s2.items l.remainder.items
-        (option_copied l.resume) l.sets.coming };
+        (option_copied l.resume) l.s1r.choices.coming };
 
     ghost invariant = { λ l. IsStrictlyIncreasing l.remainder.items
         × Of (HasS2r l.remainder.items) (option_copied l.resume) };
@@ -210,8 +227,10 @@ impl<'a, R: Rule> ByS1r<'a, R> {
             s1: Numbers::new(),
             s2: Numbers::new(),
             remainder: Numbers::new(),
-            s1r: Numbers::new(),
-            sets: Exchanges::ended(),
+            s1r: Chooser {
+                choices: Exchanges::ended(),
+                latest: Numbers::new(),
+            },
             rule,
             resume: None,
         }
@@ -235,8 +254,8 @@ impl<'a, R: Rule> ByS1r<'a, R> {
             k: from.k,
         };
         match own {
-            Some(cursor) => self.sets.start_from(&sides, &cursor.lists.s1r),
-            None => self.sets.start(&sides),
+            Some(cursor) => self.s1r.choices.start_from(&sides, &cursor.lists.s1r),
+            None => self.s1r.choices.start(&sides),
         }
     }
 }
@@ -261,32 +280,32 @@ impl<'a, R: Rule> Blocks for ByS1r<'a, R> {
 
     fn next_block<C: Cuts>(
         &mut self,
-        cuts: &C,
+        cuts: &mut C,
         block: &mut ByS2r<'a, R>,
         budget: &mut Budget,
     ) -> Drawn {
-        let tuples = S2Cuts { cuts, s1: &self.s1 };
-        if tuples.cuts(&self.s2) {
+        let chosen = Chosen {
+            lists: Prefix {
+                filling: Filling::S2,
+                s1: &self.s1,
+                s2: &self.s2,
+                s1r: &[],
+                s2r: &[],
+            },
+            very_next: self.resume.is_some(),
+        };
+        if cuts.cuts(&chosen.lists) {
             return Ok(false);
         }
-        let exchanges = S1rCuts {
-            cuts,
-            s1: &self.s1,
-            s2: &self.s2,
-        };
-        let exchanges = CutsAfterFirst {
-            very: self.resume.is_some(),
-            cuts: &exchanges,
-        };
-        if !self.sets.put_next_past(&exchanges, &mut self.s1r, budget)? {
+        if !choose_set(&mut self.s1r, &chosen, cuts, budget)? {
             return Ok(false);
         }
-        let own = take_by_s1r(&mut self.resume, &self.s1r);
+        let own = take_by_s1r(&mut self.resume, &self.s1r.latest);
         let from = InS1r {
             s1: &self.s1,
             s2: &self.s2,
             remainder: &self.remainder,
-            s1r: &self.s1r,
+            s1r: &self.s1r.latest,
         };
         block.start(&from, own, self.rule);
         Ok(true)
@@ -299,9 +318,8 @@ pub struct ByS2<'a, R: Rule> {
     k: usize,
     s1: Numbers,
     residents: Numbers,
-    // the S2 of the block
-    s2: Numbers,
-    lists: Transpositions<'a, R>,
+    // the S2 of the block is the one that came last
+    s2: Chooser<Transpositions<'a, R>>,
     rule: &'a R,
     // the cursor behind which the blocks begin, until the first one has come
     resume: Option<&'a Cursor>,
@@ -328,11 +346,11 @@ impl<'a, R: Rule> Model for ByS2<'a, R> {
     ghost Value = { List (List Arrangement) };
 
     ghost view = { λ l. s2_blocks (R.meets l.rule.now) l.k l.s1.items l.residents.items
-        (option_copied l.resume) l.lists.coming };
+        (option_copied l.resume) l.s2.choices.coming };
 
     ghost invariant = { λ l.
         IsStrictlyIncreasing l.residents.items
-        × AllByRecursion (λ s2. l.k ≤ length (left_of l.residents.items s2)) l.lists.coming
+        × AllByRecursion (λ s2. l.k ≤ length (left_of l.residents.items s2)) l.s2.choices.coming
         × Of (λ own. HasS1r l.k (left_of l.residents.items own.s2) own) (option_copied l.resume) };
 }
 
@@ -345,8 +363,10 @@ impl<'a, R: Rule> ByS2<'a, R> {
             k: 0,
             s1: Numbers::new(),
             residents: Numbers::new(),
-            s2: Numbers::new(),
-            lists: Transpositions::ended(rule),
+            s2: Chooser {
+                choices: Transpositions::ended(rule),
+                latest: Numbers::new(),
+            },
             rule,
             resume: None,
         }
@@ -370,8 +390,8 @@ impl<'a, R: Rule> ByS2<'a, R> {
             pool: from.residents,
         };
         match own {
-            Some(cursor) => self.lists.start_from(&meeting, rule, &cursor.lists.s2),
-            None => self.lists.start(&meeting, rule),
+            Some(cursor) => self.s2.choices.start_from(&meeting, rule, &cursor.lists.s2),
+            None => self.s2.choices.start(&meeting, rule),
         }
     }
 }
@@ -396,24 +416,29 @@ impl<'a, R: Rule> Blocks for ByS2<'a, R> {
 
     fn next_block<C: Cuts>(
         &mut self,
-        cuts: &C,
+        cuts: &mut C,
         block: &mut Level<ByS1r<'a, R>>,
         budget: &mut Budget,
     ) -> Drawn {
-        let tuples = S2Cuts { cuts, s1: &self.s1 };
-        let tuples = CutsAfterFirst {
-            very: self.resume.is_some(),
-            cuts: &tuples,
+        let chosen = Chosen {
+            lists: Prefix {
+                filling: Filling::S2,
+                s1: &self.s1,
+                s2: &[],
+                s1r: &[],
+                s2r: &[],
+            },
+            very_next: self.resume.is_some(),
         };
-        if !self.lists.put_next_past(&tuples, &mut self.s2, budget)? {
+        if !choose_tuple(&mut self.s2, &chosen, cuts, budget)? {
             return Ok(false);
         }
-        let own = take_by_s2(&mut self.resume, &self.s2);
+        let own = take_by_s2(&mut self.resume, &self.s2.latest);
         let from = InS2 {
             k: self.k,
             s1: &self.s1,
             residents: &self.residents,
-            s2: &self.s2,
+            s2: &self.s2.latest,
         };
         block.block.has_begun = false;
         block.blocks.start(&from, own, self.rule);
@@ -508,7 +533,7 @@ impl<'a, R: Rule> Blocks for ByS1<'a, R> {
 
     fn next_block<C: Cuts>(
         &mut self,
-        _cuts: &C,
+        _cuts: &mut C,
         block: &mut Level<ByS2<'a, R>>,
         budget: &mut Budget,
     ) -> Drawn {

@@ -21,13 +21,14 @@ pub trait Arranges {
     /// The arrangements to come.
     ghost coming: { Self → List Arrangement };
 
-    /// Fills `lists` with the next arrangement. Those that `cuts` knows to be idle may be skipped. If there is none,
+    /// Fills `lists` with the next arrangement. Those that are known to be idle may be skipped. If there is none,
     /// all that were to come are idle; what is to come after that is nowhere said.
-    fn next<C: Cuts>(&mut self, cuts: &C, lists: &mut Arrangement, budget: &mut Budget) -> Drawn
+    fn next<C: Cuts>(&mut self, cuts: &mut C, lists: &mut Arrangement, budget: &mut Budget) -> Drawn
         ensures answer { MatchDrawn result
-            (Passes (C.Idle cuts.now) (coming self.old) (lists.new ∷ coming self.new))
-            (Passes (C.Idle cuts.now) (coming self.old) [])
-            (Passes (C.Idle cuts.now) (coming self.old) (coming self.new) × (budget.new.used ≡ budget.new.limit)) }
+            (Passes (C.Idle cuts.old) (coming self.old) (lists.new ∷ coming self.new))
+            (Passes (C.Idle cuts.old) (coming self.old) [])
+            (Passes (C.Idle cuts.old) (coming self.old) (coming self.new) × (budget.new.used ≡ budget.new.limit)) }
+        ensures keeps { (a : Arrangement) → C.Idle cuts.new a → C.Idle cuts.old a }
         ensures spends { Spends budget.old budget.new };
 }
 
@@ -41,16 +42,17 @@ pub trait Blocks {
     /// Begins the next block in place. Blocks in which all are idle may be skipped.
     fn next_block<C: Cuts>(
         &mut self,
-        cuts: &C,
+        cuts: &mut C,
         block: &mut Self::Block,
         budget: &mut Budget,
     ) -> Drawn
         ensures answer { MatchDrawn result
-            (Passes (AllByRecursion (C.Idle cuts.now)) (blocks self.old)
+            (Passes (AllByRecursion (C.Idle cuts.old)) (blocks self.old)
             (Self.Block.coming block.new ∷ blocks self.new))
-            (Passes (AllByRecursion (C.Idle cuts.now)) (blocks self.old) [])
-            (Passes (AllByRecursion (C.Idle cuts.now)) (blocks self.old) (blocks self.new)
+            (Passes (AllByRecursion (C.Idle cuts.old)) (blocks self.old) [])
+            (Passes (AllByRecursion (C.Idle cuts.old)) (blocks self.old) (blocks self.new)
             × (budget.new.used ≡ budget.new.limit)) }
+        ensures keeps { (a : Arrangement) → C.Idle cuts.new a → C.Idle cuts.old a }
         ensures spends { Spends budget.old budget.new };
 }
 
@@ -66,7 +68,12 @@ impl<T: Arranges> Arranges for Block<T> {
 
     ghost coming = { λ b. within b.has_begun (T.coming b.level) };
 
-    fn next<C: Cuts>(&mut self, cuts: &C, lists: &mut Arrangement, budget: &mut Budget) -> Drawn {
+    fn next<C: Cuts>(
+        &mut self,
+        cuts: &mut C,
+        lists: &mut Arrangement,
+        budget: &mut Budget,
+    ) -> Drawn {
         Ok(self.has_begun && self.level.next(cuts, lists, budget)?)
     }
 }
@@ -107,7 +114,12 @@ impl<B: Blocks> Level<B> {
 impl<B: Blocks> Arranges for Level<B> {
     ghost coming = { λ l. l };
 
-    fn next<C: Cuts>(&mut self, cuts: &C, lists: &mut Arrangement, budget: &mut Budget) -> Drawn {
+    fn next<C: Cuts>(
+        &mut self,
+        cuts: &mut C,
+        lists: &mut Arrangement,
+        budget: &mut Budget,
+    ) -> Drawn {
         loop {
             if self.block.next(cuts, lists, budget)? {
                 return Ok(true);

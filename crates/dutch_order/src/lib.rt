@@ -26,6 +26,7 @@ mod cursor;
 mod cuts;
 pub mod laws;
 mod levels;
+mod past;
 mod prefix;
 
 pub use bound::Bound;

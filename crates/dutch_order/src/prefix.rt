@@ -1,6 +1,7 @@
 // The beginning of an arrangement, specified by its lists.
 ghost use Rattle.std.specs.Prelude.{◌≡◌};
 ghost use Rattle.dutch_order.specs.declared.prefix.Filling.TheVariants.{S1};
+ghost use Rattle.dutch_order.specs.Prefixes.{with_list};
 
 use std::marker::Model;
 
@@ -48,6 +49,29 @@ impl<'a> Prefix<'a> {
             s2: &[],
             s1r: &[],
             s2r: &[],
+        }
+    }
+
+    /// The same, with so much of the list that is being filled, S2 or S2R.
+    pub(crate) fn with<'n>(&'n self, list: &'n [u16]) -> Prefix<'n>
+        ensures { result ≡ with_list self.now list.now }
+    {
+        if self.filling == Filling::S2r {
+            Prefix {
+                filling: self.filling,
+                s1: self.s1,
+                s2: self.s2,
+                s1r: self.s1r,
+                s2r: list,
+            }
+        } else {
+            Prefix {
+                filling: self.filling,
+                s1: self.s1,
+                s2: list,
+                s1r: self.s1r,
+                s2r: self.s2r,
+            }
         }
     }
 

@@ -18,7 +18,7 @@ returns-then-self-2-clause-answer g c =
         | then-self-2-via-else-self-2+then-cuts w ↦
             passes-all Idle _
             (all-of Idle _
-            (λ a. w.cuts.ensures w.if-cuts.true a (subst (λ filling. BeginsAt filling w.nothing.result.lists a) (sym w.nothing.ensures) (tt {0}))))
+            (λ a. w.cuts.ensures.told w.if-cuts.true a (subst (λ filling. BeginsAt filling w.nothing.result.lists a) (sym w.nothing.ensures) (tt {0}))))
       ],
       refl,
       ap (λ (l : Listing g.row.R.Denot). l.latest) c.self.view_is,
@@ -48,7 +48,7 @@ invariant_of-self-in-Ok-true g c =
       c.self.invariant.0,
       λ too_many_left. absurd (true≢false (sym too_many_left ∙ c.if-self-2.false)),
       subst (λ told. IsOne (still_coming told after)) (sym c.if-self.false)
-          (later-candidates _ _ _ _ (g.C.Cuts.Idle c.args.cuts.now) before _ _ (drawn _ _ _ c.in-Ok-true.field-0-test c.in-Ok-true.ensures.answer).0 all),
+          (later-candidates _ _ _ _ (g.C.Cuts.Idle c.cuts.new.self) before _ _ (drawn _ _ _ c.in-Ok-true.field-0-test c.in-Ok-true.ensures.answer).0 all),
     )
 
 pub invariant_of-self-in-Err : goal.invariant_of-self-in-Err
@@ -62,5 +62,5 @@ invariant_of-self-in-Err g c =
       c.self.invariant.0,
       λ too_many_left. absurd (true≢false (sym too_many_left ∙ c.if-self-2.false)),
       subst (λ told. IsOne (still_coming told after)) (sym c.if-self.false)
-          (still-candidates _ _ _ _ (g.C.Cuts.Idle c.args.cuts.now) before after c.in-Err.ensures.answer.0 all),
+          (still-candidates _ _ _ _ (g.C.Cuts.Idle c.cuts.new.self) before after c.in-Err.ensures.answer.0 all),
     )

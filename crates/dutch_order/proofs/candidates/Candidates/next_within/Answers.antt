@@ -1,5 +1,3 @@
-use Rattle.std.proofs.Common.{◌≡◌, true, subst}
-use Rattle.dutch_order.specs.Prelude.{GivesPast, EndsPast, StopsPast, MatchStep}
 use Rattle.dutch_order.proofs.Nexts.{step-holding}
 use Rattle.dutch_order.proofs.candidates.Candidates.next_within.Goals as goal
 
@@ -7,9 +5,7 @@ pub returns-clause-answer : goal.returns-clause-answer
 returns-clause-answer g c =
     let gave = c.put_next_within-step.new in
     step-holding _ _ _ gave.candidate c.put_next_within-step.result c.holding.result c.holding.ensures
-    (subst
-    (λ bound. MatchStep c.put_next_within-step.result (λ _. GivesPast c.args.self.now gave.self (λ a. g.B.Bound.is_idle bound a ≡ true) gave.candidate) (EndsPast c.args.self.now gave.self (λ a. g.B.Bound.is_idle bound a ≡ true)) (StopsPast c.args.self.now gave.self (λ a. g.B.Bound.is_idle bound a ≡ true) gave.budget))
-    c.new.ensures c.put_next_within-step.ensures.answer)
+    c.put_next_within-step.ensures.answer
 
 pub returns-clause-too_many_left : goal.returns-clause-too_many_left
 returns-clause-too_many_left g c many = step-holding _ _ _ c.put_next_within-step.new.candidate c.put_next_within-step.result c.holding.result c.holding.ensures (c.put_next_within-step.ensures.too_many_left many)

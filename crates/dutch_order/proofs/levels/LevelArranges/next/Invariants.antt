@@ -1,11 +1,12 @@
 use Rattle.std.proofs.Common.{length, ◌++◌}
-use Rattle.dutch_order.specs.Prelude.{within, joined, Passes, Spends}
+use Rattle.dutch_order.specs.Prelude.{Arrangement, within, joined, Passes, Spends}
 use Rattle.dutch_order.proofs.levels.LevelArranges.next.Given as goal
 
 abbrev pub invariant-loop-self : goal.invariant-loop-self
 invariant-loop-self g l = record {
-  passes : Passes (g.C.Cuts.Idle l.cuts) (within l.initial.self-inside.block.has_begun (g.B.Block.Arranges.coming l.initial.self-inside.block.level) ++ joined (g.B.Blocks.blocks l.initial.self-inside.blocks))
+  passes : Passes (g.C.Cuts.Idle l.initial.cuts) (within l.initial.self-inside.block.has_begun (g.B.Block.Arranges.coming l.initial.self-inside.block.level) ++ joined (g.B.Blocks.blocks l.initial.self-inside.blocks))
       (within l.self-inside.block.has_begun (g.B.Block.Arranges.coming l.self-inside.block.level) ++ joined (g.B.Blocks.blocks l.self-inside.blocks));
+  keeps : (a : Arrangement) → g.C.Cuts.Idle l.cuts a → g.C.Cuts.Idle l.initial.cuts a;
   spends : Spends l.initial.budget l.budget;
 }
 
