@@ -155,10 +155,13 @@ fn draw_once(
     ensures rule { lister.new.listing.rule ≡ lister.old.listing.rule }
     ensures spends { Spends turn.old turn.new }
 {
-    let within = BoundWithRoom::new(skipper, work);
+    let mut within = BoundWithRoom {
+        bound: skipper,
+        room: work,
+    };
     lister
         .listing
-        .put_next_within(&within, &mut lister.drawn, turn)
+        .put_next_within(&mut within, &mut lister.drawn, turn)
 }
 
 impl<'a> Guide for BothFloors<'a> {

@@ -53,7 +53,7 @@ abbrev pub joined : {X : Type 0} → List (List X) → List X
 joined [] = []
 joined (block ∷ blocks) = block ++ joined blocks
 
--- a list begins with another
+-- a list begins with another [own]
 pub record GoesOn (front list : List ℕ) : Type 0 where
   pub rest : List ℕ
   pub is : list ≡ front ++ rest

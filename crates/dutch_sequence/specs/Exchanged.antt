@@ -16,8 +16,8 @@ pub record ExchangeClass : Type 0 where
   pub held : List ℕ
   pub barred : List ℕ
 
--- D.2: an S1R is an exchange of such a class: the remainder ascends; S1R is as many players of it as the original one; so many of them are not in the
--- original one; the sum of its numbers is so much greater; and it has those who are held, and none of those who are barred
+-- an S1R is an exchange of such a class: the remainder ascends; S1R is as many players of it as the original one; so many of them are not in the
+-- original one; the sum of its numbers is so much greater; and it has those who are held, and none of those who are barred [D.2]
 pub record IsExchange (exchange : ExchangeClass) (s1r : List ℕ) : Type 0 where
   pub ascends : IsStrictlyIncreasing (exchange.original ++ exchange.others)
   pub set : IsIn s1r (subsets (exchange.original ++ exchange.others) (length exchange.original))
