@@ -11,7 +11,7 @@ use Rattle.dutch_pair.specs.declared.instead.Instead.{Instead}
 use Rattle.dutch_pair.specs.declared.stage.Stage.{Stage}
 use Rattle.dutch_bracket.specs.declared.wish.Wish.{Wish}
 use Rattle.command_line.specs.InsteadAnswers.{AnswersPresent, IsSearched}
-use Rattle.command_line.specs.InsteadTexts.{instead_text, search_answer}
+use Rattle.stage_lines.specs.InsteadTexts.{instead_text, search_answer}
 use Rattle.round_lines.specs.Obstacles.{obstacle_text}
 use Rattle.round_lines.specs.declared.obstacle.Obstacle.{Obstacle}
 use Rattle.round_lines.specs.Tellings.{TellingFacts}

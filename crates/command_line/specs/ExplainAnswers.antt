@@ -6,10 +6,10 @@ use Rattle.dutch_pair.specs.declared.round.AllStages.TheVariants.{Paired, NoPair
 use Rattle.dutch_player.specs.Prelude.{Facts, facts_of, seat_with}
 use Rattle.dutch_player.specs.declared.fault.FieldFault.{FieldFault}
 use Rattle.trf16.specs.Prelude.{Sheet}
-use Rattle.command_line.specs.BarrierTexts.{no_pairing_text, reason_text}
-use Rattle.command_line.specs.ExplainTexts.{stages_text}
+use Rattle.stage_lines.specs.BarrierTexts.{no_pairing_text, reason_text}
+use Rattle.stage_lines.specs.ExplainTexts.{stages_text}
 use Rattle.command_line.specs.InsteadAnswers.{AnswersInstead, PairedRound}
-use Rattle.command_line.specs.InsteadTexts.{undecided_in}
+use Rattle.stage_lines.specs.InsteadTexts.{undecided_in}
 use Rattle.round_lines.specs.PlayerTexts.{absent_text, player_text}
 use Rattle.round_lines.specs.RoundTexts.{round_text}
 use Rattle.round_lines.specs.Tellings.{TellingFacts}

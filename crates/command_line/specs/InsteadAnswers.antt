@@ -9,7 +9,7 @@ use Rattle.dutch_pair.specs.declared.instead.Instead.{Instead}
 use Rattle.dutch_pair.specs.declared.stage.Stage.{Stage}
 use Rattle.dutch_bracket.specs.declared.wish.Wish.{Wish}
 use Rattle.dutch_bracket.specs.declared.wish.Wish.TheVariants.{Pair, LeftOver}
-use Rattle.command_line.specs.InsteadTexts.{granted_text, instead_text, search_answer}
+use Rattle.stage_lines.specs.InsteadTexts.{granted_text, instead_text, search_answer}
 use Rattle.round_lines.specs.Tellings.{TellingFacts}
 use Rattle.round_lines.specs.Obstacles.{against_bye, against_meeting, obstacle_text}
 use Rattle.replies.specs.Prelude.{Answer, done}

@@ -8,7 +8,7 @@ ghost use Rattle.command_line.specs.ExplainAnswers.{AnswersExplain, ExplainsAske
 ghost use Rattle.command_line.specs.ExplainAnswers.{TellsPaired, about_text, front_text, present_text};
 ghost use Rattle.replies.specs.Prelude.{answer_of, question_fault, seen_before};
 
-use crate::bracket_lines::put_stages;
+use stage_lines::bracket_lines::put_stages;
 use crate::instead::{AskedInSteps, Paired, instead};
 use crate::not_paired::{no_pairing_because, undecided};
 use dutch_pair::{AllStages, stages};

@@ -8,11 +8,11 @@ ghost use Rattle.command_line.specs.InsteadAnswers.{AnswersInstead, AnswersPrese
 ghost use Rattle.command_line.specs.InsteadAnswers.{decided_in};
 ghost use Rattle.command_line.specs.InsteadAnswers.{goes_on, number_among, number_in, obstacle_of, rival_of};
 ghost use Rattle.command_line.specs.InsteadAnswers.{stands_in, stands_in_one, wish_in};
-ghost use Rattle.command_line.specs.InsteadTexts.{in_bracket, instead_text, search_answer};
+ghost use Rattle.stage_lines.specs.InsteadTexts.{in_bracket, instead_text, search_answer};
 ghost use Rattle.round_lines.specs.Obstacles.{obstacle_text};
 ghost use Rattle.replies.specs.Prelude.{answer_of, done};
 
-use crate::instead_lines::{put_found, put_front, put_granted};
+use stage_lines::instead_lines::{put_found, put_front, put_granted};
 use crate::not_paired::undecided;
 use dutch_pair::{Instead, Stage, Wish, best_instead};
 use dutch_player::Field;

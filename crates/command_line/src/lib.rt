@@ -3,22 +3,16 @@
 //! streams.
 //!
 //! The commands that pair stand here, each in a file of its name: `pair`, `candidates` and `explain`, and `boards`, which
-//! prints boards as `pair` does. `explain` puts its lines together from those of `round_lines`, bracket by bracket. `laws`
+//! prints boards as `pair` does. `explain` puts its lines together from those of `stage_lines` and `round_lines`. `laws`
 //! holds what is proved of the reasons that it tells alone: each is true.
 //!
 //! To mind: a text is made whole in memory, and if memory is refused, the call says so.
 #![tactic(auto)]
 
-mod barrier_lines;
-mod board_lines;
 mod boards;
-mod bracket_lines;
 mod candidates;
-mod choice_lines;
 mod explain;
 mod instead;
-mod instead_lines;
-mod item_lines;
 pub mod laws;
 mod not_paired;
 mod pair;

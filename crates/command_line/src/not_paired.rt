@@ -1,12 +1,12 @@
 // What is answered where no round is paired: that there is no pairing, and why; or that the steps ended first.
 ghost use Rattle.std.specs.Prelude.{◌≡◌, ◌++◌, IfOk, OnOk};
 ghost use Rattle.dutch_player.specs.Prelude.{seat_with};
-ghost use Rattle.command_line.specs.BarrierTexts.{reason_text};
+ghost use Rattle.stage_lines.specs.BarrierTexts.{reason_text};
 ghost use Rattle.command_line.specs.ExplainAnswers.{TellsWhy, asked_text, line_text, no_pairing_with};
-ghost use Rattle.command_line.specs.InsteadTexts.{undecided_in};
+ghost use Rattle.stage_lines.specs.InsteadTexts.{undecided_in};
 ghost use Rattle.replies.specs.Prelude.{answer_of};
 
-use crate::barrier_lines::put_barrier;
+use stage_lines::barrier_lines::put_barrier;
 use dutch_pair::{Barrier, barrier_of};
 use replies::{Reply, Status, texts};
 use requests::{Question, Wording};

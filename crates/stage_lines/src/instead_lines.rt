@@ -1,0 +1,121 @@
+// The line that tells why a player does not meet another one in the next round, or does not have the bye, piece by piece.
+ghost use Rattle.std.specs.Prelude.{◌≡◌, ◌++◌, OnOk};
+ghost use Rattle.dutch_bracket.specs.Prelude.{quality_in};
+ghost use Rattle.stage_lines.specs.InsteadTexts.{best_front, bracket_front, found_text, front_text, granted_text};
+ghost use Rattle.round_lines.specs.ValueTexts.{candidate_text};
+
+use dutch_bracket::quality::Quality;
+use dutch_order::Candidate;
+use dutch_pair::{Instead, Stage};
+use round_lines::Asked;
+use round_lines::page::Page;
+use round_lines::pieces::Piece::{Number, Player, Text};
+use round_lines::pieces::say;
+use round_lines::telling::{Telling, in_wording};
+use round_lines::value_texts::put_candidate;
+use std::alloc::AllocError;
+
+/// Puts that the player meets whom they ask for, or has the bye.
+pub fn put_granted(text: &mut Page, telling: &Telling<'_>, asked: Asked) -> Result<(), AllocError>
+    ensures { OnOk result (text.new ≡ text.old ++ granted_text telling.now asked.player asked.number) }
+{
+    let (player, number) = (Player(asked.player), Number(asked.number));
+    let (front, chosen) = (Text("instead "), Text(" chosen\n"));
+    if asked.number == 0 {
+        let words = [player, Text(" has the bye.\n")];
+        return say(text, telling, &[front, number, chosen], &words);
+    }
+    let other = Player(asked.number);
+    let words = [player, Text(" meets "), other, Text(".\n")];
+    say(text, telling, &[front, number, chosen], &words)
+}
+
+/// Puts that the player does not meet whom they ask for, or does not get the bye, in front of why.
+pub fn put_front(text: &mut Page, telling: &Telling<'_>, asked: Asked) -> Result<(), AllocError>
+    ensures { OnOk result (text.new ≡ text.old ++ front_text telling.now asked.player asked.number) }
+{
+    let (player, number) = (Player(asked.player), Number(asked.number));
+    let (front, behind) = (Text("instead "), Text(" "));
+    if asked.number == 0 {
+        let words = [player, Text(" does not get the bye. ")];
+        return say(text, telling, &[front, number, behind], &words);
+    }
+    let other = Player(asked.number);
+    let words = [player, Text(" does not meet "), other, Text(". ")];
+    say(text, telling, &[front, number, behind], &words)
+}
+
+/// Puts a bracket, and what a search in it found.
+pub fn put_found(
+    text: &mut Page,
+    telling: &Telling<'_>,
+    searched: (&Stage, &Instead),
+) -> Result<(), AllocError>
+    ensures { OnOk result (text.new
+        ≡ text.old ++ (bracket_front telling.now.wording searched.entry.0.now.reached.number
+        ++ found_text telling.now.wording searched.entry.0.now searched.entry.1.now)) }
+{
+    put_bracket(text, telling, searched.0.reached().number())?;
+    put_reason(text, telling, searched)
+}
+
+// Puts the number of a bracket in front of what is found in it.
+fn put_bracket(text: &mut Page, telling: &Telling<'_>, number: u16) -> Result<(), AllocError>
+    ensures { OnOk result (text.new ≡ text.old ++ bracket_front telling.now.wording number) }
+{
+    let number = Number(number);
+    say(
+        text,
+        telling,
+        &[Text("bracket "), number, Text(" ")],
+        &[Text("In bracket "), number, Text(", ")],
+    )
+}
+
+// Puts what a search in a bracket found.
+fn put_reason(
+    text: &mut Page,
+    telling: &Telling<'_>,
+    searched: (&Stage, &Instead),
+) -> Result<(), AllocError>
+    ensures { OnOk result (text.new
+        ≡ text.old ++ found_text telling.now.wording searched.entry.0.now searched.entry.1.now) }
+{
+    let (stage, found) = searched;
+    match found {
+        Instead::Best { candidate, quality } => {
+            put_best(text, telling, candidate, (quality, stage.quality()))
+        }
+        Instead::NoneEligible => text.push_str(in_wording(
+            telling.wording,
+            "none C.4",
+            "candidates with as many pairs and no fewer moved-down players in them allow it, but those whom they leave over could not all be paired below (C.4).",
+        )),
+        Instead::FewerMovedDown => text.push_str(in_wording(
+            telling.wording,
+            "none B.1",
+            "no candidate that allows it makes as many pairs with as many moved-down players in them (B.1).",
+        )),
+        Instead::NoneLegal => text.push_str(in_wording(
+            telling.wording,
+            "none C.5",
+            "no candidate that makes as many pairs allows it (C.5).",
+        )),
+        Instead::Undecided { .. } => Ok(()),
+    }
+}
+
+// Puts the best candidate beside the chosen one.
+fn put_best(
+    text: &mut Page,
+    telling: &Telling<'_>,
+    candidate: &Candidate,
+    of: (&Quality, &Quality),
+) -> Result<(), AllocError>
+    ensures { OnOk result (text.new ≡ text.old ++ (best_front telling.now.wording ++ candidate_text telling.now.wording
+        candidate.now.lists (quality_in of.entry.0.now) (quality_in of.entry.1.now))) }
+{
+    let words = [Text("the best candidate that allows it ")];
+    say(text, telling, &[Text("")], &words)?;
+    put_candidate(text, telling, candidate, of)
+}
