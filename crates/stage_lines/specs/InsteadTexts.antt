@@ -42,7 +42,7 @@ none_c5_text wording = in_wording wording (codes "none C.5") (codes "no candidat
 abbrev pub best_front : Wording → List ℕ
 best_front wording = in_wording wording [] (codes "the best candidate that allows it ")
 
--- what is found for a wish: the best candidate that grants it, or why there is none
+-- what is found for a wish: the best candidate that grants it, or why there is none [own]
 abbrev pub found_text : Wording → Stage → Instead → List ℕ
 found_text wording stage (Best candidate quality) =
     best_front wording ++ candidate_text wording candidate.lists (quality_in quality) (quality_in stage.quality)
@@ -51,7 +51,7 @@ found_text wording stage FewerMovedDown = none_b1_text wording
 found_text wording stage NoneLegal = none_c5_text wording
 found_text wording stage (Undecided used) = []
 
--- the number of a bracket in front of what is found in it
+-- the number of a bracket in front of what is found in it [with found_text]
 abbrev pub bracket_front : Wording → ℕ → List ℕ
 bracket_front wording number =
     in_wording wording (codes "bracket " ++ (decimal number ++ codes " ")) (codes "In bracket " ++ (decimal number ++ codes ", "))
@@ -69,7 +69,7 @@ module _ (telling : TellingFacts) (player number : ℕ) where
       if number == 0 then player_words telling.sheet player ++ codes " has the bye.\n"
       else player_words telling.sheet player ++ (codes " meets " ++ (player_words telling.sheet number ++ codes ".\n"))
 
-  -- that what is chosen grants it, in a line or in a sentence
+  -- that what is chosen grants it, in a line or in a sentence [with found_text]
   abbrev pub granted_text : List ℕ
   granted_text = in_wording telling.wording granted_line granted_words
 
@@ -83,7 +83,7 @@ module _ (telling : TellingFacts) (player number : ℕ) where
       if number == 0 then player_words telling.sheet player ++ codes " does not get the bye. "
       else player_words telling.sheet player ++ (codes " does not meet " ++ (player_words telling.sheet number ++ codes ". "))
 
-  -- that what is chosen does not grant it, in a line or in a sentence
+  -- that what is chosen does not grant it, in a line or in a sentence [with found_text]
   abbrev pub front_text : List ℕ
   front_text = in_wording telling.wording front_line front_words
 
