@@ -1,6 +1,6 @@
 -- Who is named together, from one sheet to another and from no line at all.
 use Rattle.std.proofs.Common.{◌≡◌, ℕ, ◌<◌, Bool, true, false, ◌&&◌, ◌==◌, not, List, [], ◌∷◌, length, Option, Some, None, refl, sym, ap, ◌∙◌, subst, arith}
-use Rattle.std.specs.Prelude.{codes, slice_index_or, vec_len, filter}
+use Rattle.std.specs.Prelude.{codes, slice_index_or, filter}
 use Rattle.std.specs.List.{list_any}
 use Rattle.std.specs.Option.{option_map_or}
 use Rattle.trf16.specs.Prelude.{columns, is_kind, names_both, apart, apart_from, some_carried, Entry, Sheet, starts_of, are_marked, TellsApart}
@@ -13,22 +13,20 @@ use Rattle.trf16.specs.Notes.{start_at}
 use Rattle.trf16.specs.declared.apart.Apart.{Apart}
 
 -- a mark for each two of one sheet is one of another with the same lines and start ranks
-pub apart_again : (of again : Apart) (a b : Sheet) → ((i j : ℕ) → are_marked again i j ≡ are_marked of i j) → again.starts.items ≡ of.starts.items
-    → vec_len again.starts ≡ vec_len of.starts → b.utf8 ≡ a.utf8 → b.carried ≡ a.carried → starts_of b.players ≡ starts_of a.players → TellsApart of a
-    → TellsApart again b
-apart_again of again a b marks items len same_columns same_lines same_starts told = record {
-  starts = items ∙ told.starts ∙ sym same_starts;
+pub apart_again : (of again : Apart) (a b : Sheet) → ((i j : ℕ) → are_marked again i j ≡ are_marked of i j) → again.count ≡ of.count
+    → b.utf8 ≡ a.utf8 → b.carried ≡ a.carried → starts_of b.players ≡ starts_of a.players → TellsApart of a → TellsApart again b
+apart_again of again a b marks count same_columns same_lines same_starts told = record {
   count =
-      len ∙ told.count ∙ sym (length-map a.players (λ (e : Entry). e.start)) ∙ ap (λ (starts : List ℕ). length starts) (sym same_starts)
+      count ∙ told.count ∙ sym (length-map a.players (λ (e : Entry). e.start)) ∙ ap (λ (starts : List ℕ). length starts) (sym same_starts)
       ∙ length-map b.players (λ (e : Entry). e.start);
   both = λ i j li lj.
-      marks i j ∙ told.both i j (omega (arith, li, len)) (omega (arith, lj, len))
-      ∙ ap (λ (xs : List ℕ). some_carried (names_both (slice_index_or xs i 0) (slice_index_or xs j 0)) a) (sym items)
+      marks i j ∙ told.both i j (omega (arith, li, count)) (omega (arith, lj, count))
+      ∙ ap (λ (xs : List ℕ). some_carried (names_both (start_at xs i) (start_at xs j)) a) (sym same_starts)
       ∙ sym (rw (same_columns, same_lines) refl);
 }
 
 pub apart_same : (of : Apart) (a b : Sheet) → b.utf8 ≡ a.utf8 → b.carried ≡ a.carried → starts_of b.players ≡ starts_of a.players → TellsApart of a → TellsApart of b
-apart_same of a b same_columns same_lines same_starts told = apart_again of of a b (λ i j. refl) refl refl same_columns same_lines same_starts told
+apart_same of a b same_columns same_lines same_starts told = apart_again of of a b (λ i j. refl) refl same_columns same_lines same_starts told
 
 -- where no line is XXP, none names two together
 pub not_any : (a b : ℕ) (sheet : Sheet) → some_carried (is_kind (codes "XXP")) sheet ≡ false → some_carried (names_both a b) sheet ≡ false
@@ -72,28 +70,25 @@ pub looked_up : (of : Apart) (sheet : Sheet) (a b i j : ℕ) → TellsApart of s
     → slice_index_or (starts_of sheet.players) i 0 ≡ a → slice_index_or (starts_of sheet.players) j 0 ≡ b → are_marked of i j ≡ some_carried (names_both a b) sheet
 looked_up of sheet a b i j told li lj first second =
     told.both i j (omega (arith, li, told.count)) (omega (arith, lj, told.count))
-    ∙ ap (λ (xs : List ℕ). some_carried (names_both (slice_index_or xs i 0) (slice_index_or xs j 0)) sheet) told.starts
     ∙ ap (λ (x : ℕ). some_carried (names_both x (slice_index_or (starts_of sheet.players) j 0)) sheet) first
     ∙ ap (λ (y : ℕ). some_carried (names_both a y) sheet) second
 
 -- who is named together, where the places are those of the players of a sheet; and where no line names two
 pub told : {E : Type 0} (r : Result Apart E) (sheet given : Sheet) (keys : List ℕ) (n : ℕ) → keys ≡ starts_of sheet.players → n ≡ length sheet.players
     → ((test : List (List ℕ) → Bool) → some_carried test given ≡ some_carried test sheet)
-    → IfOk r (λ apart. (i j : ℕ) → i < vec_len apart.starts → j < vec_len apart.starts → are_marked apart i j ≡ some_carried (names_both (start_at apart i) (start_at apart j)) given)
-    → IfOk r (λ apart. apart.starts.items ≡ keys) → IfOk r (λ apart. vec_len apart.starts ≡ n) → IfOk r (λ apart. TellsApart apart sheet)
-told (Ok apart) sheet given keys n keyed size same both starts count = record {
-  starts = starts ∙ keyed;
+    → IfOk r (λ apart. (i j : ℕ) → i < apart.count → j < apart.count → are_marked apart i j ≡ some_carried (names_both (start_at keys i) (start_at keys j)) given)
+    → IfOk r (λ apart. apart.count ≡ n) → IfOk r (λ apart. TellsApart apart sheet)
+told (Ok apart) sheet given keys n keyed size same both count = record {
   count = count ∙ size;
-  both = λ i j li lj. both i j li lj ∙ same (names_both (start_at apart i) (start_at apart j));
+  both = λ i j li lj.
+      both i j li lj ∙ same (names_both (start_at keys i) (start_at keys j))
+      ∙ ap (λ (xs : List ℕ). some_carried (names_both (start_at xs i) (start_at xs j)) sheet) keyed;
 }
-told (Err e) sheet given keys n keyed size same both starts count = tt
+told (Err e) sheet given keys n keyed size same both count = tt
 
-pub told_none : {E : Type 0} (r : Result Apart E) (sheet : Sheet) (keys : List ℕ) (n : ℕ) → keys ≡ starts_of sheet.players → n ≡ length sheet.players
-    → some_carried (is_kind (codes "XXP")) sheet ≡ false → IfOk r (λ apart. (i j : ℕ) → are_marked apart i j ≡ false)
-    → IfOk r (λ apart. apart.starts.items ≡ keys) → IfOk r (λ apart. vec_len apart.starts ≡ n) → IfOk r (λ apart. TellsApart apart sheet)
-told_none (Ok apart) sheet keys n keyed size nobody none starts count = record {
-  starts = starts ∙ keyed;
-  count = count ∙ size;
-  both = λ i j li lj. none i j ∙ sym (not_any (start_at apart i) (start_at apart j) sheet nobody);
+pub told_none : (apart : Apart) (sheet : Sheet) → apart.count ≡ length sheet.players → some_carried (is_kind (codes "XXP")) sheet ≡ false
+    → ((i j : ℕ) → are_marked apart i j ≡ false) → TellsApart apart sheet
+told_none apart sheet count nobody none = record {
+  count = count;
+  both = λ i j li lj. none i j ∙ sym (not_any (start_at (starts_of sheet.players) i) (start_at (starts_of sheet.players) j) sheet nobody);
 }
-told_none (Err e) sheet keys n keyed size nobody none starts count = tt

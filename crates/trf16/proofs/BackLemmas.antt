@@ -8,7 +8,7 @@ use Rattle.std.specs.Str.{bytes_eq}
 use Rattle.std.proofs.lemmas.Bool.{and_from}
 use Rattle.std.proofs.lemmas.Bool.Decides.{nat_tests}
 use Rattle.std.proofs.lemmas.Slice.Eq.{bytes_eq-Decides}
-use Rattle.trf16.specs.Prelude.{columns, text, is_kind, is_word, words_of, names_absent, names_both, is_named_absent, some_carried, is_of, first_at, first_of, carried_line, carried_as, line_back, Sheet, is_marked, first_noted, starts_of, Tells, TellsApart}
+use Rattle.trf16.specs.Prelude.{columns, text, is_kind, is_word, words_of, names_absent, names_both, is_named_absent, some_carried, is_of, first_at, first_of, carried_line, carried_as, line_back, Entry, Sheet, is_marked, first_noted, starts_of, Tells, TellsApart}
 use Rattle.trf16.specs.Notes.{start_at}
 use Rattle.trf16.specs.declared.kind.LineKind.{LineKind}
 use Rattle.trf16.specs.declared.kind.LineKind.TheVariants.{Xxa, Xxs, Rank}
@@ -151,9 +151,12 @@ tells_back notes again before after back none firsts same told = record {
 -- and who is named together
 pub apart_back : (of : Apart) (before after : Sheet) → HasLinesBack before after → after.players ≡ before.players → TellsApart of before → TellsApart of after
 apart_back of before after back players told = record {
-  starts = told.starts ∙ sym (ap starts_of players);
   count = rw players told.count;
-  both = λ i j li lj. told.both i j li lj ∙ sym (some_back (names_both (start_at of i) (start_at of j)) (others_both (start_at of i) (start_at of j)) before after back);
+  both = λ i j li lj.
+      let starts = starts_of before.players in
+      told.both i j li lj
+      ∙ sym (some_back (names_both (start_at starts i) (start_at starts j)) (others_both (start_at starts i) (start_at starts j)) before after back)
+      ∙ ap (λ (ps : List Entry). some_carried (names_both (start_at (starts_of ps) i) (start_at (starts_of ps) j)) after) (sym players);
 }
 
 -- ---- lines as they are carried

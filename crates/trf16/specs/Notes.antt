@@ -1,8 +1,9 @@
 -- What is noted of the carried lines while they are read, and what it must agree with.
-use Rattle.std.specs.Prelude.{◌≡◌, ℕ, ◌+◌, ◌*◌, ◌<◌, Bool, true, false, ◌||◌, ◌==◌, nat_lt, codes, length, map, vec_len, if◌then◌else◌, List, [], ◌∷◌, Option, Some, None, slice_index_or}
+use Rattle.std.specs.Prelude.{◌≡◌, ℕ, ◌+◌, ◌*◌, ◌<◌, Bool, true, false, ◌||◌, ◌==◌, nat_lt, codes, length, if◌then◌else◌, List, [], ◌∷◌, Option, Some, None, slice_index_or}
 use Rattle.std.specs.Option.{option_or}
 use Rattle.std.specs.Str.{byte}
 use Rattle.trf16.specs.Sheet.{Sheet}
+use Rattle.trf16.specs.StartRanks.{starts_of}
 use Rattle.trf16.specs.Absence.{is_named_absent, first_of}
 use Rattle.trf16.specs.declared.kind.LineKind.{LineKind}
 use Rattle.trf16.specs.declared.kind.LineKind.TheVariants.{Xxa, Xxs, Rank}
@@ -61,14 +62,14 @@ pub record Tells (notes : Notes) (sheet : Sheet) : Type 0 where
 
 -- whether two players, by their places in the order of the lines, are marked as named together
 abbrev pub are_marked : Apart → ℕ → ℕ → Bool
-are_marked apart i j = slice_index_or apart.marks.items (vec_len apart.starts * i + j) false
+are_marked apart i j = slice_index_or apart.marks.items (apart.count * i + j) false
 
--- the start rank of the player at a place
-abbrev pub start_at : Apart → ℕ → ℕ
-start_at apart i = slice_index_or apart.starts.items i 0
+-- the start rank at a place
+abbrev pub start_at : List ℕ → ℕ → ℕ
+start_at starts i = slice_index_or starts i 0
 
 -- what is marked is which players the lines XXP of a report name together
 pub record TellsApart (apart : Apart) (sheet : Sheet) : Type 0 where
-  pub starts : apart.starts.items ≡ map (λ entry. entry.start) sheet.players
-  pub count : vec_len apart.starts ≡ length sheet.players
-  pub both : (i j : ℕ) → i < vec_len apart.starts → j < vec_len apart.starts → are_marked apart i j ≡ some_carried (names_both (start_at apart i) (start_at apart j)) sheet
+  pub count : apart.count ≡ length sheet.players
+  pub both : (i j : ℕ) → i < apart.count → j < apart.count
+      → are_marked apart i j ≡ some_carried (names_both (start_at (starts_of sheet.players) i) (start_at (starts_of sheet.players) j)) sheet

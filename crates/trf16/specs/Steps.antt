@@ -1,9 +1,11 @@
 -- What the inner functions cut off a text, one step at a time.
-use Rattle.std.specs.Prelude.{◌≡◌, ℕ, ◌<◌, ◌≤◌, Bool, ◌&&◌, ◌==◌, if◌then◌else◌, List, [], ◌∷◌, length, take, drop, map, slice_index_or, Option, option_map}
+use Rattle.std.specs.Prelude.{◌≡◌, ℕ, ◌<◌, ◌≤◌, Bool, ◌&&◌, ◌==◌, if◌then◌else◌, List, [], ◌∷◌, length, take, drop, map, slice_index_or, Option, option_map, Result}
 use Rattle.trf16.specs.Lines.{columns, joined}
 use Rattle.std.specs.Str.{byte}
 use Rattle.trf16.specs.Sheet.{Sheet}
-use Rattle.trf16.specs.Verdict.{carried_line, without_players}
+use Rattle.trf16.specs.Outcomes.{◌>>=◌}
+use Rattle.trf16.specs.Verdict.{carried_line, without_players, lines_onto, has_too_many_rounds, sized}
+use Rattle.trf16.specs.declared.fault.Fault.{Fault}
 use Rattle.trf16.specs.BeforeRound.{line_back}
 
 -- what stands behind the end of a line that ends in front
@@ -30,3 +32,7 @@ carried_as bare utf8 line = if bare then option_map (line_back utf8) (carried_li
 -- a report whose players are still to be read, with its lines carried so
 abbrev pub lines_carried : Bool → Bool → List (List ℕ) → ℕ → Sheet
 lines_carried bare utf8 all bye = record (without_players utf8 all bye) { carried = map (carried_as bare utf8) all }
+
+-- a report with what all lines of a text add to it, unless its size is refused
+unfoldable pub filled : Sheet → List (List ℕ) → Result Sheet Fault
+filled sheet all = lines_onto sheet 1 all >>= λ next. sized next (has_too_many_rounds sheet.utf8 all)

@@ -143,7 +143,7 @@ impl<'a> Draft<'a> {
         if notes.together {
             Apart::read(alloc, &self.players, self.text, self.utf8)
         } else {
-            Apart::none(alloc, &self.players)
+            Ok(Apart::none(alloc, self.players.len()))
         }
     }
 

@@ -5,7 +5,7 @@ ghost use Rattle.trf16.specs.declared.fault.Fault.TheVariants.{OutOfMemory};
 use std::alloc::{AllocError, AllocFailed};
 
 /// What a report has too much of.
-#[derive(Debug, Clone, Copy, PartialEq)]
+#[derive(Clone, Copy)]
 pub enum Excess {
     /// More than 1,048,576 bytes.
     Bytes,
@@ -16,7 +16,7 @@ pub enum Excess {
 }
 
 /// Why a report is refused. Lines, columns and rounds count from 1.
-#[derive(Debug, Clone, Copy, PartialEq)]
+#[derive(Clone, Copy)]
 pub enum Fault {
     /// A start rank or a points field that is no number of its kind.
     BadNumber { line: usize },

@@ -27,43 +27,37 @@ struct RawLine<'t> {
 }
 
 impl Apart {
-    /// Nobody is named together with another.
-    pub(crate) fn none(
-        alloc: Global,
-        players: &IndexMap<u16, Player<'_>>,
-    ) -> Result<Apart, AllocError>
-        requires { length players.now.entries ≤ MOST_PLAYERS }
-        ensures none { IfOk result (λ apart. (i j : ℕ) → are_marked apart i j ≡ false) }
-        ensures starts { IfOk result (λ apart. apart.starts.items ≡ keys_of players.now.entries) }
-        ensures count { IfOk result (λ apart. vec_len apart.starts ≡ length players.now.entries) }
+    /// Nobody of so many players is named together with another.
+    pub(crate) fn none(alloc: Global, count: usize) -> Apart
+        requires { count ≤ MOST_PLAYERS }
+        ensures none { (i j : ℕ) → are_marked result i j ≡ false }
+        ensures count { result.count ≡ count }
     {
-        Ok(Apart {
-            starts: starts_of(alloc, players)?,
+        Apart {
+            count,
             marks: Vec::new(alloc),
-        })
+        }
     }
 
     // The same with room for a mark for each two.
-    fn with_room(alloc: Global, players: &IndexMap<u16, Player<'_>>) -> Result<Apart, AllocError>
-        requires { length players.now.entries ≤ MOST_PLAYERS }
+    fn with_room(alloc: Global, count: usize) -> Result<Apart, AllocError>
+        requires { count ≤ MOST_PLAYERS }
         ensures none { IfOk result (λ apart. (i j : ℕ) → are_marked apart i j ≡ false) }
-        ensures starts { IfOk result (λ apart. apart.starts.items ≡ keys_of players.now.entries) }
-        ensures count { IfOk result (λ apart. vec_len apart.starts ≡ length players.now.entries) }
-        ensures room { IfOk result (λ apart. vec_len apart.marks ≡ vec_len apart.starts * vec_len apart.starts) }
+        ensures count { IfOk result (λ apart. apart.count ≡ count) }
+        ensures room { IfOk result (λ apart. vec_len apart.marks ≡ count * count) }
     {
-        let starts = starts_of(alloc, players)?;
-        let places = starts.len();
-        let marks = Vec::from_elem(alloc, false, places * places)?;
-        Ok(Apart { starts, marks })
+        Ok(Apart {
+            count,
+            marks: Vec::from_elem(alloc, false, count * count)?,
+        })
     }
 
     pub(crate) fn copy(&self, alloc: Global) -> Result<Apart, AllocError>
         ensures both { IfOk result (λ apart. (i j : ℕ) → are_marked apart i j ≡ are_marked self.now i j) }
-        ensures same { IfOk result (λ apart. apart.starts.items ≡ self.now.starts.items) }
-        ensures len { IfOk result (λ apart. vec_len apart.starts ≡ vec_len self.now.starts) }
+        ensures count { IfOk result (λ apart. apart.count ≡ self.now.count) }
     {
         Ok(Apart {
-            starts: Vec::from_slice(alloc, &self.starts)?,
+            count: self.count,
             marks: Vec::from_slice(alloc, &self.marks)?,
         })
     }
@@ -73,7 +67,7 @@ impl Apart {
         requires second { j < MOST_PLAYERS }
         ensures { result ≡ are_marked self.now i j }
     {
-        match self.marks.get(self.starts.len() * i + j) {
+        match self.marks.get(self.count * i + j) {
             Some(marked) => *marked,
             None => false,
         }
@@ -81,12 +75,12 @@ impl Apart {
 
     // Marks each two of those who are named.
     fn mark_each_two(&mut self, named: &Named)
-        requires count { vec_len named.now.marks ≡ vec_len self.old.starts }
-        requires room { vec_len self.old.marks ≡ vec_len self.old.starts * vec_len self.old.starts }
-        ensures marked { (k l : ℕ) → l < vec_len self.old.starts → are_marked self.new k l
+        requires count { vec_len named.now.marks ≡ self.old.count }
+        requires room { vec_len self.old.marks ≡ self.old.count * self.old.count }
+        ensures marked { (k l : ℕ) → l < self.old.count → are_marked self.new k l
             ≡ (are_marked self.old k l || (is_place named.now.places.items k && is_place named.now.places.items l)) }
-        ensures same { self.new.starts ≡ self.old.starts }
-        ensures room { vec_len self.new.marks ≡ vec_len self.new.starts * vec_len self.new.starts }
+        ensures same { self.new.count ≡ self.old.count }
+        ensures room { vec_len self.new.marks ≡ self.new.count * self.new.count }
     {
         for place in &named.places {
             mark_row(&mut self.marks, *place, &named.marks);
@@ -100,16 +94,15 @@ impl Apart {
         named: &mut Named,
         line: RawLine<'_>,
     ) -> Result<(), AllocError>
-        requires starts { self.old.starts.items ≡ keys_of players.now.entries }
-        requires count { vec_len self.old.starts ≡ length players.now.entries }
-        requires room { vec_len self.old.marks ≡ vec_len self.old.starts * vec_len self.old.starts }
+        requires count { self.old.count ≡ length players.now.entries }
+        requires room { vec_len self.old.marks ≡ self.old.count * self.old.count }
         requires nobody { named.old.places.items ≡ [] }
         requires all { vec_len named.old.marks ≡ length players.now.entries }
-        ensures marked { IfOk result (λ _. (k l : ℕ) → k < vec_len self.old.starts → l < vec_len self.old.starts
-            → are_marked self.new k l ≡ (are_marked self.old k l || names_both (start_at self.old k)
-            (start_at self.old l) (columns line.entry.utf8 line.entry.bytes.now))) }
-        ensures same { self.new.starts ≡ self.old.starts }
-        ensures room { vec_len self.new.marks ≡ vec_len self.new.starts * vec_len self.new.starts }
+        ensures marked { IfOk result (λ _. (k l : ℕ) → k < self.old.count → l < self.old.count
+            → are_marked self.new k l ≡ (are_marked self.old k l || names_both (start_at (keys_of players.now.entries) k)
+            (start_at (keys_of players.now.entries) l) (columns line.entry.utf8 line.entry.bytes.now))) }
+        ensures same { self.new.count ≡ self.old.count }
+        ensures room { vec_len self.new.marks ≡ self.new.count * self.new.count }
         ensures nobody { IfOk result (λ _. named.new.places.items ≡ []) }
         ensures all { vec_len named.new.marks ≡ vec_len named.old.marks }
     {
@@ -131,13 +124,12 @@ impl Apart {
         utf8: bool,
     ) -> Result<Apart, AllocError>
         requires { length players.now.entries ≤ MOST_PLAYERS }
-        ensures both { IfOk result (λ apart. (i j : ℕ) → i < vec_len apart.starts → j < vec_len apart.starts
-            → are_marked apart i j ≡ some_carried (names_both (start_at apart i) (start_at apart j))
-            (without_players utf8 (lines text.now) 0)) }
-        ensures starts { IfOk result (λ apart. apart.starts.items ≡ keys_of players.now.entries) }
-        ensures count { IfOk result (λ apart. vec_len apart.starts ≡ length players.now.entries) }
+        ensures both { IfOk result (λ apart. (i j : ℕ) → i < apart.count → j < apart.count
+            → are_marked apart i j ≡ some_carried (names_both (start_at (keys_of players.now.entries) i)
+            (start_at (keys_of players.now.entries) j)) (without_players utf8 (lines text.now) 0)) }
+        ensures count { IfOk result (λ apart. apart.count ≡ length players.now.entries) }
     {
-        let mut apart = Apart::with_room(alloc, players)?;
+        let mut apart = Apart::with_room(alloc, players.len())?;
         let mut named = Named::none(alloc, players.len())?;
         let mut rest = text;
         while !rest.is_empty() {
@@ -147,18 +139,6 @@ impl Apart {
         }
         Ok(apart)
     }
-}
-
-// The start ranks of the players, in the order of their lines.
-fn starts_of(alloc: Global, players: &IndexMap<u16, Player<'_>>) -> Result<Vec<u16>, AllocError>
-    ensures value { IfOk result (λ starts. starts.items ≡ keys_of players.now.entries) }
-    ensures count { IfOk result (λ starts. vec_len starts ≡ length players.now.entries) }
-{
-    let mut starts = Vec::new(alloc);
-    for start in players.keys() {
-        starts.push(*start)?;
-    }
-    Ok(starts)
 }
 
 // Marks in the row of a player each who is named.

@@ -3,11 +3,12 @@ ghost use Rattle.std.specs.Prelude.{◌≡◌, ℕ, ◌+◌, ◌<◌, ◌≤◌,
 ghost use Rattle.std.specs.Prelude.{None, Ok, length, take, vec_len};
 ghost use Rattle.std.specs.List.{AllByRecursion};
 ghost use Rattle.std.specs.Str.{is_utf8};
-ghost use Rattle.trf16.specs.Lines.{lines, columns};
+ghost use Rattle.trf16.specs.Lines.{lines, columns, text};
 ghost use Rattle.trf16.specs.Fields.{without_last};
 ghost use Rattle.trf16.specs.Outcomes.{Gives};
+ghost use Rattle.trf16.specs.Steps.{filled};
 ghost use Rattle.trf16.specs.Sheet.{entry_of, known};
-ghost use Rattle.trf16.specs.Notes.{is_marked, first_noted, Tells};
+ghost use Rattle.trf16.specs.Notes.{is_marked, first_noted, Tells, TellsApart};
 ghost use Rattle.trf16.specs.Summed.{verdict_unsummed};
 ghost use Rattle.trf16.specs.Verdict.{blank_at, blanks_at, start_number_at, start_at, points_at, round_at, rounds_at};
 ghost use Rattle.trf16.specs.Verdict.{is_blank_cell, cells_at, player_at, is_player, is_too_long, player_onto};
@@ -18,6 +19,7 @@ ghost use Rattle.trf16.specs.declared.cell.Cell.TheVariants.{Blank};
 ghost use Rattle.trf16.specs.declared.limits.TheConstants.{MOST_PLAYERS, MOST_ROUNDS, LAST_COLUMN};
 
 use crate::answering::{all_cells_fit, players_fit};
+use crate::apart::Apart;
 use crate::cell::Cell;
 use crate::columns::{Line, is_blank, split_kind};
 use crate::draft::Draft;
@@ -246,6 +248,25 @@ fn player_onto<'a>(
     Ok(line.is_too_long())
 }
 
+// Reads line n, which is no player's, onto a report.
+#[tactic(auto, unfolding(crate::specs::Verdict::line_onto))]
+fn other_line_onto(draft: &mut Draft<'_>, n: usize, kind: &[u8], bytes: &[u8]) -> Result<(), Fault>
+    requires kind { kind.now ≡ text (columns draft.old.utf8 bytes.now) 1 3 }
+    requires other { is_player (columns draft.old.utf8 bytes.now) ≡ false }
+    ensures { Gives (λ _. draft.new) result (line_onto draft.old n (columns draft.old.utf8 bytes.now)) }
+{
+    if is_word(kind, b"XXR") {
+        return rounds_onto(draft, n, bytes);
+    }
+    if is_word(kind, b"XXC") {
+        return colour_onto(draft, n, bytes);
+    }
+    if is_word(kind, b"XXZ") || is_word(kind, b"XXP") {
+        return start_ranks_onto(draft, n, bytes);
+    }
+    Ok(())
+}
+
 // Reads line n onto a report, and tells whether it is a player's that goes on behind the last round.
 #[tactic(auto, unfolding(crate::specs::Verdict::line_onto))]
 fn line_onto<'a>(
@@ -262,13 +283,7 @@ fn line_onto<'a>(
     if kind == b"001".as_slice() {
         return player_onto(alloc, draft, n, bytes);
     }
-    if is_word(kind, b"XXR") {
-        rounds_onto(draft, n, bytes)?;
-    } else if is_word(kind, b"XXC") {
-        colour_onto(draft, n, bytes)?;
-    } else if is_word(kind, b"XXZ") || is_word(kind, b"XXP") {
-        start_ranks_onto(draft, n, bytes)?;
-    }
+    other_line_onto(draft, n, kind, bytes)?;
     Ok(false)
 }
 
@@ -282,10 +297,10 @@ fn lines_onto<'a>(
     requires absent { (start : ℕ) → is_marked notes.old start ≡ false }
     requires firsts { (kind : LineKind) → first_noted notes.old kind ≡ None }
     requires together { notes.old.together ≡ false }
+    requires fresh { draft.old.carried ≡ (without_players draft.old.utf8 (lines text.now) draft.old.bye).carried }
     ensures given { Gives (λ _. draft.new) result (lines_onto draft.old 1 (lines text.now)) }
     ensures long { IfOk result (λ long. long ≡ has_too_many_rounds draft.old.utf8 (lines text.now)) }
-    ensures same { IfOk result (λ _. (draft.new.utf8 ≡ draft.old.utf8) × (draft.new.carried ≡ draft.old.carried)) }
-    ensures noted { IfOk result (λ _. Tells notes.new (without_players draft.old.utf8 (lines text.now) draft.old.bye)) }
+    ensures noted { IfOk result (λ _. Tells notes.new draft.new) }
 {
     let utf8 = draft.is_utf8();
     let mut rest = text;
@@ -328,23 +343,31 @@ fn has_size(draft: &Draft<'_>, too_long: bool) -> Result<(), Fault>
     Ok(())
 }
 
-// The report, unless its size is refused.
-fn sized<'a>(
+// Reads all lines onto a report, notes what they say, and looks at its size; who is named together by its lines.
+#[tactic(auto, unfolding(crate::specs::Steps::filled, crate::specs::Verdict::sized))]
+fn filled<'a>(
     alloc: Global,
-    draft: Draft<'a>,
-    notes: Notes,
-    too_long: bool,
-) -> Result<Report<'a>, Fault>
-    requires { Tells notes draft }
-    ensures { Gives (λ r. r) result (sized draft.entry too_long) }
+    draft: &mut Draft<'a>,
+    notes: &mut Notes,
+    text: &'a [u8],
+) -> Result<Apart, Fault>
+    requires absent { (start : ℕ) → is_marked notes.old start ≡ false }
+    requires firsts { (kind : LineKind) → first_noted notes.old kind ≡ None }
+    requires together { notes.old.together ≡ false }
+    requires fresh { draft.old.carried ≡ (without_players draft.old.utf8 (lines text.now) draft.old.bye).carried }
+    ensures given { Gives (λ _. draft.new) result (filled draft.old (lines text.now)) }
+    ensures noted { IfOk result (λ _. Tells notes.new draft.new) }
+    ensures told_apart { IfOk result (λ apart. TellsApart apart draft.new) }
+    ensures few_players { IfOk result (λ _. length draft.new.players ≤ MOST_PLAYERS) }
+    ensures few_rounds { IfOk result (λ _. names_too_many_rounds draft.new ≡ false) }
 {
-    has_size(&draft, too_long)?;
-    let apart = draft.apart(alloc, &notes)?;
-    Ok(draft.into_report(notes, apart))
+    let too_long = lines_onto(alloc, draft, notes, text)?;
+    has_size(draft, too_long)?;
+    Ok(draft.apart(alloc, notes)?)
 }
 
 // The report that a text is, before the rules on its players are looked at.
-#[tactic(auto, unfolding(crate::specs::Verdict::laid_out))]
+#[tactic(auto, unfolding(crate::specs::Verdict::laid_out, crate::specs::Steps::filled))]
 fn laid_out<'a>(alloc: Global, bytes: &'a [u8], bye: u16) -> Result<Report<'a>, Fault>
     requires { bye ≤ 2 }
     ensures { Gives (λ report. report) result (laid_out bytes.now bye) }
@@ -353,10 +376,10 @@ fn laid_out<'a>(alloc: Global, bytes: &'a [u8], bye: u16) -> Result<Report<'a>, 
         return Err(Fault::TooMany(Excess::Bytes));
     }
     let text = skip_marks(bytes);
-    let mut draft = Draft::new(alloc, text, is_utf8(text), bye);
     let mut notes = Notes::new(alloc)?;
-    let too_long = lines_onto(alloc, &mut draft, &mut notes, text)?;
-    sized(alloc, draft, notes, too_long)
+    let mut draft = Draft::new(alloc, text, is_utf8(text), bye);
+    let apart = filled(alloc, &mut draft, &mut notes, text)?;
+    Ok(draft.into_report(notes, apart))
 }
 
 // A report, unless its players break a rule.

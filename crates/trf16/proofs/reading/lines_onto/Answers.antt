@@ -2,10 +2,10 @@ use Rattle.std.proofs.Common.{◌≡◌, ℕ, List, [], ◌∷◌, subst, ◌&&�
 use Rattle.std.proofs.lemmas.Bool.{eqb-true}
 use Rattle.std.proofs.lemmas.Result.{err_from_is_err_and}
 use Rattle.std.specs.Prelude.{codes}
-use Rattle.trf16.specs.Prelude.{lines, columns, is_player, is_too_long, line_onto, lines_onto, has_too_many_rounds, is_kind, names_absent, is_of, is_marked, first_noted, noted_first}
+use Rattle.trf16.specs.Prelude.{lines, columns, is_player, is_too_long, line_onto, lines_onto, has_too_many_rounds, without_players, is_kind, names_absent, is_of, is_marked, first_noted, noted_first}
 use Rattle.trf16.proofs.ReadingLemmas.{Fails-on, SameText, line_onto-text, lines-go_on, lines-fail, lines-end, stays_long, becomes_long, nil_from_length}
 use Rattle.trf16.specs.declared.kind.LineKind.{LineKind}
-use Rattle.trf16.proofs.NoteLemmas.{AreNoted, noted-none, noted-more, noted-all}
+use Rattle.trf16.proofs.NoteLemmas.{AreNoted, noted-none, noted-more, noted-all, tells_same}
 use Rattle.std.proofs.Math.Bool.{or-false}
 use Rattle.trf16.proofs.reading.lines_onto.Goals as goal
 use Rattle.trf16.proofs.reading.lines_onto.Goals.{then-long, else-long}
@@ -75,5 +75,7 @@ returns-clause-noted c =
     let utf8 = c.args.draft.now.utf8 in
     let all = lines c.args.text.now in
     let nothing : c.loop-rest.rest.now ≡ [] = nil_from_length c.loop-rest.rest.now (eqb-true _ _ (sym c.loop-rest-test.ensures)) in
-    noted-all c.loop-rest.notes utf8 c.loop-rest.n all c.args.draft.now.bye
-    (subst (λ (bytes : List ℕ). AreNoted c.loop-rest.notes utf8 c.loop-rest.n (lines bytes) all) nothing c.loop-rest.invariant.4)
+    tells_same c.loop-rest.notes (without_players utf8 all c.args.draft.now.bye) c.loop-rest.draft
+    c.loop-rest.invariant.2.0 (c.loop-rest.invariant.2.1 ∙ c.requires.fresh)
+    (noted-all c.loop-rest.notes utf8 c.loop-rest.n all c.args.draft.now.bye
+    (subst (λ (bytes : List ℕ). AreNoted c.loop-rest.notes utf8 c.loop-rest.n (lines bytes) all) nothing c.loop-rest.invariant.4))

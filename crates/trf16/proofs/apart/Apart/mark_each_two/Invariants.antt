@@ -6,6 +6,6 @@ use Rattle.trf16.proofs.apart.Apart.mark_each_two.Given as goal
 
 abbrev pub invariant-loop-place : goal.invariant-loop-place
 invariant-loop-place l =
-    ((k m : ℕ) → m < vec_len l.initial.self.starts
+    ((k m : ℕ) → m < l.initial.self.count
     → are_marked l.self k m ≡ (are_marked l.initial.self k m || (is_place (take l.place-index l.named.places.items) k && slice_index_or l.named.marks.items m false)))
-    × (l.self.starts ≡ l.initial.self.starts) × (vec_len l.self.marks ≡ vec_len l.self.starts * vec_len l.self.starts)
+    × (l.self.count ≡ l.initial.self.count) × (vec_len l.self.marks ≡ l.self.count * l.self.count)

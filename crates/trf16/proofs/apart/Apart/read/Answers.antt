@@ -1,5 +1,5 @@
-use Rattle.std.proofs.Common.{◌≡◌, ℕ, ◌<◌, ◌||◌, List, ap, sym, refl, ◌∙◌, subst}
-use Rattle.std.specs.Prelude.{slice_index_or, vec_len}
+use Rattle.std.proofs.Common.{◌≡◌, ℕ, ◌||◌, List, ap, refl, sym, ◌∙◌, arith}
+use Rattle.std.specs.Map.{keys_of}
 use Rattle.trf16.specs.Prelude.{columns, lines, names_both, are_marked}
 use Rattle.trf16.specs.Notes.{start_at}
 use Rattle.trf16.proofs.AnsweringLemmas.{some_of, some_of-cons, not_together}
@@ -9,25 +9,21 @@ use Rattle.trf16.proofs.apart.Apart.read.Goals as goal
 pub loop-rest-preserved : goal.loop-rest-preserved
 loop-rest-preserved c =
     let utf8 = c.args.utf8 in
+    let starts = keys_of c.args.players.now.entries in
     let line = c.next_line.result.0.now in
     let after = lines c.next_line.result.1.now in
     let old = c.loop-rest.apart in
-    let new = c.mark_line.new.self in
     let before = c.loop-rest.invariant in
     let same = c.in_ok-mark_line.ensures.same in record {
-      both = subst (λ starts. (i j : ℕ) → i < vec_len starts → j < vec_len starts
-          → (are_marked new i j || some_of (names_both (slice_index_or starts.items i 0) (slice_index_or starts.items j 0)) utf8 after)
-          ≡ some_of (names_both (slice_index_or starts.items i 0) (slice_index_or starts.items j 0)) utf8 (lines c.args.text.now)) (sym same)
-          (λ i j li lj.
-          let test = names_both (start_at old i) (start_at old j) in
+      both = λ i j li lj.
+          let test = names_both (start_at starts i) (start_at starts j) in
           let here = test (columns utf8 line) in
-          ap (λ b. b || some_of test utf8 after) (c.in_ok-mark_line.ensures.marked i j li lj)
+          ap (λ b. b || some_of test utf8 after) (c.in_ok-mark_line.ensures.marked i j (omega (arith, li, same)) (omega (arith, lj, same)))
           ∙ or_assoc (are_marked old i j) here (some_of test utf8 after)
-          ∙ ap (λ b. are_marked old i j || b) (sym (some_of-cons test utf8 line after here (not_together (start_at old i) (start_at old j) (columns utf8 line)) refl))
+          ∙ ap (λ b. are_marked old i j || b) (sym (some_of-cons test utf8 line after here (not_together (start_at starts i) (start_at starts j) (columns utf8 line)) refl))
           ∙ ap (λ (ls : List (List ℕ)). are_marked old i j || some_of test utf8 ls) (sym c.next_line.ensures.first)
-          ∙ before.both i j li lj);
-      starts = ap (λ v. v.items) same ∙ before.starts;
-      count = ap vec_len same ∙ before.count;
+          ∙ before.both i j (omega (arith, li, same)) (omega (arith, lj, same));
+      count = same ∙ before.count;
       room = c.in_ok-mark_line.ensures.room;
       nobody = c.in_ok-mark_line.ensures.nobody;
       all = c.in_ok-mark_line.ensures.all ∙ before.all;

@@ -9,12 +9,11 @@ use Rattle.trf16.proofs.apart.Apart.read.Given as goal
 
 abbrev pub invariant-loop-rest : goal.invariant-loop-rest
 invariant-loop-rest l = record {
-  both : (i j : ℕ) → i < vec_len l.apart.starts → j < vec_len l.apart.starts
-      → (are_marked l.apart i j || some_of (names_both (start_at l.apart i) (start_at l.apart j)) l.utf8 (lines l.rest))
-      ≡ some_of (names_both (start_at l.apart i) (start_at l.apart j)) l.utf8 (lines l.text);
-  starts : l.apart.starts.items ≡ keys_of l.players.entries;
-  count : vec_len l.apart.starts ≡ length l.players.entries;
-  room : vec_len l.apart.marks ≡ vec_len l.apart.starts * vec_len l.apart.starts;
+  both : (i j : ℕ) → i < l.apart.count → j < l.apart.count
+      → (are_marked l.apart i j || some_of (names_both (start_at (keys_of l.players.entries) i) (start_at (keys_of l.players.entries) j)) l.utf8 (lines l.rest))
+      ≡ some_of (names_both (start_at (keys_of l.players.entries) i) (start_at (keys_of l.players.entries) j)) l.utf8 (lines l.text);
+  count : l.apart.count ≡ length l.players.entries;
+  room : vec_len l.apart.marks ≡ l.apart.count * l.apart.count;
   nobody : l.named.places.items ≡ [];
   all : vec_len l.named.marks ≡ length l.players.entries;
 }

@@ -21,7 +21,7 @@ read-requires c =
 pub none-requires : goal.none-requires
 none-requires c =
     let same = size c.self.inside.players.entries c.args.self.now.players (ap (λ (sheet : Sheet). sheet.players) c.self.view_is) in
-    omega (arith, same, c.requires.few)
+    omega (arith, same, c.requires.few, c.len.ensures.len)
 
 pub returns-then-notes : goal.returns-then-notes
 returns-then-notes c =
@@ -29,12 +29,10 @@ returns-then-notes c =
     let same = ap (λ (sheet : Sheet). sheet.players) c.self.view_is in
     told c.read.result c.args.self.now (without_players r.utf8 (lines r.text.now) 0) (keys_of r.players.entries) (length r.players.entries)
     (keyed r.players.entries c.args.self.now.players same c.self.invariant.0) (size r.players.entries c.args.self.now.players same)
-    (λ test. ap (some_carried test) c.self.view_is) c.read.ensures.both c.read.ensures.starts c.read.ensures.count
+    (λ test. ap (some_carried test) c.self.view_is) c.read.ensures.both c.read.ensures.count
 
 pub returns-else-notes : goal.returns-else-notes
 returns-else-notes c =
-    let r = c.self.inside in
     let same = ap (λ (sheet : Sheet). sheet.players) c.self.view_is in
-    told_none c.none.result c.args.self.now (keys_of r.players.entries) (length r.players.entries)
-    (keyed r.players.entries c.args.self.now.players same c.self.invariant.0) (size r.players.entries c.args.self.now.players same)
-    (sym c.requires.noted.together ∙ c.if-notes.false) c.none.ensures.none c.none.ensures.starts c.none.ensures.count
+    told_none c.none.result c.args.self.now (c.none.ensures.count ∙ c.len.ensures.len ∙ size c.self.inside.players.entries c.args.self.now.players same)
+    (sym c.requires.noted.together ∙ c.if-notes.false) c.none.ensures.none

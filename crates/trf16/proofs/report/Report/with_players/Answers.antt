@@ -25,7 +25,7 @@ invariant_of-result c =
       tells_again r.notes c.in_ok-notes.notes said c.in_ok-notes.ensures.absent c.in_ok-notes.ensures.firsts c.in_ok-notes.ensures.together c.self.invariant.5,
       c.self.invariant.6,
       apart_again r.apart c.in_ok-apart.apart (record said { players = map (λ e. entry_of e.1) r.players.entries }) (record said { players = map (λ e. entry_of e.1) players })
-          c.in_ok-apart.ensures.both c.in_ok-apart.ensures.same c.in_ok-apart.ensures.len refl refl
+          c.in_ok-apart.ensures.both c.in_ok-apart.ensures.count refl refl
           (sym (starts-entries players) ∙ c.requires.same ∙ ap (λ (sheet : Sheet). starts_of sheet.players) (sym c.self.view_is))
           c.self.invariant.7,
     )
