@@ -11,7 +11,7 @@ use Rattle.trf16.specs.declared.cell.Cell.{Cell}
 use Rattle.trf16.specs.declared.cell.Cell.TheVariants.{Blank}
 use Rattle.trf16.specs.declared.fault.Fault.{Fault}
 use Rattle.trf16.specs.declared.fault.Fault.TheVariants.{BadNumber, Duplicate, Misaligned, BadCell, BadExtension, TooMany, NoPlayers, NoSuchOpponent, SelfOpponent, NotMutual, Colours, Results, Points, OutOfMemory}
-use Rattle.trf16.specs.Prelude.{blank_at, blanks_at, round_at, rounds_at, is_blank_cell, is_player, line_onto, lines_onto, has_too_many_rounds, without_players, sized, laid_out, Sheet, columns, lines, without_marks, Fails, Gives}
+use Rattle.trf16.specs.Prelude.{blank_at, blanks_at, round_at, rounds_at, is_blank_cell, is_player, line_onto, lines_onto, has_too_many_rounds, without_players, filled, laid_out, Sheet, columns, lines, without_marks, Fails, Gives}
 use Rattle.trf16.specs.Outcomes.{◌>>=◌}
 use Rattle.trf16.proofs.LineSteps.{line_keeps, line_adds}
 use Rattle.trf16.specs.declared.limits.TheConstants.{MOST_BYTES, MOST_ROUNDS}
@@ -128,17 +128,11 @@ is_utf8_is A B bytes (Err e) h = by (is_utf8 bytes) refl
     by true passes = absurd (h.0 (IsUtf8-from_is_utf8 bytes passes))
     by false fails = refl
 
--- a text that is not too long, of which all lines are read, or one of them breaks a rule
-pub laid-goes_on : (bytes text : List ℕ) (utf8 : Bool) (bye : ℕ) (sheet : Sheet) (long : Bool) → nat_lt MOST_BYTES (length bytes) ≡ false → text ≡ without_marks bytes
-    → utf8 ≡ is_utf8 text → lines_onto (without_players utf8 (lines text) bye) 1 (lines text) ≡ Ok sheet → long ≡ has_too_many_rounds utf8 (lines text)
-    → laid_out bytes bye ≡ sized sheet long
-unfolding laid_out
-laid-goes_on bytes text utf8 bye sheet long few same columns_are read is_long = rw (few, ← same, ← columns_are, read, is_long) refl
-
-pub laid-fails : (bytes text : List ℕ) (utf8 : Bool) (bye : ℕ) (fault : Fault) → nat_lt MOST_BYTES (length bytes) ≡ false → text ≡ without_marks bytes
-    → utf8 ≡ is_utf8 text → lines_onto (without_players utf8 (lines text) bye) 1 (lines text) ≡ Err fault → laid_out bytes bye ≡ Err fault
-unfolding laid_out
-laid-fails bytes text utf8 bye fault few same columns_are read = rw (few, ← same, ← columns_are, read) refl
+-- a text that is not too long is what its lines make of a sheet with no players
+pub laid_is : (bytes text : List ℕ) (utf8 : Bool) (bye : ℕ) (fresh : Sheet) → nat_lt MOST_BYTES (length bytes) ≡ false → text ≡ without_marks bytes
+    → utf8 ≡ is_utf8 text → fresh ≡ without_players utf8 (lines text) bye → laid_out bytes bye ≡ filled fresh (lines text)
+unfolding laid_out filled
+laid_is bytes text utf8 bye fresh few same columns_are fresh_is = rw (few, ← same, ← columns_are, fresh_is) refl
 
 -- a report whose players are judged behind it
 pub accepted-gives : (sheet : Sheet) (fits given : Result (Unit {0}) Fault) (answer whole : Result Sheet Fault)

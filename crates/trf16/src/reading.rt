@@ -367,7 +367,6 @@ fn filled<'a>(
 }
 
 // The report that a text is, before the rules on its players are looked at.
-#[tactic(auto, unfolding(crate::specs::Verdict::laid_out, crate::specs::Steps::filled))]
 fn laid_out<'a>(alloc: Global, bytes: &'a [u8], bye: u16) -> Result<Report<'a>, Fault>
     requires { bye ≤ 2 }
     ensures { Gives (λ report. report) result (laid_out bytes.now bye) }
