@@ -1,9 +1,10 @@
 -- How a line falls into columns, step by step.
 use Rattle.std.proofs.Common.{◌≡◌, ℕ, zero, suc, ◌+◌, ◌-◌, ◌<◌, ◌≤◌, Bool, true, false, ◌&&◌, cond, get_or, inl, inr, subst, List, [], ◌∷◌, ◌++◌, length, take, drop, refl, sym, ap, ◌∙◌, append_assoc, arith}
-use Rattle.std.proofs.lemmas.List.{append-nil, length-append, length-drop, drop-drop, drop_at, length-take-le, drop_all, take-append-drop, take_all, get_or_past}
-use Rattle.std.proofs.Math.Seq.{take-add, get_or-append_seam}
+use Rattle.std.proofs.lemmas.List.{append-nil, length-append, length-drop, drop-drop, drop_at, length-take-le, drop_all, take-append-drop, take_all, get_or-set_other}
+use Rattle.std.proofs.Math.Seq.{take-add}
 use Rattle.std.proofs.lemmas.Bool.{cases_lt}
-use Rattle.std.proofs.Math.ListN.{get_or-append}
+use Rattle.std.proofs.Math.ListN.{set}
+use Rattle.std.proofs.lemmas.Grind.{get_or-set_at}
 use Rattle.trf16.specs.Prelude.{onto_first, goes_on, columns, joined, IsStart, AllStart}
 
 pub columns-bytes : (b : ℕ) (rest : List ℕ) → columns false (b ∷ rest) ≡ (b ∷ []) ∷ columns false rest
@@ -88,42 +89,14 @@ text_between utf8 bytes i j a b le start end =
     (omega arith, ap (λ (bs : List ℕ). drop a bs) parts ∙ drop_at (take a bytes) middle a first)
 
 -- one more place is noted
-pub AllStart-push : (utf8 : Bool) (bytes starts : List ℕ) (at : ℕ) → AllStart utf8 bytes starts (length starts) → IsStart utf8 bytes (length starts) at
-    → AllStart utf8 bytes (starts ++ at ∷ []) (length starts + 1)
-AllStart-push utf8 bytes starts at before here j lt =
-    elim (cases_lt j (length starts)) [
-      | inl below ↦ rw (get_or-append starts (at ∷ []) (length bytes) j below) (before j below)
+pub AllStart-set : (utf8 : Bool) (bytes starts : List ℕ) (i at : ℕ) → AllStart utf8 bytes starts i → IsStart utf8 bytes i at → i < length starts
+    → AllStart utf8 bytes (set starts i at) (i + 1)
+AllStart-set utf8 bytes starts i at before here room j lt =
+    elim (cases_lt j i) [
+      | inl below ↦ rw (get_or-set_other starts i j at 0 (λ e. omega (arith, below, e))) (before j below)
       | inr above ↦
-          let same : length starts ≡ j = omega arith in
-          subst (λ n. IsStart utf8 bytes n (get_or (starts ++ at ∷ []) n (length bytes))) same (rw (get_or-append_seam starts at [] (length bytes)) here)
-    ]
-
--- where a column would begin at the end of the line, so would each further one
-IsStart-further : (utf8 : Bool) (bytes : List ℕ) (n k : ℕ) → IsStart utf8 bytes n (length bytes) → n ≤ k → IsStart utf8 bytes k (length bytes)
-IsStart-further utf8 bytes n k start le =
-    let cols = columns utf8 bytes in
-    let sum : k ≡ n + (k - n) = omega arith in
-    let end : drop (length bytes) bytes ≡ [] = drop_all (length bytes) bytes (omega arith) in
-    let none : drop n cols ≡ [] = sym start.back ∙ ap (columns utf8) end in
-    let further : drop k cols ≡ [] = ap (λ i. drop i cols) sum ∙ sym (drop-drop (k - n) n cols) ∙ ap (λ (cs : List (List ℕ)). drop (k - n) cs) none ∙ drop_all (k - n) [] (omega arith) in
-    let all : take k cols ≡ cols = sym (append-nil (take k cols)) ∙ ap (λ (cs : List (List ℕ)). take k cols ++ cs) (sym further) ∙ take-append-drop k cols in
-    record {
-      within = omega arith;
-      front = take_all (length bytes) bytes (omega arith) ∙ sym (joined-columns utf8 bytes) ∙ ap joined (sym all);
-      back = ap (columns utf8) end ∙ sym further;
-    }
-
--- the places that are noted are enough: the line ends where the next column would begin
-pub AllStart-whole : (utf8 : Bool) (bytes starts : List ℕ) (at count : ℕ) → AllStart utf8 bytes starts (length starts) → IsStart utf8 bytes (length starts) at
-    → length bytes ≤ at → AllStart utf8 bytes starts count
-AllStart-whole utf8 bytes starts at count before here ended j lt =
-    elim (cases_lt j (length starts)) [
-      | inl below ↦ before j below
-      | inr above ↦
-          let within : at ≤ length bytes = here.within in
-          let same : at ≡ length bytes = omega arith in
-          rw (get_or_past starts j (length bytes) above)
-          (IsStart-further utf8 bytes (length starts) j (subst (λ a. IsStart utf8 bytes (length starts) a) same here) above)
+          let same : i ≡ j = omega arith in
+          subst (λ n. IsStart utf8 bytes n (get_or (set starts i at) n 0)) same (rw (get_or-set_at starts i i at 0 refl room) here)
     ]
 
 -- a column that would begin at the end of the line is missing

@@ -1,5 +1,5 @@
 // The columns of a line: its characters if the text is UTF-8, otherwise its bytes. They are found once for each
-// player's line, as many as it has.
+// player's line, up to the last that is read.
 ghost use Rattle.std.specs.Prelude.{◌≡◌, ℕ, ◌+◌, ◌-◌, ◌<◌, ◌≤◌, ◌∷◌, List, length, slice_index, take, drop, true};
 ghost use Rattle.std.specs.Prelude.{false, not, [], slice_index_or, IfOk};
 ghost use Rattle.trf16.specs.Lines.{columns, goes_on, text, joined, is_blank};
@@ -7,16 +7,18 @@ ghost use Rattle.trf16.specs.Steps.{IsStart, AllStart};
 ghost use Rattle.trf16.specs.declared.limits.TheConstants.{LAST_COLUMN};
 
 use crate::limits::LAST_COLUMN;
-use std::alloc::{AllocError, Global};
 use std::marker::Model;
+
+// The columns up to the one that ends the last round that there can be, and the one behind them.
+const PLACES: usize = LAST_COLUMN + 1;
 
 /// The columns of a line up to the one that ends the last round that there can be, found once.
 #[derive(Drop)]
 pub(crate) struct Line<'a> {
     bytes: &'a [u8],
     utf8: bool,
-    // where each of these columns begins, and the one behind them; where the line ends before, no further place
-    starts: Vec<usize>,
+    // where each of these columns begins; where the line ends before, the place of its end
+    starts: [usize; PLACES],
 }
 
 impl<'a> Model for Line<'a> {
@@ -24,7 +26,7 @@ impl<'a> Model for Line<'a> {
 
     ghost view = { λ l. columns l.utf8 l.bytes.now };
 
-    ghost invariant = { λ l. AllStart l.utf8 l.bytes.now l.starts.items (LAST_COLUMN + 1) };
+    ghost invariant = { λ l. AllStart l.utf8 l.bytes.now l.starts (LAST_COLUMN + 1) };
 }
 
 // How many bytes in front go on with a character.
@@ -51,30 +53,23 @@ pub(crate) fn column_len(bytes: &[u8], utf8: bool) -> usize
     if utf8 { 1 + follow_len(rest) } else { 1 }
 }
 
-// The place of a column, of some; each further one begins at the end of the line.
-fn place_at(starts: &[usize], k: usize, end: usize) -> usize
-    ensures { result ≡ slice_index_or starts.now k end }
-{
-    starts.get(k).copied().unwrap_or(end)
-}
-
 impl<'a> Line<'a> {
     /// Finds the columns of a line.
-    pub(crate) fn new(alloc: Global, bytes: &'a [u8], utf8: bool) -> Result<Line<'a>, AllocError>
-        ensures { IfOk result (λ line. line ≡ columns utf8 bytes.now) }
+    pub(crate) fn new(bytes: &'a [u8], utf8: bool) -> Line<'a>
+        ensures { result ≡ columns utf8 bytes.now }
     {
-        let mut starts = Vec::with_capacity(alloc, bytes.len().min(LAST_COLUMN + 1))?;
+        let mut starts = [0; PLACES];
         let mut at = 0;
-        while at < bytes.len() && starts.len() <= LAST_COLUMN {
-            starts.push(at)?;
+        for column in 0..PLACES {
+            starts[column] = at;
             let (_, rest) = bytes.split_at(at);
             at += column_len(rest, utf8);
         }
-        Ok(Line {
+        Line {
             bytes,
             utf8,
             starts,
-        })
+        }
     }
 
     /// The bytes of the columns `first` to `last`, which count from 1.
@@ -84,9 +79,8 @@ impl<'a> Line<'a> {
         requires in_reach { last ≤ LAST_COLUMN }
         ensures { result.now ≡ text self.now first last }
     {
-        let len = self.bytes.len();
-        let (front, _) = self.bytes.split_at(place_at(&self.starts, last, len));
-        front.split_at(place_at(&self.starts, first - 1, len)).1
+        let (front, _) = self.bytes.split_at(self.starts[last]);
+        front.split_at(self.starts[first - 1]).1
     }
 
     /// A no is certain; a column that is not known to be missing is taken to be there.
@@ -95,16 +89,14 @@ impl<'a> Line<'a> {
         requires in_reach { column ≤ LAST_COLUMN }
         ensures { result ≡ false → drop (column - 1) self.now ≡ [] }
     {
-        let len = self.bytes.len();
-        place_at(&self.starts, column - 1, len) < len
+        self.starts[column - 1] < self.bytes.len()
     }
 
     /// Blanks behind the last column that is read are allowed.
     pub(crate) fn is_too_long(&self) -> bool
         ensures { result ≡ not (is_blank (joined (drop LAST_COLUMN self.now))) }
     {
-        let end = place_at(&self.starts, LAST_COLUMN, self.bytes.len());
-        let (_, rest) = self.bytes.split_at(end);
+        let (_, rest) = self.bytes.split_at(self.starts[LAST_COLUMN]);
         !is_blank(rest)
     }
 }
