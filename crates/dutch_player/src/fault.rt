@@ -5,7 +5,7 @@ ghost use Rattle.dutch_player.specs.declared.fault.FieldFault.TheVariants.{OutOf
 use std::alloc::{AllocError, AllocFailed};
 
 /// Why no further round can be paired. Lines and rounds count from 1.
-#[derive(Debug, Clone, Copy, PartialEq)]
+#[derive(Clone, Copy)]
 pub enum FieldFault {
     /// A game has no result yet.
     Unfinished { player: u16, round: usize },

@@ -43,17 +43,14 @@ impl<'a> Report<'a> {
     }
 
     /// The report, of whose lines `XXZ` the first three characters alone are carried; so nobody is absent by them.
-    ///
-    /// # Errors
-    /// Memory was refused.
-    pub fn with_bare_absences(self, alloc: Global) -> Result<Report<'a>, AllocError>
-        ensures { IfOk result (λ report. report ≡ record self.entry {
+    pub fn with_bare_absences(self) -> Report<'a>
+        ensures { result ≡ record self.entry {
           carried = map (option_map (line_back self.entry.utf8)) self.entry.carried;
-        }) }
+        } }
     {
         let mut report = self;
-        report.notes.without_absences(alloc)?;
+        report.notes.forget_absences();
         report.bare_absences = true;
-        Ok(report)
+        report
     }
 }

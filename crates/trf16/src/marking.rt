@@ -30,6 +30,12 @@ impl StartRanks {
         })
     }
 
+    pub(crate) fn clear(&mut self)
+        ensures { (start : ℕ) → has_start self.new start ≡ false }
+    {
+        self.marks.fill(false);
+    }
+
     pub(crate) fn has(&self, start: u16) -> bool
         ensures { result ≡ has_start self.now start }
     {

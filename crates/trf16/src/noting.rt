@@ -44,13 +44,12 @@ impl Notes {
     }
 
     /// Forgets who is absent.
-    pub(crate) fn without_absences(&mut self, alloc: Global) -> Result<(), AllocError>
-        ensures absent { IfOk result (λ _. (start : ℕ) → is_marked self.new start ≡ false) }
+    pub(crate) fn forget_absences(&mut self)
+        ensures absent { (start : ℕ) → is_marked self.new start ≡ false }
         ensures firsts { (kind : LineKind) → first_noted self.new kind ≡ first_noted self.old kind }
         ensures together { self.new.together ≡ self.old.together }
     {
-        self.absent = StartRanks::new(alloc)?;
-        Ok(())
+        self.absent.clear();
     }
 
     /// The first line of a kind that is noted.

@@ -63,7 +63,8 @@ fn taken_back<'a>(alloc: Global, report: &Report<'a>, before: u8) -> Result<Repo
     requires { before < MOST_ROUNDS }
     ensures { IfOk result (λ back. back ≡ taken_back report.now before) }
 {
-    turned(alloc, report, Turn::TakenBack(before))?.with_bare_absences(alloc)
+    let turned = turned(alloc, report, Turn::TakenBack(before))?;
+    Ok(turned.with_bare_absences())
 }
 
 /// A report as it stood before a round, which counts from 1. Before the round behind the last that was paired it is the

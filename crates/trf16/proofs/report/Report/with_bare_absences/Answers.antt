@@ -18,7 +18,7 @@ invariant_of-report c =
       c.report.invariant.2,
       c.report.invariant.3,
       c.report.invariant.4,
-      tells_back r.notes c.without_absences.new.self said left back c.in_ok-without_absences.ensures.absent c.without_absences.ensures.firsts c.without_absences.ensures.together c.report.invariant.5,
+      tells_back r.notes c.forget_absences.new.self said left back c.forget_absences.ensures.absent c.forget_absences.ensures.firsts c.forget_absences.ensures.together c.report.invariant.5,
       c.report.invariant.6,
       apart_back r.apart (record said { players = players }) (record left { players = players }) whole refl c.report.invariant.7,
     )
