@@ -11,7 +11,7 @@ use Rattle.trf16.specs.declared.cell.Cell.{Cell}
 use Rattle.trf16.specs.declared.cell.Cell.TheVariants.{Blank}
 use Rattle.trf16.specs.declared.fault.Fault.{Fault}
 use Rattle.trf16.specs.declared.fault.Fault.TheVariants.{BadNumber, Duplicate, Misaligned, BadCell, BadExtension, TooMany, NoPlayers, NoSuchOpponent, SelfOpponent, NotMutual, Colours, Results, Points, OutOfMemory}
-use Rattle.trf16.specs.Prelude.{blank_at, blanks_at, round_at, rounds_at, is_blank_cell, is_player, line_onto, lines_onto, has_too_many_rounds, without_players, filled, laid_out, Sheet, columns, lines, without_marks, Fails, Gives}
+use Rattle.trf16.specs.Prelude.{blank_at, blanks_at, round_at, rounds_at, is_blank_cell, is_player, line_onto, lines_onto, without_players, filled, laid_out, Sheet, columns, lines, without_marks, Fails, Gives}
 use Rattle.trf16.specs.Outcomes.{◌>>=◌}
 use Rattle.trf16.proofs.LineSteps.{line_keeps, line_adds}
 use Rattle.trf16.specs.declared.limits.TheConstants.{MOST_BYTES, MOST_ROUNDS}

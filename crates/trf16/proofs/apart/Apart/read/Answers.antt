@@ -1,4 +1,4 @@
-use Rattle.std.proofs.Common.{◌≡◌, ℕ, ◌||◌, Bool, List, length, ap, refl, sym, ◌∙◌, arith}
+use Rattle.std.proofs.Common.{ℕ, ◌||◌, Bool, List, length, ap, refl, sym, ◌∙◌, arith}
 use Rattle.std.specs.Map.{keys_of}
 use Rattle.trf16.specs.Prelude.{columns, lines, names_both, are_marked}
 use Rattle.trf16.specs.Notes.{start_at}
