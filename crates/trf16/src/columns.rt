@@ -1,7 +1,7 @@
 // The columns of a line: its characters if the text is UTF-8, otherwise its bytes. They are found once for each
 // player's line, up to the last that is read.
 ghost use Rattle.std.specs.Prelude.{◌≡◌, ℕ, ◌+◌, ◌-◌, ◌<◌, ◌≤◌, ◌∷◌, List, length, slice_index, take, drop, true};
-ghost use Rattle.std.specs.Prelude.{false, not, [], slice_index_or, IfOk};
+ghost use Rattle.std.specs.Prelude.{false, not, []};
 ghost use Rattle.trf16.specs.Lines.{columns, goes_on, text, joined, is_blank};
 ghost use Rattle.trf16.specs.Steps.{IsStart, AllStart};
 ghost use Rattle.trf16.specs.declared.limits.TheConstants.{LAST_COLUMN};
