@@ -35,10 +35,12 @@ fn follow_len(bytes: &[u8]) -> usize
     ensures inside { (k : ℕ) → k < result → goes_on (slice_index bytes.now k) ≡ true }
     ensures behind { result < length bytes.now → goes_on (slice_index bytes.now result) ≡ false }
 {
-    bytes
-        .iter()
-        .position(|byte| *byte < 0x80 || 0xC0 <= *byte)
-        .unwrap_or(bytes.len())
+    for (i, byte) in bytes.iter().enumerate() {
+        if *byte < 0x80 || 0xC0 <= *byte {
+            return i;
+        }
+    }
+    bytes.len()
 }
 
 /// How many bytes the first column has; none if the line is at its end.

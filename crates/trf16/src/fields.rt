@@ -26,10 +26,12 @@ fn word_len(bytes: &[u8]) -> usize
     ensures inside { (k : ℕ) → k < result → slice_index bytes.now k ≢ 32 }
     ensures behind { result < length bytes.now → slice_index bytes.now result ≡ 32 }
 {
-    bytes
-        .iter()
-        .position(|byte| *byte == b' ')
-        .unwrap_or(bytes.len())
+    for (i, byte) in bytes.iter().enumerate() {
+        if *byte == b' ' {
+            return i;
+        }
+    }
+    bytes.len()
 }
 
 /// The first word of a text and what stands behind it, or none if there are only blanks.
