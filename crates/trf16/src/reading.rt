@@ -343,7 +343,7 @@ fn has_size(draft: &Draft<'_>, too_long: bool) -> Result<(), Fault>
     Ok(())
 }
 
-// Reads all lines onto a report, notes what they say, and looks at its size; who is named together by its lines.
+// Reads all lines onto a report, notes what they say, looks at its size, and answers who is named together.
 #[tactic(auto, unfolding(crate::specs::Steps::filled, crate::specs::Verdict::sized))]
 fn filled<'a>(
     alloc: Global,
