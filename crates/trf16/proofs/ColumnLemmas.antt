@@ -1,6 +1,6 @@
 -- How a line falls into columns, step by step.
 use Rattle.std.proofs.Common.{◌≡◌, ℕ, zero, suc, ◌+◌, ◌-◌, ◌<◌, ◌≤◌, Bool, true, false, ◌&&◌, cond, get_or, inl, inr, subst, List, [], ◌∷◌, ◌++◌, length, take, drop, refl, sym, ap, ◌∙◌, append_assoc, arith}
-use Rattle.std.proofs.lemmas.List.{append-nil, length-append, length-drop, drop-drop, drop_at, length-take-le, drop_all, get_or-set_other}
+use Rattle.std.proofs.lemmas.List.{append-nil, length-append, length-drop, drop-drop, drop_at, length-take-le, drop_all, get_or-set_other, take-append-drop, take_all}
 use Rattle.std.proofs.Math.Seq.{take-add}
 use Rattle.std.proofs.lemmas.Bool.{cases_lt}
 use Rattle.std.proofs.Math.ListN.{set}
@@ -97,6 +97,33 @@ AllStart-set utf8 bytes starts i at before here room j lt =
       | inr above ↦
           let same : i ≡ j = omega arith in
           subst (λ n. IsStart utf8 bytes n (get_or (set starts i at) n 0)) same (rw (get_or-set_at starts i i at 0 refl room) here)
+    ]
+
+-- where a column would begin at the end of the line, so would each further one
+IsStart-further : (utf8 : Bool) (bytes : List ℕ) (n k : ℕ) → IsStart utf8 bytes n (length bytes) → n ≤ k → IsStart utf8 bytes k (length bytes)
+IsStart-further utf8 bytes n k start le =
+    let cols = columns utf8 bytes in
+    let sum : k ≡ n + (k - n) = omega arith in
+    let end : drop (length bytes) bytes ≡ [] = drop_all (length bytes) bytes (omega arith) in
+    let none : drop n cols ≡ [] = sym start.back ∙ ap (columns utf8) end in
+    let further : drop k cols ≡ [] = ap (λ i. drop i cols) sum ∙ sym (drop-drop (k - n) n cols) ∙ ap (λ (cs : List (List ℕ)). drop (k - n) cs) none ∙ drop_all (k - n) [] (omega arith) in
+    let all : take k cols ≡ cols = sym (append-nil (take k cols)) ∙ ap (λ (cs : List (List ℕ)). take k cols ++ cs) (sym further) ∙ take-append-drop k cols in
+    record {
+      within = omega arith;
+      front = take_all (length bytes) bytes (omega arith) ∙ sym (joined-columns utf8 bytes) ∙ ap joined (sym all);
+      back = ap (columns utf8) end ∙ sym further;
+    }
+
+-- the places behind one that is noted are the end of the line, where each further column would begin
+pub AllStart-whole : (utf8 : Bool) (bytes starts : List ℕ) (n at count : ℕ) → AllStart utf8 bytes starts n → IsStart utf8 bytes n at → length bytes ≤ at
+    → ((k : ℕ) → n ≤ k → k < count → get_or starts k 0 ≡ length bytes) → AllStart utf8 bytes starts count
+AllStart-whole utf8 bytes starts n at count before here ended behind j lt =
+    elim (cases_lt j n) [
+      | inl below ↦ before j below
+      | inr above ↦
+          let within : at ≤ length bytes = here.within in
+          let same : at ≡ length bytes = omega arith in
+          rw (behind j above lt) (IsStart-further utf8 bytes n j (subst (λ a. IsStart utf8 bytes n a) same here) above)
     ]
 
 -- a column that would begin at the end of the line is missing

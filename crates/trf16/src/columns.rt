@@ -60,12 +60,14 @@ impl<'a> Line<'a> {
     pub(crate) fn new(bytes: &'a [u8], utf8: bool) -> Line<'a>
         ensures { result ≡ columns utf8 bytes.now }
     {
-        let mut starts = [0; PLACES];
+        let mut starts = [bytes.len(); PLACES];
+        let mut column = 0;
         let mut at = 0;
-        for column in 0..PLACES {
+        while at < bytes.len() && column < PLACES {
             starts[column] = at;
             let (_, rest) = bytes.split_at(at);
             at += column_len(rest, utf8);
+            column += 1;
         }
         Line {
             bytes,
