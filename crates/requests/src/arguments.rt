@@ -1,9 +1,11 @@
 // The options of the commands, as clap is told of them.
-ghost use Rattle.std.specs.Prelude.{◌≡◌, false};
+ghost use Rattle.std.specs.Prelude.{◌≡◌, false, pos};
 ghost use Rattle.clap.specs.Words.{rule_of};
-ghost use Rattle.requests.specs.CommandLine.{bracket_rule, bye_rule, count_rule, few_rounds_rule, flag_rule};
-ghost use Rattle.requests.specs.CommandLine.{instead_rule, option_rule, player_rule, rule_for, steps_rule};
+ghost use Rattle.clap.specs.declared.builder.value_parser.ValueParser.TheVariants.{Signed, Unsigned};
+ghost use Rattle.requests.specs.CommandLine.{bracket_rule, few_rounds_rule, flag_rule, number_rule, option_rule};
+ghost use Rattle.requests.specs.CommandLine.{rule_for};
 
+use clap::builder::ValueParser;
 use clap::{Arg, ArgAction, value_parser};
 use std::alloc::Global;
 use trf16::MOST_ROUNDS;
@@ -61,8 +63,18 @@ const COLOURS: &str = "white|black";
 
 const KEYS: &str = "direct,buchholz,sb";
 
+const BRACKET_HELP: &str =
+    "The number of the bracket, 1 to 1000; 1 is the first that is paired [required]";
+
 const FROM_HELP: &str =
     "Begins behind the candidate with this cursor, as an earlier run printed it [default: the first]";
+
+const COUNT_HELP: &str = "How many candidates to print at most, 1 to 10000 [default: 100]";
+
+const PLAYER_HELP: &str = "Tells of this player alone, by start rank, 1 to 9999 [default: of all]";
+
+const INSTEAD_HELP: &str =
+    "Tells why he does not meet this one, 1 to 9999, or 0: why he has not the bye";
 
 const ROUND_HELP: &str =
     "Answers as on the report as it stood before round N, 1 to 64 [default: before the next round]";
@@ -75,6 +87,9 @@ const ROUNDS_HELP: &str =
 
 const INITIAL_HELP: &str =
     "The initial colour, white or black [default: that of the report's XXC line]";
+
+const STEPS_HELP: &str =
+    "Steps that the search in a bracket may take, 0 to 1000000000 [default: 10000000]";
 
 const REPORT_HELP: &str = "Prints the report with the new round in place of the boards";
 
@@ -102,8 +117,10 @@ const WORDS_HELP: &str = "Tells it in sentences and with names, to be read out";
 const BY_HELP: &str =
     "What tells players of one score apart: one to three of direct, buchholz and sb, joined by commas, none twice [default: direct,buchholz,sb]";
 
+const BYE_HELP: &str = "Half points that the pairing-allocated bye gives, 0 to 2 [default: 2]";
+
 /// An option, as clap is told of it.
-#[tactic(auto, unfolding(crate::specs::CommandLine::from_rule, crate::specs::CommandLine::round_rule, crate::specs::CommandLine::rounds_rule, crate::specs::CommandLine::initial_rule, crate::specs::CommandLine::report_rule, crate::specs::CommandLine::notes_rule, crate::specs::CommandLine::points_rule, crate::specs::CommandLine::renumber_rule, crate::specs::CommandLine::names_rule, crate::specs::CommandLine::games_rule, crate::specs::CommandLine::words_rule, crate::specs::CommandLine::by_rule))]
+#[tactic(auto, unfolding(crate::specs::CommandLine::from_rule, crate::specs::CommandLine::count_rule, crate::specs::CommandLine::player_rule, crate::specs::CommandLine::instead_rule, crate::specs::CommandLine::round_rule, crate::specs::CommandLine::rounds_rule, crate::specs::CommandLine::initial_rule, crate::specs::CommandLine::steps_rule, crate::specs::CommandLine::report_rule, crate::specs::CommandLine::notes_rule, crate::specs::CommandLine::points_rule, crate::specs::CommandLine::renumber_rule, crate::specs::CommandLine::names_rule, crate::specs::CommandLine::games_rule, crate::specs::CommandLine::words_rule, crate::specs::CommandLine::by_rule, crate::specs::CommandLine::bye_rule))]
 pub fn option_for<'a>(alloc: Global, which: OptionName) -> Arg<'a>
     ensures rule { rule_of result ≡ rule_for which }
     ensures local { result.global ≡ false }
@@ -111,14 +128,14 @@ pub fn option_for<'a>(alloc: Global, which: OptionName) -> Arg<'a>
     match which {
         OptionName::Bracket => bracket(alloc),
         OptionName::From => option(alloc, "from", "CURSOR", FROM_HELP),
-        OptionName::Count => count(alloc),
-        OptionName::Player => player(alloc),
-        OptionName::Instead => instead(alloc),
+        OptionName::Count => number(alloc, "count", "N", COUNT_HELP, counts()),
+        OptionName::Player => number(alloc, "player", "P", PLAYER_HELP, players()),
+        OptionName::Instead => number(alloc, "instead", "Q", INSTEAD_HELP, opponents()),
         OptionName::Round => few_rounds(alloc, "round", ROUND_HELP),
         OptionName::PlayedRound => few_rounds(alloc, "round", PLAYED_ROUND_HELP),
         OptionName::Rounds => few_rounds(alloc, "rounds", ROUNDS_HELP),
         OptionName::Initial => option(alloc, "initial", COLOURS, INITIAL_HELP),
-        OptionName::Steps => steps(alloc),
+        OptionName::Steps => number(alloc, "steps", "N", STEPS_HELP, limits()),
         OptionName::Report => flag(alloc, "report", REPORT_HELP),
         OptionName::Notes => flag(alloc, "notes", NOTES_HELP),
         OptionName::Points => flag(alloc, "points", POINTS_HELP),
@@ -129,7 +146,7 @@ pub fn option_for<'a>(alloc: Global, which: OptionName) -> Arg<'a>
         OptionName::Games => flag(alloc, "games", GAMES_HELP),
         OptionName::Words => flag(alloc, "words", WORDS_HELP),
         OptionName::By => option(alloc, "by", KEYS, BY_HELP),
-        OptionName::Bye => bye(alloc),
+        OptionName::Bye => number(alloc, "bye", "N", BYE_HELP, half_points()),
     }
 }
 
@@ -139,59 +156,8 @@ fn bracket<'a>(alloc: Global) -> Arg<'a>
     ensures rule { rule_of result ≡ bracket_rule }
     ensures local { result.global ≡ false }
 {
-    option(
-        alloc,
-        "bracket",
-        "K",
-        "The number of the bracket, 1 to 1000; 1 is the first that is paired [required]",
-    )
-    .value_parser(value_parser!(u16).range(1..=1000))
-    .required(true)
-}
-
-// `--count N`.
-#[tactic(auto, unfolding(crate::specs::CommandLine::count_rule))]
-fn count<'a>(alloc: Global) -> Arg<'a>
-    ensures rule { rule_of result ≡ count_rule }
-    ensures local { result.global ≡ false }
-{
-    option(
-        alloc,
-        "count",
-        "N",
-        "How many candidates to print at most, 1 to 10000 [default: 100]",
-    )
-    .value_parser(value_parser!(usize).range(1..=10_000))
-}
-
-// `--player P`.
-#[tactic(auto, unfolding(crate::specs::CommandLine::player_rule))]
-fn player<'a>(alloc: Global) -> Arg<'a>
-    ensures rule { rule_of result ≡ player_rule }
-    ensures local { result.global ≡ false }
-{
-    option(
-        alloc,
-        "player",
-        "P",
-        "Tells of this player alone, by start rank, 1 to 9999 [default: of all]",
-    )
-    .value_parser(value_parser!(u16).range(1..=9999))
-}
-
-// `--instead Q`.
-#[tactic(auto, unfolding(crate::specs::CommandLine::instead_rule))]
-fn instead<'a>(alloc: Global) -> Arg<'a>
-    ensures rule { rule_of result ≡ instead_rule }
-    ensures local { result.global ≡ false }
-{
-    option(
-        alloc,
-        "instead",
-        "Q",
-        "Tells why he does not meet this one, 1 to 9999, or 0: why he has not the bye",
-    )
-    .value_parser(value_parser!(u16).range(0..=9999))
+    let numbers = value_parser!(u16).range(1..=1000);
+    number(alloc, "bracket", "K", BRACKET_HELP, numbers).required(true)
 }
 
 // An option whose value is a number of rounds, or one of a round.
@@ -199,37 +165,57 @@ fn few_rounds<'a>(alloc: Global, name: &'a str, help: &'a str) -> Arg<'a>
     ensures rule { rule_of result ≡ few_rounds_rule name.entry.now }
     ensures local { result.global ≡ false }
 {
-    option(alloc, name, "N", help).value_parser(value_parser!(u8).range(1..=MOST_ROUNDS as i64))
+    let rounds = value_parser!(u8).range(1..=MOST_ROUNDS as i64);
+    number(alloc, name, "N", help, rounds)
 }
 
-// `--steps N`.
-#[tactic(auto, unfolding(crate::specs::CommandLine::steps_rule))]
-fn steps<'a>(alloc: Global) -> Arg<'a>
-    ensures rule { rule_of result ≡ steps_rule }
-    ensures local { result.global ≡ false }
+// The numbers of candidates that may be asked for.
+fn counts<'a>() -> ValueParser<'a>
+    ensures { result ≡ Unsigned 1 10000 }
 {
-    option(
-        alloc,
-        "steps",
-        "N",
-        "Steps that the search in a bracket may take, 0 to 1000000000 [default: 10000000]",
-    )
-    .value_parser(value_parser!(u64).range(0..=1_000_000_000))
+    value_parser!(usize).range(1..=10_000)
 }
 
-// `--bye N`.
-#[tactic(auto, unfolding(crate::specs::CommandLine::bye_rule))]
-fn bye<'a>(alloc: Global) -> Arg<'a>
-    ensures rule { rule_of result ≡ bye_rule }
+// The start ranks that a player may have.
+fn players<'a>() -> ValueParser<'a>
+    ensures { result ≡ Signed (pos 1) (pos 9999) }
+{
+    value_parser!(u16).range(1..=9999)
+}
+
+// The same, and 0 for the bye.
+fn opponents<'a>() -> ValueParser<'a>
+    ensures { result ≡ Signed (pos 0) (pos 9999) }
+{
+    value_parser!(u16).range(0..=9999)
+}
+
+// The limits of steps that may be set.
+fn limits<'a>() -> ValueParser<'a>
+    ensures { result ≡ Unsigned 0 1000000000 }
+{
+    value_parser!(u64).range(0..=1_000_000_000)
+}
+
+// The half points that the pairing-allocated bye may give.
+fn half_points<'a>() -> ValueParser<'a>
+    ensures { result ≡ Signed (pos 0) (pos 2) }
+{
+    value_parser!(u16).range(0..=2)
+}
+
+// An option whose value is a number that a parser reads.
+fn number<'a>(
+    alloc: Global,
+    name: &'a str,
+    value: &'a str,
+    help: &'a str,
+    parser: ValueParser<'a>,
+) -> Arg<'a>
+    ensures rule { rule_of result ≡ number_rule name.entry.now parser.entry }
     ensures local { result.global ≡ false }
 {
-    option(
-        alloc,
-        "bye",
-        "N",
-        "Half points that the pairing-allocated bye gives, 0 to 2 [default: 2]",
-    )
-    .value_parser(value_parser!(u16).range(0..=2))
+    option(alloc, name, value, help).value_parser(parser)
 }
 
 // An option that takes one value.
