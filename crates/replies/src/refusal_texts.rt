@@ -1,5 +1,6 @@
 // The lines that tell why a report is refused, cannot be paired further, or has no standings, reason by reason.
 ghost use Rattle.std.specs.Prelude.{◌≡◌, IfOk, string_bytes};
+ghost use Rattle.trf16.specs.declared.fault.Fault.TheVariants.{BadCell, Misaligned, Points};
 ghost use Rattle.replies.specs.RefusalTexts.{excess_text, fault_text, field_text, line_text, round_text, tie_text};
 
 use dutch_player::FieldFault;
@@ -15,14 +16,10 @@ pub(crate) fn refused(alloc: Global, fault: Fault) -> Result<String, AllocError>
     ensures { IfOk result (λ text. string_bytes text ≡ fault_text fault) }
 {
     match fault {
-        Fault::BadNumber { line } => format!(in alloc; "refused: line {line}: bad number\n"),
+        Fault::BadNumber { line } => of_line(alloc, line, ": bad number\n"),
         Fault::Duplicate { line } => of_line(alloc, line, ": duplicate\n"),
-        Fault::Misaligned { line, column } => {
-            format!(in alloc; "refused: line {line}: column {column} must be blank\n")
-        }
-        Fault::BadCell { line, round } => {
-            format!(in alloc; "refused: line {line}: round {round}: bad cell\n")
-        }
+        Fault::Misaligned { line, column } => misaligned(alloc, line, column),
+        Fault::BadCell { line, round } => bad_cell(alloc, line, round),
         Fault::BadExtension { line } => of_line(alloc, line, ": bad extension\n"),
         Fault::TooMany(excess) => too_many(alloc, excess),
         Fault::NoPlayers => String::from_str(alloc, "refused: no players\n"),
@@ -35,7 +32,7 @@ pub(crate) fn refused(alloc: Global, fault: Fault) -> Result<String, AllocError>
         Fault::NotMutual { player, round } => of_round(alloc, player, round, ": not mutual\n"),
         Fault::Colours { player, round } => of_round(alloc, player, round, ": colours\n"),
         Fault::Results { player, round } => of_round(alloc, player, round, ": results\n"),
-        Fault::Points { player } => format!(in alloc; "refused: player {player}: points\n"),
+        Fault::Points { player } => points(alloc, player),
         Fault::OutOfMemory => String::from_str(alloc, "memory: refused\n"),
     }
 }
@@ -82,6 +79,25 @@ pub(crate) fn of_line(alloc: Global, line: usize, what: &str) -> Result<String, 
     ensures { IfOk result (λ text. string_bytes text ≡ line_text line what.now) }
 {
     format!(in alloc; "refused: line {line}{what}")
+}
+
+// A column that must be blank is not.
+fn misaligned(alloc: Global, line: usize, column: usize) -> Result<String, AllocError>
+    ensures { IfOk result (λ text. string_bytes text ≡ fault_text (Misaligned line column)) }
+{
+    format!(in alloc; "refused: line {line}: column {column} must be blank\n")
+}
+
+fn bad_cell(alloc: Global, line: usize, round: usize) -> Result<String, AllocError>
+    ensures { IfOk result (λ text. string_bytes text ≡ fault_text (BadCell line round)) }
+{
+    format!(in alloc; "refused: line {line}: round {round}: bad cell\n")
+}
+
+fn points(alloc: Global, player: u16) -> Result<String, AllocError>
+    ensures { IfOk result (λ text. string_bytes text ≡ fault_text (Points player)) }
+{
+    format!(in alloc; "refused: player {player}: points\n")
 }
 
 // What does not fit in a round of a player.
