@@ -1,5 +1,5 @@
 // The boards and the standings for the wall: with names, in columns.
-ghost use Rattle.std.specs.Prelude.{◌≡◌, ◌++◌, ◌∷◌, ◌<◌, [], IfOk, OnOk, length};
+ghost use Rattle.std.specs.Prelude.{◌≡◌, ◌++◌, ◌∷◌, ◌-◌, ◌<◌, [], IfOk, OnOk, length};
 ghost use Rattle.std.specs.Fmt.{decimal};
 ghost use Rattle.replies.specs.Replies.{answer_of};
 ghost use Rattle.replies.specs.Statuses.{done};
@@ -27,14 +27,38 @@ type Board = (u16, u16);
 pub fn boards(alloc: Global, report: &Report<'_>, boards: &[Board]) -> Result<Reply, AllocError>
     ensures { IfOk result (λ reply. answer_of reply ≡ done (named_boards_text report.now boards.now)) }
 {
+    let lines = board_lines(alloc, report, boards)?;
+    in_columns(alloc, report, lines.as_slice(), 7)
+}
+
+fn board_lines(
+    alloc: Global,
+    report: &Report<'_>,
+    boards: &[Board],
+) -> Result<Vec<TableLine>, AllocError>
+    ensures { IfOk result (λ lines. lines.items ≡ boards_labels report.now 1 boards.now) }
+{
     let before = report.rounds_played();
     let mut lines = Vec::new(alloc);
     for (i, board) in boards.iter().enumerate() {
-        let mut line = numbered(alloc, i + 1)?;
-        push_board(&mut line, report, before, *board)?;
-        lines.push(line)?;
+        lines.push(board_line(alloc, report, before, i + 1, *board)?)?;
     }
-    in_columns(alloc, report, lines.as_slice(), 7)
+    Ok(lines)
+}
+
+// The line of a board: its number, and the board with the scores of the rounds before.
+fn board_line(
+    alloc: Global,
+    report: &Report<'_>,
+    before: u8,
+    number: usize,
+    board: Board,
+) -> Result<TableLine, AllocError>
+    ensures { IfOk result (λ line. line ≡ right (decimal number) ∷ board_labels report.now before board) }
+{
+    let mut line = numbered(alloc, number)?;
+    push_board(&mut line, report, before, board)?;
+    Ok(line)
 }
 
 /// The boards of a round that was paired, with names, the scores before that round, and the results.
@@ -47,14 +71,41 @@ pub fn played_boards(
     requires { 0 < round }
     ensures { IfOk result (λ reply. answer_of reply ≡ done (played_boards_text report.now round boards.now)) }
 {
+    let lines = played_lines(alloc, report, round, boards)?;
+    in_columns(alloc, report, lines.as_slice(), 8)
+}
+
+fn played_lines(
+    alloc: Global,
+    report: &Report<'_>,
+    round: u8,
+    boards: &[Board],
+) -> Result<Vec<TableLine>, AllocError>
+    requires { 0 < round }
+    ensures { IfOk result (λ lines. lines.items ≡ played_labels report.now round 1 boards.now) }
+{
     let mut lines = Vec::new(alloc);
     for (i, board) in boards.iter().enumerate() {
-        let mut line = numbered(alloc, i + 1)?;
-        push_board(&mut line, report, round - 1, *board)?;
-        push_result(&mut line, report, round, *board)?;
-        lines.push(line)?;
+        lines.push(played_line(alloc, report, round, i + 1, *board)?)?;
     }
-    in_columns(alloc, report, lines.as_slice(), 8)
+    Ok(lines)
+}
+
+// The line of a board that was paired, with its result.
+fn played_line(
+    alloc: Global,
+    report: &Report<'_>,
+    round: u8,
+    number: usize,
+    board: Board,
+) -> Result<TableLine, AllocError>
+    requires { 0 < round }
+    ensures { IfOk result (λ line. line
+        ≡ right (decimal number) ∷ board_labels report.now (round - 1) board ++ result_labels report.now round board) }
+{
+    let mut line = board_line(alloc, report, round - 1, number, board)?;
+    push_result(&mut line, report, round, board)?;
+    Ok(line)
 }
 
 /// The standings with names: for each player the place, name, score, the values of the keys, and the games if they are
@@ -73,7 +124,7 @@ pub fn standings(
     in_columns(alloc, report, lines.as_slice(), columns)
 }
 
-// The lines of the standings: a loop that owns nothing but them, so that little is let go at a way out.
+// The lines of the standings.
 fn row_lines(
     alloc: Global,
     options: &StandingsOptions,
@@ -85,11 +136,25 @@ fn row_lines(
 {
     let mut lines = Vec::new(alloc);
     for (i, row) in rows.iter().enumerate() {
-        let mut line = numbered(alloc, i + 1)?;
-        push_row(&mut line, options, report, row)?;
-        lines.push(line)?;
+        lines.push(row_line(alloc, options, report, i + 1, row)?)?;
     }
     Ok(lines)
+}
+
+// The line of a row: its place, and the row.
+fn row_line(
+    alloc: Global,
+    options: &StandingsOptions,
+    report: &Report<'_>,
+    place: usize,
+    row: &Row,
+) -> Result<TableLine, AllocError>
+    ensures { IfOk result (λ line. line ≡ right (decimal place) ∷ row_labels report.now options.now.keys row.now
+        ++ games_labels report.now row.now.start (rounds_shown options.now report.now)) }
+{
+    let mut line = numbered(alloc, place)?;
+    push_row(&mut line, options, report, row)?;
+    Ok(line)
 }
 
 // Lines as a table of so many columns.
