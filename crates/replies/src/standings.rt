@@ -1,9 +1,9 @@
 // The command `standings`: the players by score and by the keys that break ties.
-ghost use Rattle.std.specs.Prelude.{◌≡◌, ◌++◌, ◌≤◌, ◌<◌, IfOk, Ok, OnOk, length, string_bytes};
+ghost use Rattle.std.specs.Prelude.{◌≡◌, ◌++◌, ◌≤◌, ◌<◌, IfOk, Ok, OnOk, codes, length, string_bytes};
 ghost use Rattle.trf16.specs.Prelude.{verdict};
 ghost use Rattle.replies.specs.Replies.{answer_of};
 ghost use Rattle.replies.specs.StandingsAnswers.{rounds_shown, standings_answer, table_answer};
-ghost use Rattle.replies.specs.StandingsTexts.{row_text, rows_text, values_text};
+ghost use Rattle.replies.specs.StandingsTexts.{row_text, rows_text, value_text, values_text};
 ghost use Rattle.replies.specs.Views.{seen_before};
 
 use crate::games::{put_games, rounds_shown};
@@ -91,30 +91,28 @@ fn put_row(text: &mut String, keys: &[Key], place: usize, row: &Row) -> Result<(
 {
     let (start, score) = (row.start(), HalfPoints(u32::from(row.score())));
     write!(text, "{place} {start} {score}")?;
-    put_values(*text.allocator(), text, keys, row.values())
+    put_values(text, keys, row.values())
+}
+
+// Puts the value of a key behind a blank.
+fn put_value(text: &mut String, key: Key, value: Option<u32>) -> Result<(), AllocError>
+    ensures { OnOk result (string_bytes text.new ≡ string_bytes text.old ++ (codes " " ++ value_text key value)) }
+{
+    let shown = KeyValue { key, value };
+    write!(text, " {shown}")?;
+    Ok(())
 }
 
 // Puts the values of some keys, in their order.
 #[tactic(auto, using(crate::proofs::TableLemmas::values_end))]
-fn put_values(
-    alloc: Global,
-    text: &mut String,
-    keys: &[Key],
-    values: &[Option<u32>],
-) -> Result<(), AllocError>
+fn put_values(text: &mut String, keys: &[Key], values: &[Option<u32>]) -> Result<(), AllocError>
     ensures { OnOk result (string_bytes text.new ≡ string_bytes text.old ++ values_text keys.now values.now) }
 {
     for (i, key) in keys.iter().enumerate() {
         if values.len() <= i {
             return Ok(());
         }
-        text.push_str(" ")?;
-        let value = KeyValue {
-            key: *key,
-            value: values[i],
-        };
-        let made = value.to_string(alloc)?;
-        text.push_str(made.as_str())?;
+        put_value(text, *key, values[i])?;
     }
     Ok(())
 }
