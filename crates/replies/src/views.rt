@@ -1,5 +1,5 @@
 // The report that a command answers on: the one that some bytes are, or that one as it stood before a round.
-ghost use Rattle.std.specs.Prelude.{◌≡◌, ◌≤◌, IfOk, Ok};
+ghost use Rattle.std.specs.Prelude.{◌≡◌, ◌≤◌, IfOk, Ok, Some};
 ghost use Rattle.trf16.specs.Prelude.{verdict, verdict_unsummed};
 ghost use Rattle.replies.specs.Replies.{answer_of};
 ghost use Rattle.replies.specs.Views.{seen_before, unseen_answer};
@@ -71,10 +71,17 @@ fn seen_before<'a>(
 ) -> Result<Seen<'a>, AllocError>
     ensures { IfOk result (λ seen. seen ≡ seen_before round (Ok report.entry)) }
 {
-    let Some(round) = round else {
-        return Ok(Ok(report));
-    };
-    match before_round(alloc, &report, round)? {
+    match round {
+        Some(round) => stood_before(alloc, &report, round),
+        None => Ok(Ok(report)),
+    }
+}
+
+// A report as it stood before a round.
+fn stood_before<'a>(alloc: Global, report: &Report<'a>, round: u8) -> Result<Seen<'a>, AllocError>
+    ensures { IfOk result (λ seen. seen ≡ seen_before (Some round) (Ok report.now)) }
+{
+    match before_round(alloc, report, round)? {
         Some(view) => Ok(Ok(view)),
         None => Ok(Err(Unseen::NotReached(round))),
     }
