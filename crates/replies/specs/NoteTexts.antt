@@ -17,21 +17,28 @@ round_note_text HalfPoint = codes " gives half a point in all"
 round_note_text NoPoint = codes " gives no point in all"
 round_note_text NoCell = codes " has no cell"
 
+-- what is told of a line
+abbrev pub line_front : ℕ → List ℕ → List ℕ
+line_front line what = codes "note line " ++ (decimal line ++ what)
+
+-- what is told of a round in a player's line
+abbrev pub round_front : ℕ → ℕ → List ℕ → List ℕ
+round_front line round what = line_front line (codes ": round " ++ (decimal round ++ what))
+
 -- what is told of a note before the kind that it names
 unfoldable pub front_text : Noted → List ℕ
-front_text (NoPlayer line number) = codes "note line " ++ (decimal line ++ (codes ": no player " ++ decimal number))
-front_text (PlayedLast line number) = codes "note line " ++ (decimal line ++ (codes ": player " ++ (decimal number ++ codes " played the last round")))
-front_text (UnknownKind line kind) = codes "note line " ++ (decimal line ++ codes ": unknown kind ")
-front_text (BlankBefore line kind) = codes "note line " ++ (decimal line ++ codes ": blank before ")
-front_text (OnePlayer line) = codes "note line " ++ (decimal line ++ codes ": names one player")
-front_text (ManyRounds line) = codes "note line " ++ (decimal line ++ codes ": more rounds than opponents")
-front_text (BeforeName line) = codes "note line " ++ (decimal line ++ codes ": column 14 is not blank")
-front_text (LongName line) = codes "note line " ++ (decimal line ++ codes ": the name runs into column 48")
-front_text (RatingAbove line rating player) =
-    codes "note line " ++ (decimal line ++ (codes ": rating " ++ (decimal rating ++ (codes " is above that of player " ++ decimal player))))
-front_text (EarlyPoints line) = codes "note line " ++ (decimal line ++ codes ": the points count a round to come")
-front_text (InRound line round what) = codes "note line " ++ (decimal line ++ (codes ": round " ++ (decimal round ++ round_note_text what)))
-front_text (BehindColumn line column) = codes "note line " ++ (decimal line ++ (codes ": behind column " ++ (decimal column ++ codes " nothing is read")))
+front_text (NoPlayer line number) = line_front line (codes ": no player " ++ decimal number)
+front_text (PlayedLast line number) = line_front line (codes ": player " ++ (decimal number ++ codes " played the last round"))
+front_text (UnknownKind line kind) = line_front line (codes ": unknown kind ")
+front_text (BlankBefore line kind) = line_front line (codes ": blank before ")
+front_text (OnePlayer line) = line_front line (codes ": names one player")
+front_text (ManyRounds line) = line_front line (codes ": more rounds than opponents")
+front_text (BeforeName line) = line_front line (codes ": column 14 is not blank")
+front_text (LongName line) = line_front line (codes ": the name runs into column 48")
+front_text (RatingAbove line rating player) = line_front line (codes ": rating " ++ (decimal rating ++ (codes " is above that of player " ++ decimal player)))
+front_text (EarlyPoints line) = line_front line (codes ": the points count a round to come")
+front_text (InRound line round what) = round_front line round (round_note_text what)
+front_text (BehindColumn line column) = line_front line (codes ": behind column " ++ (decimal column ++ codes " nothing is read"))
 front_text (NoGame round) = codes "note round " ++ (decimal round ++ codes ": no game")
 front_text (Byes round players) = codes "note round " ++ (decimal round ++ (codes ": " ++ (decimal players ++ codes " players have the bye")))
 front_text RoundsUnknown = codes "note rounds unknown"

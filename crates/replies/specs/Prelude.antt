@@ -9,7 +9,7 @@ pub use Rattle.replies.specs.Statuses.{Answer, behind, code_of, done, field_refu
 pub use Rattle.replies.specs.Replies.{answer_of, note_of, text_of}
 pub use Rattle.replies.specs.WrittenAnswers.{HasInTurn, HasTextOrPart, IsCut, IsNoteCut, IsNoted, IsOnStandardError, IsPrinted, IsToldWith, IsWritten, IsWrittenTo}
 pub use Rattle.replies.specs.Controls.{holds_control, is_control, is_long_control, shown_byte, without_controls}
-pub use Rattle.replies.specs.NoteTexts.{kind_named, kind_text, note_text, notes_text}
+pub use Rattle.replies.specs.NoteTexts.{kind_named, kind_text, line_front, note_text, notes_text, round_front}
 unfoldable pub use Rattle.replies.specs.NoteTexts.{front_text, round_note_text}
 pub use Rattle.replies.specs.RefusalNoteTexts.{cells_note, cells_text, extension_note, found, held_text, kind_or, line_in_bytes, line_note, order_text, points_note, refusal_note, wanted_text, with_note}
 unfoldable pub use Rattle.replies.specs.RefusalNoteTexts.{bytes_text, columns_text, extension_text, front_of_answer, front_of_cell, sums_text, unfinished_text}

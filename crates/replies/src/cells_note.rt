@@ -1,10 +1,9 @@
 // The cells of two players of whom only the first names the other.
-ghost use Rattle.std.specs.Prelude.{◌≡◌, ◌≤◌, ◌++◌, IfOk, OnOk, string_bytes};
+ghost use Rattle.std.specs.Prelude.{◌≡◌, ◌≤◌, IfOk, string_bytes};
 ghost use Rattle.trf16.specs.declared.limits.TheConstants.{MOST_ROUNDS};
-ghost use Rattle.replies.specs.Controls.{without_controls};
 ghost use Rattle.replies.specs.RefusalNoteTexts.{cells_note, cells_text, front_of_answer, front_of_cell};
 
-use crate::controls::without_controls;
+use crate::controls::put_without_controls;
 use report_notes::{cell_held, opponent_held};
 use std::alloc::{AllocError, Global};
 use trf16::MOST_ROUNDS;
@@ -32,19 +31,11 @@ fn cells_text(alloc: Global, bytes: &[u8], player: u16, round: usize) -> Result<
 {
     let opponent = opponent_held(bytes, player, round);
     let mut text = front_of_cell(alloc, player, round)?.into_bytes();
-    put_shown(alloc, &mut text, cell_held(bytes, player, round))?;
+    put_without_controls(alloc, &mut text, cell_held(bytes, player, round))?;
     text.extend_from_slice(front_of_answer(alloc, opponent)?.as_bytes())?;
-    put_shown(alloc, &mut text, cell_held(bytes, opponent, round))?;
+    put_without_controls(alloc, &mut text, cell_held(bytes, opponent, round))?;
     text.extend_from_slice(b"\"\n")?;
     Ok(text)
-}
-
-// Puts some bytes without control characters.
-fn put_shown(alloc: Global, text: &mut Vec<u8>, bytes: &[u8]) -> Result<(), AllocError>
-    ensures { OnOk result (text.new.items ≡ text.old.items ++ without_controls bytes.now) }
-{
-    let shown = without_controls(alloc, bytes)?;
-    text.extend_from_slice(shown.as_slice())
 }
 
 #[tactic(auto, unfolding(crate::specs::RefusalNoteTexts::front_of_cell))]

@@ -1,7 +1,7 @@
 // Control characters in a text, which make a terminal do something in place of showing a letter. They are found by
 // bytes, whether or not the report is UTF-8: a terminal that reads UTF-8 acts on the two bytes of U+0080 to U+009F in
 // any text.
-ghost use Rattle.std.specs.Prelude.{◌≡◌, ◌≤◌, ◌∷◌, IfOk, false, length};
+ghost use Rattle.std.specs.Prelude.{◌≡◌, ◌≤◌, ◌++◌, ◌∷◌, IfOk, OnOk, false, length};
 ghost use Rattle.replies.specs.Controls.{holds_control, is_control, is_long_control, shown_byte, without_controls};
 
 use std::alloc::{AllocError, Global};
@@ -23,6 +23,21 @@ pub fn without_controls(alloc: Global, text: &[u8]) -> Result<Vec<u8>, AllocErro
         rest = after;
     }
     Ok(shown)
+}
+
+/// Puts the same of a text.
+///
+/// # Errors
+/// Memory was refused.
+pub(crate) fn put_without_controls(
+    alloc: Global,
+    text: &mut Vec<u8>,
+    more: &[u8],
+) -> Result<(), AllocError>
+    ensures { OnOk result (text.new.items ≡ text.old.items ++ without_controls more.now) }
+{
+    let shown = without_controls(alloc, more)?;
+    text.extend_from_slice(shown.as_slice())
 }
 
 // What is shown of the character that begins with a byte, and what stands behind that character.

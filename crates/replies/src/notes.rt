@@ -1,13 +1,15 @@
 // The lines of `check --notes`: what of an accepted report looks like a mistake.
-ghost use Rattle.std.specs.Prelude.{◌≡◌, ◌++◌, IfOk, OnOk, string_bytes};
+ghost use Rattle.std.specs.Prelude.{◌≡◌, ◌++◌, IfOk, OnOk, Some, codes, string_bytes};
+ghost use Rattle.std.specs.Fmt.{decimal};
 ghost use Rattle.report_notes.specs.Notes.{notes_of};
-ghost use Rattle.report_notes.specs.Noted.{InRound};
 ghost use Rattle.report_notes.specs.NoteOf.{noted};
-ghost use Rattle.replies.specs.NoteTexts.{front_text, kind_named, kind_text, note_text, notes_text};
+ghost use Rattle.replies.specs.NoteTexts.{front_text, kind_named, kind_text, line_front, note_text, notes_text};
+ghost use Rattle.replies.specs.NoteTexts.{round_front, round_note_text};
 
-use crate::controls::without_controls;
+use crate::controls::put_without_controls;
 use report_notes::{Note, Place, RoundNote, next_note};
 use std::alloc::{AllocError, Global};
+use std::fmt;
 use trf16::Report;
 
 /// Puts a line for each note of a report that stands in some bytes.
@@ -41,64 +43,100 @@ fn front(alloc: Global, note: Note<'_>) -> Result<String, AllocError>
     ensures { IfOk result (λ text. string_bytes text ≡ front_text (noted note.entry)) }
 {
     match note {
-        Note::NoPlayer { line, number } => {
-            format!(in alloc; "note line {line}: no player {number}")
-        }
-        Note::PlayedLast { line, number } => {
-            format!(in alloc; "note line {line}: player {number} played the last round")
-        }
-        Note::UnknownKind { line, .. } => format!(in alloc; "note line {line}: unknown kind "),
-        Note::BlankBefore { line, .. } => format!(in alloc; "note line {line}: blank before "),
-        Note::OnePlayer { line } => format!(in alloc; "note line {line}: names one player"),
-        Note::ManyRounds { line } => {
-            format!(in alloc; "note line {line}: more rounds than opponents")
-        }
-        Note::BeforeName { line } => format!(in alloc; "note line {line}: column 14 is not blank"),
-        Note::LongName { line } => {
-            format!(in alloc; "note line {line}: the name runs into column 48")
-        }
+        Note::NoPlayer { line, number } => no_player(alloc, line, number),
+        Note::PlayedLast { line, number } => played_last(alloc, line, number),
+        Note::UnknownKind { line, .. } => of_line(alloc, line, ": unknown kind "),
+        Note::BlankBefore { line, .. } => of_line(alloc, line, ": blank before "),
+        Note::OnePlayer { line } => of_line(alloc, line, ": names one player"),
+        Note::ManyRounds { line } => of_line(alloc, line, ": more rounds than opponents"),
+        Note::BeforeName { line } => of_line(alloc, line, ": column 14 is not blank"),
+        Note::LongName { line } => of_line(alloc, line, ": the name runs into column 48"),
         Note::RatingAbove {
             line,
             rating,
             player,
-        } => format!(in alloc;
-            "note line {line}: rating {rating} is above that of player {player}"
-        ),
-        Note::EarlyPoints { line } => {
-            format!(in alloc; "note line {line}: the points count a round to come")
-        }
+        } => rating_above(alloc, line, rating, player),
+        Note::EarlyPoints { line } => of_line(alloc, line, ": the points count a round to come"),
         Note::InRound { line, round, what } => in_round(alloc, line, round, what),
-        Note::BehindColumn { line, column } => {
-            format!(in alloc; "note line {line}: behind column {column} nothing is read")
-        }
-        Note::NoGame { round } => format!(in alloc; "note round {round}: no game"),
-        Note::Byes { round, players } => {
-            format!(in alloc; "note round {round}: {players} players have the bye")
-        }
-        Note::RoundsUnknown => format!(in alloc; "note rounds unknown"),
+        Note::BehindColumn { line, column } => behind_column(alloc, line, column),
+        Note::NoGame { round } => no_game(alloc, round),
+        Note::Byes { round, players } => byes(alloc, round, players),
+        Note::RoundsUnknown => String::from_str(alloc, "note rounds unknown"),
     }
 }
 
-// What is told of a player's round.
-#[tactic(auto, unfolding(crate::specs::NoteTexts::front_text, crate::specs::NoteTexts::round_note_text))]
-fn in_round(alloc: Global, line: usize, round: u8, what: RoundNote) -> Result<String, AllocError>
-    ensures { IfOk result (λ text. string_bytes text ≡ front_text (InRound line round what)) }
+// What is told of a line.
+fn of_line(alloc: Global, line: usize, what: &str) -> Result<String, AllocError>
+    ensures { IfOk result (λ text. string_bytes text ≡ line_front line what.now) }
 {
-    match what {
-        RoundNote::NoResult => format!(in alloc; "note line {line}: round {round} has no result"),
-        RoundNote::MeetsAgain { player } => {
-            format!(in alloc; "note line {line}: round {round} meets player {player} again")
+    format!(in alloc; "note line {line}{what}")
+}
+
+fn no_player(alloc: Global, line: usize, number: u16) -> Result<String, AllocError>
+    ensures { IfOk result (λ text. string_bytes text ≡ line_front line (codes ": no player " ++ decimal number)) }
+{
+    format!(in alloc; "note line {line}: no player {number}")
+}
+
+fn played_last(alloc: Global, line: usize, number: u16) -> Result<String, AllocError>
+    ensures { IfOk result (λ text. string_bytes text
+        ≡ line_front line (codes ": player " ++ (decimal number ++ codes " played the last round"))) }
+{
+    format!(in alloc; "note line {line}: player {number} played the last round")
+}
+
+fn rating_above(alloc: Global, line: usize, rating: u16, player: u16) -> Result<String, AllocError>
+    ensures { IfOk result (λ text. string_bytes text ≡ line_front line
+        (codes ": rating " ++ (decimal rating ++ (codes " is above that of player " ++ decimal player)))) }
+{
+    format!(in alloc; "note line {line}: rating {rating} is above that of player {player}")
+}
+
+fn behind_column(alloc: Global, line: usize, column: usize) -> Result<String, AllocError>
+    ensures { IfOk result (λ text. string_bytes text
+        ≡ line_front line (codes ": behind column " ++ (decimal column ++ codes " nothing is read"))) }
+{
+    format!(in alloc; "note line {line}: behind column {column} nothing is read")
+}
+
+fn no_game(alloc: Global, round: u8) -> Result<String, AllocError>
+    ensures { IfOk result (λ text. string_bytes text ≡ codes "note round " ++ (decimal round ++ codes ": no game")) }
+{
+    format!(in alloc; "note round {round}: no game")
+}
+
+fn byes(alloc: Global, round: u8, players: usize) -> Result<String, AllocError>
+    ensures { IfOk result (λ text. string_bytes text ≡ codes "note round "
+        ++ (decimal round ++ (codes ": " ++ (decimal players ++ codes " players have the bye")))) }
+{
+    format!(in alloc; "note round {round}: {players} players have the bye")
+}
+
+// What is told of a round in a player's line.
+fn in_round(alloc: Global, line: usize, round: u8, what: RoundNote) -> Result<String, AllocError>
+    ensures { IfOk result (λ text. string_bytes text ≡ round_front line round (round_note_text what)) }
+{
+    let what = RoundWords(what);
+    format!(in alloc; "note line {line}: round {round}{what}")
+}
+
+// What is noted of a round, as it stands behind the round's number.
+#[derive(Drop)]
+struct RoundWords(RoundNote);
+
+impl fmt::Display for RoundWords {
+    ghost output = { λ words. Some (round_note_text words.0) };
+
+    #[tactic(auto, unfolding(crate::specs::NoteTexts::round_note_text))]
+    fn fmt<W: fmt::Write>(&self, f: &mut fmt::Formatter<W>) -> fmt::Result {
+        match self.0 {
+            RoundNote::NoResult => f.write_str(" has no result"),
+            RoundNote::MeetsAgain { player } => write!(f, " meets player {player} again"),
+            RoundNote::AnotherBye => f.write_str(" is another bye"),
+            RoundNote::HalfPoint => f.write_str(" gives half a point in all"),
+            RoundNote::NoPoint => f.write_str(" gives no point in all"),
+            RoundNote::NoCell => f.write_str(" has no cell"),
         }
-        RoundNote::AnotherBye => {
-            format!(in alloc; "note line {line}: round {round} is another bye")
-        }
-        RoundNote::HalfPoint => {
-            format!(in alloc; "note line {line}: round {round} gives half a point in all")
-        }
-        RoundNote::NoPoint => {
-            format!(in alloc; "note line {line}: round {round} gives no point in all")
-        }
-        RoundNote::NoCell => format!(in alloc; "note line {line}: round {round} has no cell"),
     }
 }
 
@@ -116,8 +154,7 @@ fn kind_named<'a>(note: Note<'a>) -> &'a [u8]
 fn put_kind(alloc: Global, text: &mut Vec<u8>, front: &str, kind: &[u8]) -> Result<(), AllocError>
     ensures { OnOk result (text.new.items ≡ text.old.items ++ kind_text front.now kind.now) }
 {
-    let shown = without_controls(alloc, kind)?;
     text.extend_from_slice(front.as_bytes())?;
-    text.extend_from_slice(shown.as_slice())?;
+    put_without_controls(alloc, text, kind)?;
     text.extend_from_slice(b"\n")
 }

@@ -1,5 +1,6 @@
 // The lines of `check --notes` beside a refusal: what was found.
-ghost use Rattle.std.specs.Prelude.{◌≡◌, ◌≢◌, ◌≤◌, ◌++◌, IfOk, Err, Ok, codes, string_bytes};
+ghost use Rattle.std.specs.Prelude.{◌≡◌, ◌≢◌, ◌≤◌, ◌++◌, [], IfOk, Err, Ok, codes, string_bytes};
+ghost use Rattle.std.specs.Option.{option_map_or};
 ghost use Rattle.trf16.specs.Prelude.{verdict_unsummed};
 ghost use Rattle.report_notes.specs.RefusalNotes.{alone_in_bytes, are_lines_read, fits_in_bytes};
 ghost use Rattle.replies.specs.RefusalNoteTexts.{bytes_text, columns_text, held_text, line_in_bytes, line_note};
@@ -10,7 +11,7 @@ ghost use Rattle.replies.specs.Statuses.{refusal};
 ghost use Rattle.replies.specs.RefusalTexts.{fault_text};
 
 use crate::cells_note::cells_note;
-use crate::controls::without_controls;
+use crate::controls::put_without_controls;
 use crate::extension_note::extension_note;
 use crate::notes::put_note;
 use crate::points::HalfPoints;
@@ -110,13 +111,20 @@ fn points_note(alloc: Global, player: u16, bytes: &[u8], bye: u16) -> Result<Vec
 fn sums_note(alloc: Global, report: &Report<'_>, player: u16) -> Result<Vec<u8>, AllocError>
     ensures { IfOk result (λ note. note.items ≡ points_note player (Ok report.now)) }
 {
-    let mut note = match sums_of(report, player) {
-        Some(sums) => sums_text(alloc, sums)?.into_bytes(),
-        None => Vec::new(alloc),
-    };
+    let mut note = sums_or_nothing(alloc, sums_of(report, player))?;
     let unfinished = unfinished_text(alloc, report.unfinished())?;
     note.extend_from_slice(unfinished.as_bytes())?;
     Ok(note)
+}
+
+// The sums that a points field was compared with, or nothing.
+fn sums_or_nothing(alloc: Global, sums: Option<Sums>) -> Result<Vec<u8>, AllocError>
+    ensures { IfOk result (λ note. note.items ≡ option_map_or sums_text sums []) }
+{
+    match sums {
+        Some(sums) => Ok(sums_text(alloc, sums)?.into_bytes()),
+        None => Ok(Vec::new(alloc)),
+    }
 }
 
 // The first game without a result, if there is one.
@@ -224,8 +232,7 @@ fn held_text(alloc: Global, place: Option<Columns>, bytes: &[u8]) -> Result<Vec<
         return Ok(Vec::new(alloc));
     };
     let mut text = columns_text(alloc, place)?.into_bytes();
-    let shown = without_controls(alloc, held(bytes, place))?;
-    text.extend_from_slice(shown.as_slice())?;
+    put_without_controls(alloc, &mut text, held(bytes, place))?;
     text.extend_from_slice(b"\"\n")?;
     Ok(text)
 }
