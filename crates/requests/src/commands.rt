@@ -157,14 +157,28 @@ pub fn command_for<'a>(alloc: Global, which: CommandName) -> CommandResult<'a>
     ensures app { IfOk result (λ command. app_of command ≡ app_for which) }
     ensures local { IfOk result (λ command. (fields_of command).has_globals ≡ false) }
 {
+    let texts = texts_of(which);
     match which {
-        CommandName::Check => optioned(alloc, "check", CHECK_TEXTS, &CHECK),
-        CommandName::Format => optioned(alloc, "format", FORMAT_TEXTS, &FORMAT),
-        CommandName::Pair => optioned(alloc, "pair", PAIR_TEXTS, &PAIR),
-        CommandName::Boards => optioned(alloc, "boards", BOARDS_TEXTS, &BOARDS),
-        CommandName::Candidates => optioned(alloc, "candidates", CANDIDATES_TEXTS, &CANDIDATES),
-        CommandName::Explain => optioned(alloc, "explain", EXPLAIN_TEXTS, &EXPLAIN),
-        CommandName::Standings => optioned(alloc, "standings", STANDINGS_TEXTS, &STANDINGS),
+        CommandName::Check => optioned(alloc, "check", texts, &CHECK),
+        CommandName::Format => optioned(alloc, "format", texts, &FORMAT),
+        CommandName::Pair => optioned(alloc, "pair", texts, &PAIR),
+        CommandName::Boards => optioned(alloc, "boards", texts, &BOARDS),
+        CommandName::Candidates => optioned(alloc, "candidates", texts, &CANDIDATES),
+        CommandName::Explain => optioned(alloc, "explain", texts, &EXPLAIN),
+        CommandName::Standings => optioned(alloc, "standings", texts, &STANDINGS),
+    }
+}
+
+// The texts of a command's help.
+fn texts_of(which: CommandName) -> HelpTexts<'static> {
+    match which {
+        CommandName::Check => CHECK_TEXTS,
+        CommandName::Format => FORMAT_TEXTS,
+        CommandName::Pair => PAIR_TEXTS,
+        CommandName::Boards => BOARDS_TEXTS,
+        CommandName::Candidates => CANDIDATES_TEXTS,
+        CommandName::Explain => EXPLAIN_TEXTS,
+        CommandName::Standings => STANDINGS_TEXTS,
     }
 }
 
