@@ -3,11 +3,11 @@
 // may fail.
 ghost use Rattle.std.specs.Prelude.{◌≡◌, IfOk, false};
 ghost use Rattle.clap.specs.declared.Command.{out-Command as fields_of};
-ghost use Rattle.clap.specs.Words.{app_of, new_app, rule_of};
-ghost use Rattle.requests.specs.CommandLine.{HasSameGlobals, app_for, with_option, with_options};
+ghost use Rattle.clap.specs.Words.{app_of, new_app};
+ghost use Rattle.requests.specs.CommandLine.{HasSameGlobals, app_for, with_options};
 
 use crate::arguments::{OptionName, option_for};
-use clap::{Arg, Command};
+use clap::Command;
 use std::alloc::{AllocError, Global};
 
 /// A command, unless memory was refused on the way to it.
@@ -206,7 +206,7 @@ fn with_options<'a>(
 {
     let mut made = command;
     for option in options {
-        made = with_option(made, option_for(alloc, *option))?;
+        made = made.arg(option_for(alloc, *option))?;
     }
     Ok(made)
 }
@@ -220,14 +220,4 @@ pub fn described<'a>(alloc: Global, name: &'a str, texts: HelpTexts<'a>) -> Comm
         .about(texts.about)
         .override_usage(texts.usage)
         .after_help(texts.after_help)
-}
-
-// A command with one more option.
-#[tactic(auto, unfolding(crate::specs::CommandLine::with_option))]
-fn with_option<'a>(command: Command<'a>, option: Arg<'a>) -> CommandResult<'a>
-    requires { option.global ≡ false }
-    ensures app { IfOk result (λ made. app_of made ≡ with_option (app_of command.entry) (rule_of option.entry)) }
-    ensures local { IfOk result (HasSameGlobals command.entry) }
-{
-    command.arg(option)
 }

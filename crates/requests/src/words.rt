@@ -260,23 +260,13 @@ fn with_named<'a>(alloc: Global, command: Command<'a>, name: CommandName) -> Com
     ensures local { IfOk result (HasSameGlobals command.entry) }
 {
     match command_for(alloc, name) {
-        Ok(more) => with_command(command, more),
+        Ok(more) => command.subcommand(more),
         Err(error) => {
             // A call drops it in one step of the proof; left to the end, each of its fields is a step.
             drop(command);
             Err(error)
         }
     }
-}
-
-// A program with one more command.
-#[tactic(auto, unfolding(crate::specs::Words::with_command))]
-fn with_command<'a>(command: Command<'a>, more: Command<'a>) -> CommandResult<'a>
-    requires { (fields_of more).has_globals ≡ false }
-    ensures app { IfOk result (λ made. app_of made ≡ with_command (app_of command.entry) (app_of more.entry)) }
-    ensures local { IfOk result (HasSameGlobals command.entry) }
-{
-    command.subcommand(more)
 }
 
 // The name and the texts of the program.
