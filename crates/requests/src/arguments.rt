@@ -120,7 +120,6 @@ const BY_HELP: &str =
 const BYE_HELP: &str = "Half points that the pairing-allocated bye gives, 0 to 2 [default: 2]";
 
 /// An option, as clap is told of it.
-#[tactic(auto, unfolding(crate::specs::CommandLine::from_rule, crate::specs::CommandLine::count_rule, crate::specs::CommandLine::player_rule, crate::specs::CommandLine::instead_rule, crate::specs::CommandLine::round_rule, crate::specs::CommandLine::rounds_rule, crate::specs::CommandLine::initial_rule, crate::specs::CommandLine::steps_rule, crate::specs::CommandLine::report_rule, crate::specs::CommandLine::notes_rule, crate::specs::CommandLine::points_rule, crate::specs::CommandLine::renumber_rule, crate::specs::CommandLine::names_rule, crate::specs::CommandLine::games_rule, crate::specs::CommandLine::words_rule, crate::specs::CommandLine::by_rule, crate::specs::CommandLine::bye_rule))]
 pub fn option_for<'a>(alloc: Global, which: OptionName) -> Arg<'a>
     ensures rule { rule_of result ≡ rule_for which }
     ensures local { result.global ≡ false }

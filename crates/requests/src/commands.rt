@@ -152,7 +152,6 @@ const STANDINGS_TEXTS: HelpTexts<'static> = HelpTexts {
 };
 
 /// A command of the program.
-#[tactic(auto, unfolding(crate::specs::CommandLine::check_app, crate::specs::CommandLine::format_app, crate::specs::CommandLine::pair_app, crate::specs::CommandLine::boards_app, crate::specs::CommandLine::candidates_app, crate::specs::CommandLine::explain_app, crate::specs::CommandLine::standings_app, crate::specs::CommandLine::with_bracket_rules, crate::specs::CommandLine::with_round_rules, crate::specs::CommandLine::with_table_rules))]
 pub fn command_for<'a>(alloc: Global, which: CommandName) -> CommandResult<'a>
     ensures app { IfOk result (λ command. app_of command ≡ app_for which) }
     ensures local { IfOk result (λ command. (fields_of command).has_globals ≡ false) }
