@@ -17,7 +17,7 @@ use std::cmp::Reverse;
 use std::marker::Model;
 
 /// What the next bracket can be (C.7): its number of pairs, and the least PSD for it.
-#[derive(Debug, Drop)]
+#[derive(Drop)]
 pub struct NextValue {
     pub pairs: usize,
     pub psd: Numbers,
@@ -71,7 +71,7 @@ impl NextValue {
 
 /// The quality of a candidate: the items in the order in which they count. The smaller goes first; of the pairs of the
 /// next bracket the greater.
-#[derive(Debug, Default, Drop, PartialEq, Eq, PartialOrd, Ord)]
+#[derive(Default, Drop, PartialEq, Eq, PartialOrd, Ord)]
 pub struct Quality {
     pub psd: Numbers,
     next_pairs: Reverse<usize>,

@@ -18,7 +18,7 @@ use dutch_player::Field;
 use std::marker::Model;
 
 /// What a bracket is for the round.
-#[derive(Debug, Clone, Copy, PartialEq, Eq)]
+#[derive(Clone, Copy, PartialEq, Eq)]
 pub enum BracketKind {
     /// Its downfloaters move down to the next one.
     Ordinary,
@@ -47,7 +47,7 @@ pub type Seats = ArrayVec<u16, LIMIT>;
 
 /// A bracket that a round reaches: the players moved down and then the residents, all by rank. A player's number in it
 /// is their place, from 1.
-#[derive(Debug, Drop)]
+#[derive(Drop)]
 pub struct Reached {
     pub number: u16,
     pub kind: BracketKind,

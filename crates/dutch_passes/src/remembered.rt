@@ -34,7 +34,7 @@ use std::num::NonZeroUsize;
 const MOST: usize = 64;
 
 /// What a look at the next bracket gives.
-#[derive(Debug, Drop)]
+#[derive(Drop)]
 pub enum Look {
     /// The most pairs, and the least PSD for them, the highest difference first (in half points).
     Value { pairs: usize, psd: Numbers },

@@ -41,7 +41,7 @@ impl Model for Order {
 
 /// The two halves of a bracket's residents, by which their numbers are given what they add. The upper one is the
 /// original S1R where nobody above its end is in S2.
-#[derive(Clone, Copy, Debug)]
+#[derive(Clone, Copy)]
 pub(crate) struct Halves {
     // so many numbers there are
     count: u32,

@@ -16,7 +16,7 @@ use dutch_order::{Filling, Numbers, Prefix};
 use std::marker::Model;
 
 /// Where a player of a bracket stands in the arrangements of a scope.
-#[derive(Debug, Default, Clone, Copy, PartialEq, Eq)]
+#[derive(Default, Clone, Copy, PartialEq, Eq)]
 pub enum Standing {
     /// Anywhere.
     #[default]

@@ -33,7 +33,7 @@ use std::alloc::AllocError;
 use std::marker::Model;
 
 /// The players that the matchings of a floor go over.
-#[derive(Debug, Default, Clone, Copy, PartialEq, Eq)]
+#[derive(Default, Clone, Copy, PartialEq, Eq)]
 pub enum Reach {
     /// The bracket's players alone.
     #[default]
