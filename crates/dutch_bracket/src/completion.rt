@@ -16,7 +16,7 @@ use crate::spending::step;
 use dutch_order::{Budget, LIMIT, Numbers, Rule, Stopped};
 
 /// `Yes` if players are completable, `No` if they are not.
-#[derive(Clone, Copy, PartialEq, Eq)]
+#[derive(Debug, Clone, Copy, PartialEq, Eq)]
 pub enum Answer {
     Yes,
     No,

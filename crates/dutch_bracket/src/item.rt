@@ -8,7 +8,7 @@ use crate::quality::Quality;
 use std::cmp::Ordering;
 
 /// An item of a quality, in the order in which the items count.
-#[derive(Clone, Copy, PartialEq, Eq)]
+#[derive(Clone, Copy)]
 pub enum Item {
     /// The PSD (C.6).
     Psd,

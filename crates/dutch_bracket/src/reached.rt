@@ -18,7 +18,7 @@ use dutch_player::Field;
 use std::marker::Model;
 
 /// What a bracket is for the round.
-#[derive(Clone, Copy, PartialEq, Eq)]
+#[derive(Clone, Copy)]
 pub enum BracketKind {
     /// Its downfloaters move down to the next one.
     Ordinary,

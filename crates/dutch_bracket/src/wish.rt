@@ -13,7 +13,7 @@ use crate::fixed_lists::FixedLists;
 use dutch_order::Candidate;
 
 /// What is wished of a candidate. Players are named by their numbers in the bracket.
-#[derive(Clone, Copy, PartialEq, Eq)]
+#[derive(Clone, Copy)]
 pub enum Wish {
     /// These two meet, in whatever order they are named.
     Pair(u16, u16),

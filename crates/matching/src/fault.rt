@@ -5,7 +5,7 @@ ghost use Rattle.matching.specs.declared.fault.Fault.TheVariants.{OutOfMemory};
 use std::alloc::AllocError;
 
 /// Why a search gives nothing.
-#[derive(Clone, Copy)]
+#[derive(Debug, Clone, Copy)]
 pub enum Fault {
     /// Memory was refused.
     OutOfMemory,

@@ -5,7 +5,7 @@ ghost use Rattle.tiebreak.specs.declared.fault.TieFault.TheVariants.{OutOfMemory
 use std::alloc::{AllocError, AllocFailed};
 
 /// Why a report has no standings. Lines and rounds count from 1.
-#[derive(Clone, Copy, PartialEq)]
+#[derive(Clone, Copy)]
 pub enum TieFault {
     /// A game has no result yet.
     Unfinished { player: u16, round: usize },

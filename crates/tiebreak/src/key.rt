@@ -1,7 +1,7 @@
 // The keys that break ties.
 
 /// What tells players of one score apart.
-#[derive(Clone, Copy, PartialEq, Eq)]
+#[derive(Clone, Copy)]
 pub enum Key {
     /// Direct encounter: the half points of the games among those who are level so far, if all of them have met.
     Direct,

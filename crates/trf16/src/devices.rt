@@ -9,7 +9,7 @@ use std::io::{Read, Write};
 pub const MOST_COUNTED: u64 = u64::MAX;
 
 /// A call of a device failed.
-#[derive(Clone, Copy, PartialEq)]
+#[derive(Debug, Clone, Copy, PartialEq)]
 pub struct Failed;
 
 /// What bytes are read from, one call at a time. An answer of 0 to a call with room is the end.
