@@ -8,7 +8,6 @@ ghost use Rattle.command_line.specs.ExplainAnswers.{AnswersExplain, ExplainsAske
 ghost use Rattle.command_line.specs.ExplainAnswers.{TellsPaired, about_text, front_text, present_text};
 ghost use Rattle.replies.specs.Prelude.{answer_of, question_fault, seen_before};
 
-use stage_lines::bracket_lines::put_stages;
 use crate::instead::{AskedInSteps, Paired, instead};
 use crate::not_paired::{no_pairing_because, undecided};
 use dutch_pair::{AllStages, stages};
@@ -21,6 +20,7 @@ use requests::ExplainOptions;
 use round_lines::page::Page;
 use round_lines::telling::Telling;
 use round_lines::{Asked, put_absent, put_player, put_round};
+use stage_lines::bracket_lines::put_stages;
 use std::alloc::{AllocError, Global};
 use trf16::Report;
 

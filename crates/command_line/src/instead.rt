@@ -12,7 +12,6 @@ ghost use Rattle.stage_lines.specs.InsteadTexts.{in_bracket, instead_text, searc
 ghost use Rattle.round_lines.specs.Obstacles.{obstacle_text};
 ghost use Rattle.replies.specs.Prelude.{answer_of, done};
 
-use stage_lines::instead_lines::{put_found, put_front, put_granted};
 use crate::not_paired::undecided;
 use dutch_pair::{Instead, Stage, Wish, best_instead};
 use dutch_player::Field;
@@ -21,6 +20,7 @@ use replies::{Reply, Status};
 use round_lines::page::Page;
 use round_lines::telling::Telling;
 use round_lines::{Asked, Obstacle, against_bye, against_meeting, put_obstacle};
+use stage_lines::instead_lines::{put_found, put_front, put_granted};
 use std::alloc::{AllocError, Global};
 use std::marker::Model;
 

@@ -6,13 +6,13 @@ ghost use Rattle.command_line.specs.ExplainAnswers.{TellsWhy, asked_text, line_t
 ghost use Rattle.stage_lines.specs.InsteadTexts.{undecided_in};
 ghost use Rattle.replies.specs.Prelude.{answer_of};
 
-use stage_lines::barrier_lines::put_barrier;
 use dutch_pair::{Barrier, barrier_of};
 use replies::{Reply, Status, texts};
 use requests::{Question, Wording};
 use round_lines::page::Page;
 use round_lines::telling::{Telling, in_wording};
 use round_lines::{put_absent, put_player};
+use stage_lines::barrier_lines::put_barrier;
 use std::alloc::{AllocError, Global};
 
 /// No pairing meets the absolute criteria; behind that why, where a search of so many steps finds it, and what the
