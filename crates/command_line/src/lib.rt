@@ -3,8 +3,7 @@
 //! streams.
 //!
 //! The commands that pair stand here, each in a file of its name: `pair`, `candidates` and `explain`, and `boards`, which
-//! prints boards as `pair` does. `explain` puts its lines together from those of `stage_lines` and `round_lines`. `laws`
-//! holds what is proved of the reasons that it tells alone: each is true.
+//! prints boards as `pair` does. `explain` puts its lines together from those of `stage_lines` and `round_lines`.
 //!
 //! To mind: a text is made whole in memory, and if memory is refused, the call says so.
 #![tactic(auto)]
@@ -13,7 +12,6 @@ mod boards;
 mod candidates;
 mod explain;
 mod instead;
-pub mod laws;
 mod not_paired;
 mod pair;
 mod running;

@@ -8,7 +8,7 @@ use Rattle.dutch_pair.proofs.EverybodyStands.{stands_in_one as stands_in_a_brack
 use Rattle.dutch_pair.specs.declared.stage.Stage.{Stage}
 use Rattle.dutch_bracket.specs.declared.wish.Wish.{Wish}
 use Rattle.command_line.specs.InsteadAnswers.{IsRival, decided_in, goes_on, stands_in, stands_in_one, wish_in}
-use Rattle.command_line.specs.InsteadLaws.{IsDecidedIn, IsLastOf, IsLastOfOne}
+use Rattle.answer_laws.specs.InsteadLaws.{IsDecidedIn, IsLastOf, IsLastOfOne}
 use Rattle.command_line.specs.declared.instead.Rival.{Rival}
 use Rattle.command_line.specs.declared.instead.Rival.TheVariants.{Bye, Seat}
 

@@ -8,8 +8,8 @@ ghost use Rattle.dutch_pair.specs.declared.stage.Stage.{Stage};
 ghost use Rattle.dutch_bracket.specs.declared.wish.Wish.{Wish};
 ghost use Rattle.command_line.specs.InsteadAnswers.{decided_in, IsRival};
 ghost use Rattle.command_line.specs.declared.instead.Rival.{Rival};
-ghost use Rattle.command_line.specs.InsteadLaws.{IsDecidedIn, NoneCanBeChosen, NoneWithAsManyMovedDown};
-ghost use Rattle.command_line.specs.InsteadLaws.{NoneWithAsManyPairs, StandsAgainstBye, StandsAgainstMeeting};
+ghost use Rattle.answer_laws.specs.InsteadLaws.{IsDecidedIn, NoneCanBeChosen, NoneWithAsManyMovedDown};
+ghost use Rattle.answer_laws.specs.InsteadLaws.{NoneWithAsManyPairs, StandsAgainstBye, StandsAgainstMeeting};
 ghost use Rattle.round_lines.specs.Obstacles.{against_bye, against_meeting};
 ghost use Rattle.round_lines.specs.declared.obstacle.Obstacle.{Obstacle};
 

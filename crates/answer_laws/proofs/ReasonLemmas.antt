@@ -14,7 +14,7 @@ use Rattle.dutch_bracket.specs.declared.wish.Wish.{Wish}
 use Rattle.dutch_choice.proofs.BestGranting.{found_in, none_by_test}
 use Rattle.dutch_pair.proofs.InsteadLemmas.{stage_shape}
 use Rattle.dutch_bracket.proofs.ShapeLaws.{has_room, none_is_greater, room_by_test}
-use Rattle.command_line.specs.InsteadLaws.{IsLegalWith, NoneCanBeChosen, NoneWithAsManyMovedDown, NoneWithAsManyPairs}
+use Rattle.answer_laws.specs.InsteadLaws.{IsLegalWith, NoneCanBeChosen, NoneWithAsManyMovedDown, NoneWithAsManyPairs}
 
 member_of : (a : Arrangement) (all : List Arrangement) → IsIn a all → has_member all ≡ true
 member_of a [] m = absurd m

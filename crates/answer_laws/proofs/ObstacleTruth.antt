@@ -10,7 +10,7 @@ use Rattle.dutch_player.specs.declared.preference.Pref.{Pref}
 use Rattle.trf16.specs.Prelude.{apart, Sheet, cell_in, rounds_played}
 use Rattle.trf16.specs.declared.cell.Colour.{Colour}
 use Rattle.trf16.specs.declared.cell.Colour.TheVariants.{White, Black}
-use Rattle.command_line.specs.InsteadLaws.{HaveMetFirst, ColoursClash, StandsAgainstMeeting, StandsAgainstBye}
+use Rattle.answer_laws.specs.InsteadLaws.{HaveMetFirst, ColoursClash, StandsAgainstMeeting, StandsAgainstBye}
 use Rattle.round_lines.specs.Obstacles.{against_bye, against_meeting, first_against, first_meeting, has_played, is_even}
 use Rattle.round_lines.specs.declared.obstacle.Obstacle.{Obstacle}
 use Rattle.round_lines.specs.declared.obstacle.Obstacle.TheVariants.{Met, Apart, Colours, HadBye, Even}

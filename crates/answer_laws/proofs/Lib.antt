@@ -1,0 +1,3 @@
+pub mod ObstacleTruth
+pub mod DecidedLemmas
+pub mod ReasonLemmas

@@ -1,0 +1,2 @@
+-- What the laws of answers name.
+pub mod InsteadLaws

@@ -1,6 +1,0 @@
--- The law is the lemma.
-use Rattle.command_line.proofs.ReasonLemmas.{none_with_as_many_pairs}
-use Rattle.command_line.proofs.laws.where_c5_is_told_none_has_as_many_pairs.Goals as goal
-
-pub returns : goal.returns
-returns c = none_with_as_many_pairs
