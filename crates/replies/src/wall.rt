@@ -41,24 +41,24 @@ fn board_lines(
     let before = report.rounds_played();
     let mut lines = Vec::new(alloc);
     for (i, board) in boards.iter().enumerate() {
-        lines.push(board_line(alloc, report, before, i + 1, *board)?)?;
+        let line = numbered(alloc, i + 1)?;
+        lines.push(with_board(line, report, before, *board)?)?;
     }
     Ok(lines)
 }
 
-// The line of a board: its number, and the board with the scores of the rounds before.
-fn board_line(
-    alloc: Global,
+// A line, and behind it a board with the scores of the rounds before.
+fn with_board(
+    line: TableLine,
     report: &Report<'_>,
     before: u8,
-    number: usize,
     board: Board,
 ) -> Result<TableLine, AllocError>
-    ensures { IfOk result (λ line. line ≡ right (decimal number) ∷ board_labels report.now before board) }
+    ensures { IfOk result (λ longer. longer ≡ line ++ board_labels report.now before board) }
 {
-    let mut line = numbered(alloc, number)?;
-    push_board(&mut line, report, before, board)?;
-    Ok(line)
+    let mut longer = line;
+    push_board(&mut longer, report, before, board)?;
+    Ok(longer)
 }
 
 /// The boards of a round that was paired, with names, the scores before that round, and the results.
@@ -86,26 +86,26 @@ fn played_lines(
 {
     let mut lines = Vec::new(alloc);
     for (i, board) in boards.iter().enumerate() {
-        lines.push(played_line(alloc, report, round, i + 1, *board)?)?;
+        let line = numbered(alloc, i + 1)?;
+        lines.push(with_played(line, report, round, *board)?)?;
     }
     Ok(lines)
 }
 
-// The line of a board that was paired, with its result.
-fn played_line(
-    alloc: Global,
+// A line, and behind it a board that was paired, with its result.
+fn with_played(
+    line: TableLine,
     report: &Report<'_>,
     round: u8,
-    number: usize,
     board: Board,
 ) -> Result<TableLine, AllocError>
     requires { 0 < round }
-    ensures { IfOk result (λ line. line
-        ≡ right (decimal number) ∷ board_labels report.now (round - 1) board ++ result_labels report.now round board) }
+    ensures { IfOk result (λ longer. longer
+        ≡ line ++ (board_labels report.now (round - 1) board ++ result_labels report.now round board)) }
 {
-    let mut line = board_line(alloc, report, round - 1, number, board)?;
-    push_result(&mut line, report, round, board)?;
-    Ok(line)
+    let mut longer = with_board(line, report, round - 1, board)?;
+    push_result(&mut longer, report, round, board)?;
+    Ok(longer)
 }
 
 /// The standings with names: for each player the place, name, score, the values of the keys, and the games if they are
@@ -136,25 +136,25 @@ fn row_lines(
 {
     let mut lines = Vec::new(alloc);
     for (i, row) in rows.iter().enumerate() {
-        lines.push(row_line(alloc, options, report, i + 1, row)?)?;
+        let line = numbered(alloc, i + 1)?;
+        lines.push(with_row(line, options, report, row)?)?;
     }
     Ok(lines)
 }
 
-// The line of a row: its place, and the row.
-fn row_line(
-    alloc: Global,
+// A line, and behind it a row.
+fn with_row(
+    line: TableLine,
     options: &StandingsOptions,
     report: &Report<'_>,
-    place: usize,
     row: &Row,
 ) -> Result<TableLine, AllocError>
-    ensures { IfOk result (λ line. line ≡ right (decimal place) ∷ row_labels report.now options.now.keys row.now
-        ++ games_labels report.now row.now.start (rounds_shown options.now report.now)) }
+    ensures { IfOk result (λ longer. longer ≡ line ++ (row_labels report.now options.now.keys row.now
+        ++ games_labels report.now row.now.start (rounds_shown options.now report.now))) }
 {
-    let mut line = numbered(alloc, place)?;
-    push_row(&mut line, options, report, row)?;
-    Ok(line)
+    let mut longer = line;
+    push_row(&mut longer, options, report, row)?;
+    Ok(longer)
 }
 
 // Lines as a table of so many columns.
