@@ -1,5 +1,5 @@
 -- Marks of which none is set, one of them that is set or taken away, and the places of some.
-use Rattle.std.proofs.Common.{◌≡◌, ℕ, zero, suc, ◌+◌, ◌*◌, ◌<◌, ◌≤◌, Bool, true, false, cond, ◌&&◌, ◌||◌, ◌==◌, nat_eq, List, [], ◌∷◌, Option, Some, None, length, refl, sym, ap, ◌∙◌, nat_lt, slice_index_or, get_or, replicate, inl, inr, ◌≢◌, arith}
+use Rattle.std.proofs.Common.{◌≡◌, ℕ, zero, suc, ◌+◌, ◌*◌, ◌<◌, ◌≤◌, Bool, true, false, cond, ◌&&◌, ◌||◌, ◌==◌, nat_eq, List, [], ◌∷◌, Option, Some, None, length, refl, sym, ap, ◌∙◌, nat_lt, slice_index_or, get_or, inl, inr, ◌≢◌, arith}
 use Rattle.std.specs.List.{AllClonesOf, IsDistinct, position, position_from}
 use Rattle.std.specs.Option.{option_map_or}
 use Rattle.std.proofs.Math.ListN.{set}
@@ -19,16 +19,6 @@ none_marked [] i all = refl
 none_marked (mark ∷ marks) zero (inl same, rest) = same
 none_marked (mark ∷ marks) zero (inr same, rest) = same
 none_marked (mark ∷ marks) (suc i) (here, rest) = none_marked marks i rest
-
-pub all_false : (marks : List Bool) → AllClonesOf (λ x y. y ≡ x) false marks → marks ≡ replicate (length marks) false
-all_false [] all = refl
-all_false (mark ∷ marks) (inl same, rest) = rw same (ap (λ (others : List Bool). false ∷ others) (all_false marks rest))
-all_false (mark ∷ marks) (inr same, rest) = rw same (ap (λ (others : List Bool). false ∷ others) (all_false marks rest))
-
-pub none_of : (n k : ℕ) → slice_index_or (replicate n false) k false ≡ false
-none_of zero k = refl
-none_of (suc n) zero = refl
-none_of (suc n) (suc k) = none_of n k
 
 -- a place in a later row of n stands behind each in an earlier one
 row_behind : (n i j k l : ℕ) → j < n → i < k → n * i + j < n * k + l
@@ -69,14 +59,6 @@ marked_at marks n i j k l room room' within =
           ]) in
           get_or-set_other marks (n * i + j) (n * k + l) true false not
           ∙ sym (rw (other.0) (or-false (slice_index_or marks (n * k + l) false)))
-    ]
-
--- one mark is set alone
-pub one_set : (marks : List Bool) (i k : ℕ) → i < length marks → slice_index_or (set marks i true) k false ≡ (slice_index_or marks k false || (i == k))
-one_set marks i k within =
-    elim (eqb_tells i k) [
-      | inl same ↦ get_or-set_at marks i k true false (sym same.1) within ∙ sym (rw same.0 (or-true (slice_index_or marks k false)))
-      | inr other ↦ get_or-set_other marks i k true false (λ e. other.1 (sym e)) ∙ sym (rw other.0 (or-false (slice_index_or marks k false)))
     ]
 
 -- a mark joined by another in its row and place alone

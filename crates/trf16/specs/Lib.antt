@@ -11,6 +11,7 @@ pub mod Answering
 pub mod Verdict
 pub mod Meetings
 pub mod Absence
+pub mod Places
 pub mod Notes
 pub mod Unfinished
 pub mod Written

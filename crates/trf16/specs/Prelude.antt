@@ -13,6 +13,7 @@ pub use Rattle.trf16.specs.Verdict.{carried_line, has_too_many_rounds, is_blank_
 unfoldable pub use Rattle.trf16.specs.Verdict.{blank_at, blanks_at, cells_at, colour_onto, laid_out, line_onto, lines_onto, player_at, player_onto, points_at, round_at, rounds_at, rounds_onto, sized, start_at, start_number_at, start_ranks_onto, verdict}
 pub use Rattle.trf16.specs.Meetings.{AnswerEachOther, AreSum, HavePoints, IsAnswered}
 pub use Rattle.trf16.specs.Absence.{absent, apart, apart_from, first_at, first_of, is_absence, is_named_absent, is_of, some_carried}
+pub use Rattle.trf16.specs.Places.{is_place}
 pub use Rattle.trf16.specs.Notes.{Tells, TellsApart, are_marked, begins_with_x, earlier, first_noted, has_start, is_kind_of, is_marked, is_same_kind, noted_first}
 pub use Rattle.trf16.specs.Unfinished.{first_unfinished, is_unfinished, unfinished, unfinished_of}
 pub use Rattle.trf16.specs.Written.{blanks, bye_letter, cell_text, colour_letter, left_in, lines_text, meeting_text, outcome_letter, player_text, points_field, points_text, right_in_four, round_text, written}

@@ -1,9 +1,10 @@
 // Marking which players are named together by lines `XXP`: each line names a set, and each two of it are marked.
-ghost use Rattle.std.specs.Prelude.{◌≡◌, ℕ, ◌<◌, ◌≤◌, ◌&&◌, ◌||◌, ◌==◌, ◌+◌, ◌*◌, false, length, slice_index_or};
-ghost use Rattle.std.specs.Prelude.{IfOk, replicate, vec_len};
+ghost use Rattle.std.specs.Prelude.{◌≡◌, ℕ, ◌<◌, ◌≤◌, ◌&&◌, ◌||◌, ◌==◌, ◌+◌, ◌*◌, [], false, length, slice_index_or};
+ghost use Rattle.std.specs.Prelude.{IfOk, vec_len};
 ghost use Rattle.std.specs.Map.{keys_of};
 ghost use Rattle.trf16.specs.Lines.{lines, columns};
 ghost use Rattle.trf16.specs.Extensions.{names_both};
+ghost use Rattle.trf16.specs.Places.{is_place};
 ghost use Rattle.trf16.specs.Notes.{are_marked, start_at};
 ghost use Rattle.trf16.specs.Verdict.{without_players};
 ghost use Rattle.trf16.specs.Absence.{some_carried};
@@ -13,7 +14,7 @@ use crate::apart::Apart;
 use crate::columns::split_kind;
 use crate::extensions::is_word;
 use crate::lines::next_line;
-use crate::named::mark_words;
+use crate::named::Named;
 use crate::player::Player;
 use indexmap::IndexMap;
 use std::alloc::{AllocError, Global};
@@ -73,16 +74,16 @@ impl Apart {
     }
 
     // Marks each two of those who are named.
-    fn mark_each_two(&mut self, named: &[bool])
-        requires count { length named.now ≡ self.old.count }
+    fn mark_each_two(&mut self, named: &Named)
+        requires count { vec_len named.now.marks ≡ self.old.count }
         requires room { vec_len self.old.marks ≡ self.old.count * self.old.count }
-        ensures marked { (k l : ℕ) → k < self.old.count → l < self.old.count → are_marked self.new k l
-            ≡ (are_marked self.old k l || (slice_index_or named.now l false && slice_index_or named.now k false)) }
+        ensures marked { (k l : ℕ) → l < self.old.count → are_marked self.new k l
+            ≡ (are_marked self.old k l || (is_place named.now.places.items k && is_place named.now.places.items l)) }
         ensures same { self.new.count ≡ self.old.count }
         ensures room { vec_len self.new.marks ≡ self.new.count * self.new.count }
     {
-        for place in 0..named.len() {
-            mark_row(&mut self.marks, place, named);
+        for place in &named.places {
+            mark_row(&mut self.marks, *place, &named.marks);
         }
     }
 
@@ -90,26 +91,29 @@ impl Apart {
     fn mark_line(
         &mut self,
         players: &IndexMap<u16, Player<'_>>,
-        named: &mut [bool],
+        named: &mut Named,
         line: RawLine<'_>,
-    )
+    ) -> Result<(), AllocError>
         requires count { self.old.count ≡ length players.now.entries }
         requires room { vec_len self.old.marks ≡ self.old.count * self.old.count }
-        requires nobody { named.old ≡ replicate (length players.now.entries) false }
-        ensures marked { (k l : ℕ) → k < self.old.count → l < self.old.count
+        requires nobody { named.old.places.items ≡ [] }
+        requires all { vec_len named.old.marks ≡ length players.now.entries }
+        ensures marked { IfOk result (λ _. (k l : ℕ) → k < self.old.count → l < self.old.count
             → are_marked self.new k l ≡ (are_marked self.old k l || names_both (start_at (keys_of players.now.entries) k)
-            (start_at (keys_of players.now.entries) l) (columns line.entry.utf8 line.entry.bytes.now)) }
+            (start_at (keys_of players.now.entries) l) (columns line.entry.utf8 line.entry.bytes.now))) }
         ensures same { self.new.count ≡ self.old.count }
         ensures room { vec_len self.new.marks ≡ self.new.count * self.new.count }
-        ensures nobody { named.new ≡ named.old }
+        ensures nobody { IfOk result (λ _. named.new.places.items ≡ []) }
+        ensures all { vec_len named.new.marks ≡ vec_len named.old.marks }
     {
         let (kind, rest) = split_kind(line.bytes, line.utf8);
         if !is_word(kind, b"XXP") {
-            return;
+            return Ok(());
         }
-        mark_words(named, players, rest);
+        named.add_words(players, rest)?;
         self.mark_each_two(named);
-        named.fill(false);
+        named.clear();
+        Ok(())
     }
 
     /// Who is named together by the lines of a text.
@@ -126,30 +130,26 @@ impl Apart {
         ensures count { IfOk result (λ apart. apart.count ≡ length players.now.entries) }
     {
         let mut apart = Apart::with_room(alloc, players.len())?;
-        let mut named = Vec::from_elem(alloc, false, players.len())?;
+        let mut named = Named::none(alloc, players.len())?;
         let mut rest = text;
         while !rest.is_empty() {
             let (line, after) = next_line(rest);
-            apart.mark_line(players, &mut named, RawLine { bytes: line, utf8 });
+            apart.mark_line(players, &mut named, RawLine { bytes: line, utf8 })?;
             rest = after;
         }
         Ok(apart)
     }
 }
 
-// If a player is named, marks in their row each who is.
+// Marks in the row of a player each who is named.
 fn mark_row(marks: &mut [bool], i: usize, named: &[bool])
     requires row { i < length named.now }
     requires few { length named.now ≤ MOST_PLAYERS }
     requires room { length marks.old ≡ length named.now * length named.now }
     ensures marked { let n = length named.now in (k l : ℕ) → l < n → slice_index_or marks.new (n * k + l) false
-        ≡ (slice_index_or marks.old (n * k + l) false || (slice_index_or named.now l false
-        && ((i == k) && slice_index_or named.now i false))) }
+        ≡ (slice_index_or marks.old (n * k + l) false || ((i == k) && slice_index_or named.now l false)) }
     ensures len { length marks.new ≡ length marks.old }
 {
-    if !named[i] {
-        return;
-    }
     let front = named.len() * i;
     for place in 0..named.len() {
         marks[front + place] |= named[place];

@@ -1,6 +1,6 @@
 -- Who is marked, and whom the lines to come name together, are together whom all lines name so.
-use Rattle.std.proofs.Common.{◌≡◌, ℕ, ◌*◌, ◌<◌, ◌||◌, false, length}
-use Rattle.std.specs.Prelude.{replicate, vec_len}
+use Rattle.std.proofs.Common.{◌≡◌, ℕ, ◌*◌, ◌<◌, ◌||◌, [], length}
+use Rattle.std.specs.Prelude.{vec_len}
 use Rattle.std.specs.Map.{keys_of}
 use Rattle.trf16.specs.Prelude.{lines, names_both, are_marked}
 use Rattle.trf16.specs.Notes.{start_at}
@@ -14,7 +14,8 @@ invariant-loop-rest l = record {
       ≡ some_of (names_both (start_at (keys_of l.players.entries) i) (start_at (keys_of l.players.entries) j)) l.utf8 (lines l.text);
   count : l.apart.count ≡ length l.players.entries;
   room : vec_len l.apart.marks ≡ l.apart.count * l.apart.count;
-  nobody : l.named.items ≡ replicate (length l.players.entries) false;
+  nobody : l.named.places.items ≡ [];
+  all : vec_len l.named.marks ≡ length l.players.entries;
 }
 
 abbrev pub decreases-loop-rest : goal.decreases-loop-rest
