@@ -1,10 +1,9 @@
 -- How a line falls into columns, step by step.
 use Rattle.std.proofs.Common.{◌≡◌, ℕ, zero, suc, ◌+◌, ◌-◌, ◌<◌, ◌≤◌, Bool, true, false, ◌&&◌, cond, get_or, inl, inr, subst, List, [], ◌∷◌, ◌++◌, length, take, drop, refl, sym, ap, ◌∙◌, append_assoc, arith}
-use Rattle.std.proofs.lemmas.List.{append-nil, length-append, length-drop, drop-drop, drop_at, length-take-le, drop_all, get_or-set_other, take-append-drop, take_all}
-use Rattle.std.proofs.Math.Seq.{take-add}
+use Rattle.std.proofs.lemmas.List.{append-nil, length-append, length-drop, drop-drop, drop_at, length-take-le, drop_all, take-append-drop, take_all, get_or_past}
+use Rattle.std.proofs.Math.Seq.{take-add, get_or-append_seam}
 use Rattle.std.proofs.lemmas.Bool.{cases_lt}
-use Rattle.std.proofs.Math.ListN.{set}
-use Rattle.std.proofs.lemmas.Grind.{get_or-set_at}
+use Rattle.std.proofs.Math.ListN.{get_or-append}
 use Rattle.trf16.specs.Prelude.{onto_first, goes_on, columns, joined, IsStart, AllStart}
 
 pub columns-bytes : (b : ℕ) (rest : List ℕ) → columns false (b ∷ rest) ≡ (b ∷ []) ∷ columns false rest
@@ -89,14 +88,14 @@ text_between utf8 bytes i j a b le start end =
     (omega arith, ap (λ (bs : List ℕ). drop a bs) parts ∙ drop_at (take a bytes) middle a first)
 
 -- one more place is noted
-pub AllStart-set : (utf8 : Bool) (bytes starts : List ℕ) (i at : ℕ) → AllStart utf8 bytes starts i → IsStart utf8 bytes i at → i < length starts
-    → AllStart utf8 bytes (set starts i at) (i + 1)
-AllStart-set utf8 bytes starts i at before here room j lt =
-    elim (cases_lt j i) [
-      | inl below ↦ rw (get_or-set_other starts i j at 0 (λ e. omega (arith, below, e))) (before j below)
+pub AllStart-push : (utf8 : Bool) (bytes starts : List ℕ) (at : ℕ) → AllStart utf8 bytes starts (length starts) → IsStart utf8 bytes (length starts) at
+    → AllStart utf8 bytes (starts ++ at ∷ []) (length starts + 1)
+AllStart-push utf8 bytes starts at before here j lt =
+    elim (cases_lt j (length starts)) [
+      | inl below ↦ rw (get_or-append starts (at ∷ []) (length bytes) j below) (before j below)
       | inr above ↦
-          let same : i ≡ j = omega arith in
-          subst (λ n. IsStart utf8 bytes n (get_or (set starts i at) n 0)) same (rw (get_or-set_at starts i i at 0 refl room) here)
+          let same : length starts ≡ j = omega arith in
+          subst (λ n. IsStart utf8 bytes n (get_or (starts ++ at ∷ []) n (length bytes))) same (rw (get_or-append_seam starts at [] (length bytes)) here)
     ]
 
 -- where a column would begin at the end of the line, so would each further one
@@ -114,16 +113,17 @@ IsStart-further utf8 bytes n k start le =
       back = ap (columns utf8) end ∙ sym further;
     }
 
--- the places behind one that is noted are the end of the line, where each further column would begin
-pub AllStart-whole : (utf8 : Bool) (bytes starts : List ℕ) (n at count : ℕ) → AllStart utf8 bytes starts n → IsStart utf8 bytes n at → length bytes ≤ at
-    → ((k : ℕ) → n ≤ k → k < count → get_or starts k 0 ≡ length bytes) → AllStart utf8 bytes starts count
-AllStart-whole utf8 bytes starts n at count before here ended behind j lt =
-    elim (cases_lt j n) [
+-- the places that are noted are enough: the line ends where the next column would begin
+pub AllStart-whole : (utf8 : Bool) (bytes starts : List ℕ) (at count : ℕ) → AllStart utf8 bytes starts (length starts) → IsStart utf8 bytes (length starts) at
+    → length bytes ≤ at → AllStart utf8 bytes starts count
+AllStart-whole utf8 bytes starts at count before here ended j lt =
+    elim (cases_lt j (length starts)) [
       | inl below ↦ before j below
       | inr above ↦
           let within : at ≤ length bytes = here.within in
           let same : at ≡ length bytes = omega arith in
-          rw (behind j above lt) (IsStart-further utf8 bytes n j (subst (λ a. IsStart utf8 bytes n a) same here) above)
+          rw (get_or_past starts j (length bytes) above)
+          (IsStart-further utf8 bytes (length starts) j (subst (λ a. IsStart utf8 bytes (length starts) a) same here) above)
     ]
 
 -- a column that would begin at the end of the line is missing

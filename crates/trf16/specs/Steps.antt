@@ -1,5 +1,5 @@
 -- What the inner functions cut off a text, one step at a time.
-use Rattle.std.specs.Prelude.{◌≡◌, ℕ, ◌<◌, ◌≤◌, Bool, ◌&&◌, ◌==◌, if◌then◌else◌, List, [], ◌∷◌, length, take, drop, map, slice_index, Option, option_map, Result}
+use Rattle.std.specs.Prelude.{◌≡◌, ℕ, ◌<◌, ◌≤◌, Bool, ◌&&◌, ◌==◌, if◌then◌else◌, List, [], ◌∷◌, length, take, drop, map, slice_index_or, Option, option_map, Result}
 use Rattle.trf16.specs.Lines.{columns, joined}
 use Rattle.std.specs.Str.{byte}
 use Rattle.trf16.specs.Sheet.{Sheet}
@@ -20,9 +20,10 @@ pub record IsStart (utf8 : Bool) (bytes : List ℕ) (before at : ℕ) : Type 0 w
   pub front : take at bytes ≡ joined (take before (columns utf8 bytes))
   pub back : columns utf8 (drop at bytes) ≡ drop before (columns utf8 bytes)
 
--- the first `count` of these places are where columns begin, one after the other; behind the last column each begins at the end of the line
+-- the first `count` of these places are where columns begin, one after the other; where there are fewer places, each further column
+-- begins at the end of the line
 abbrev pub AllStart : Bool → List ℕ → List ℕ → ℕ → Type 0
-AllStart utf8 bytes starts count = (k : ℕ) → k < count → IsStart utf8 bytes k (slice_index starts k)
+AllStart utf8 bytes starts count = (k : ℕ) → k < count → IsStart utf8 bytes k (slice_index_or starts k (length bytes))
 
 -- a line as it is carried: not where it is a player's; and if absences are bare, of a line XXZ the kind alone
 abbrev pub carried_as : Bool → Bool → List ℕ → Option (List ℕ)

@@ -1,24 +1,22 @@
 // The columns of a line: its characters if the text is UTF-8, otherwise its bytes. They are found once for each
 // player's line, up to the last that is read.
-ghost use Rattle.std.specs.Prelude.{◌≡◌, ℕ, ◌+◌, ◌-◌, ◌<◌, ◌≤◌, ◌∷◌, List, length, slice_index, take, drop, true};
-ghost use Rattle.std.specs.Prelude.{false, not, []};
+ghost use Rattle.std.specs.Prelude.{◌≡◌, ℕ, ◌+◌, ◌-◌, ◌<◌, ◌≤◌, List, [], length, slice_index, slice_index_or, take, drop};
+ghost use Rattle.std.specs.Prelude.{true, false, not, IfOk};
 ghost use Rattle.trf16.specs.Lines.{columns, goes_on, text, joined, is_blank};
-ghost use Rattle.trf16.specs.Steps.{IsStart, AllStart};
+ghost use Rattle.trf16.specs.Steps.{AllStart};
 ghost use Rattle.trf16.specs.declared.limits.TheConstants.{LAST_COLUMN};
 
 use crate::limits::LAST_COLUMN;
+use std::alloc::{AllocError, Global};
 use std::marker::Model;
-
-// The columns up to the one that ends the last round that there can be, and the one behind them.
-const PLACES: usize = LAST_COLUMN + 1;
 
 /// The columns of a line up to the one that ends the last round that there can be, found once.
 #[derive(Drop)]
 pub(crate) struct Line<'a> {
     bytes: &'a [u8],
     utf8: bool,
-    // where each of these columns begins; where the line ends before, the place of its end
-    starts: [usize; PLACES],
+    // where each of these columns begins, and the one behind them; where the line ends before, no further place
+    starts: Vec<usize>,
 }
 
 impl<'a> Model for Line<'a> {
@@ -26,7 +24,7 @@ impl<'a> Model for Line<'a> {
 
     ghost view = { λ l. columns l.utf8 l.bytes.now };
 
-    ghost invariant = { λ l. AllStart l.utf8 l.bytes.now l.starts (LAST_COLUMN + 1) };
+    ghost invariant = { λ l. AllStart l.utf8 l.bytes.now l.starts.items (LAST_COLUMN + 1) };
 }
 
 // How many bytes in front go on with a character.
@@ -35,12 +33,10 @@ fn follow_len(bytes: &[u8]) -> usize
     ensures inside { (k : ℕ) → k < result → goes_on (slice_index bytes.now k) ≡ true }
     ensures behind { result < length bytes.now → goes_on (slice_index bytes.now result) ≡ false }
 {
-    for (i, byte) in bytes.iter().enumerate() {
-        if *byte < 0x80 || 0xC0 <= *byte {
-            return i;
-        }
-    }
-    bytes.len()
+    bytes
+        .iter()
+        .position(|byte| *byte < 0x80 || 0xC0 <= *byte)
+        .unwrap_or(bytes.len())
 }
 
 /// How many bytes the first column has; none if the line is at its end.
@@ -55,25 +51,30 @@ pub(crate) fn column_len(bytes: &[u8], utf8: bool) -> usize
     if utf8 { 1 + follow_len(rest) } else { 1 }
 }
 
+// The place of a column, of some; each further one begins at the end of the line.
+fn place_at(starts: &[usize], k: usize, end: usize) -> usize
+    ensures { result ≡ slice_index_or starts.now k end }
+{
+    starts.get(k).copied().unwrap_or(end)
+}
+
 impl<'a> Line<'a> {
     /// Finds the columns of a line.
-    pub(crate) fn new(bytes: &'a [u8], utf8: bool) -> Line<'a>
-        ensures { result ≡ columns utf8 bytes.now }
+    pub(crate) fn new(alloc: Global, bytes: &'a [u8], utf8: bool) -> Result<Line<'a>, AllocError>
+        ensures { IfOk result (λ line. line ≡ columns utf8 bytes.now) }
     {
-        let mut starts = [bytes.len(); PLACES];
-        let mut column = 0;
+        let mut starts = Vec::with_capacity(alloc, bytes.len().min(LAST_COLUMN + 1))?;
         let mut at = 0;
-        while at < bytes.len() && column < PLACES {
-            starts[column] = at;
+        while at < bytes.len() && starts.len() <= LAST_COLUMN {
+            starts.push(at)?;
             let (_, rest) = bytes.split_at(at);
             at += column_len(rest, utf8);
-            column += 1;
         }
-        Line {
+        Ok(Line {
             bytes,
             utf8,
             starts,
-        }
+        })
     }
 
     /// The bytes of the columns `first` to `last`, which count from 1.
@@ -83,8 +84,9 @@ impl<'a> Line<'a> {
         requires in_reach { last ≤ LAST_COLUMN }
         ensures { result.now ≡ text self.now first last }
     {
-        let (front, _) = self.bytes.split_at(self.starts[last]);
-        front.split_at(self.starts[first - 1]).1
+        let len = self.bytes.len();
+        let (front, _) = self.bytes.split_at(place_at(&self.starts, last, len));
+        front.split_at(place_at(&self.starts, first - 1, len)).1
     }
 
     /// A no is certain; a column that is not known to be missing is taken to be there.
@@ -93,14 +95,16 @@ impl<'a> Line<'a> {
         requires in_reach { column ≤ LAST_COLUMN }
         ensures { result ≡ false → drop (column - 1) self.now ≡ [] }
     {
-        self.starts[column - 1] < self.bytes.len()
+        let len = self.bytes.len();
+        place_at(&self.starts, column - 1, len) < len
     }
 
     /// Blanks behind the last column that is read are allowed.
     pub(crate) fn is_too_long(&self) -> bool
         ensures { result ≡ not (is_blank (joined (drop LAST_COLUMN self.now))) }
     {
-        let (_, rest) = self.bytes.split_at(self.starts[LAST_COLUMN]);
+        let end = place_at(&self.starts, LAST_COLUMN, self.bytes.len());
+        let (_, rest) = self.bytes.split_at(end);
         !is_blank(rest)
     }
 }

@@ -1,5 +1,5 @@
 // The fields of a line: words, numbers and points.
-ghost use Rattle.std.specs.Prelude.{◌≡◌, ℕ, ◌≢◌, ◌+◌, ◌<◌, ◌≤◌, ◌^◌, ◌∷◌, [], length, slice_index, drop, true};
+ghost use Rattle.std.specs.Prelude.{◌≡◌, ℕ, ◌≢◌, ◌<◌, ◌≤◌, ◌∷◌, [], length, slice_index, drop, true};
 ghost use Rattle.std.specs.Prelude.{MatchOption, IfSome};
 ghost use Rattle.std.specs.Char.{is_ascii_digit};
 ghost use Rattle.std.specs.List.{list_all};
@@ -26,12 +26,10 @@ fn word_len(bytes: &[u8]) -> usize
     ensures inside { (k : ℕ) → k < result → slice_index bytes.now k ≢ 32 }
     ensures behind { result < length bytes.now → slice_index bytes.now result ≡ 32 }
 {
-    for (i, byte) in bytes.iter().enumerate() {
-        if *byte == b' ' {
-            return i;
-        }
-    }
-    bytes.len()
+    bytes
+        .iter()
+        .position(|byte| *byte == b' ')
+        .unwrap_or(bytes.len())
 }
 
 /// The first word of a text and what stands behind it, or none if there are only blanks.

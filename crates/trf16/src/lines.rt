@@ -20,12 +20,10 @@ fn line_len(bytes: &[u8]) -> usize
     ensures inside { (k : ℕ) → k < result → ends_line (slice_index bytes.now k) ≡ false }
     ensures behind { result < length bytes.now → ends_line (slice_index bytes.now result) ≡ true }
 {
-    for (i, byte) in bytes.iter().enumerate() {
-        if *byte == b'\r' || *byte == b'\n' {
-            return i;
-        }
-    }
-    bytes.len()
+    bytes
+        .iter()
+        .position(|byte| *byte == b'\r' || *byte == b'\n')
+        .unwrap_or(bytes.len())
 }
 
 // What stands behind the line end in front; nothing if the text ends there.

@@ -242,7 +242,7 @@ fn player_onto<'a>(
     ensures given { Gives (λ _. draft.new) result (player_onto draft.old n (columns draft.old.utf8 bytes.now)) }
     ensures long { IfOk result (λ long. long ≡ is_too_long (columns draft.old.utf8 bytes.now)) }
 {
-    let line = Line::new(bytes, draft.is_utf8());
+    let line = Line::new(alloc, bytes, draft.is_utf8())?;
     let player = player_at(alloc, draft, n, &line)?;
     draft.enter(player)?;
     Ok(line.is_too_long())

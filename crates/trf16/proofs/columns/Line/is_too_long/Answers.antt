@@ -6,5 +6,5 @@ use Rattle.trf16.proofs.columns.Line.is_too_long.Goals as goal
 
 pub returns : goal.returns
 returns c =
-    rw (c.is_blank.ensures, c.split_at.ensures.back, ← c.self.view_is)
+    rw (c.is_blank.ensures, c.split_at.ensures.back, c.place_at-end.ensures, c.deref.ensures.value, ← c.self.view_is)
     (ap (λ bytes. not (is_blank bytes)) (joined-behind c.self.inside.utf8 c.self.inside.bytes.now LAST_COLUMN _ (c.self.invariant LAST_COLUMN (omega arith))))
