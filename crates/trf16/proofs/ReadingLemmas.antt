@@ -11,7 +11,7 @@ use Rattle.trf16.specs.declared.cell.Cell.{Cell}
 use Rattle.trf16.specs.declared.cell.Cell.TheVariants.{Blank}
 use Rattle.trf16.specs.declared.fault.Fault.{Fault}
 use Rattle.trf16.specs.declared.fault.Fault.TheVariants.{BadNumber, Duplicate, Misaligned, BadCell, BadExtension, TooMany, NoPlayers, NoSuchOpponent, SelfOpponent, NotMutual, Colours, Results, Points, OutOfMemory}
-use Rattle.trf16.specs.Prelude.{blank_at, blanks_at, round_at, rounds_at, is_blank_cell, is_player, line_onto, lines_onto, without_players, filled, laid_out, Sheet, columns, lines, without_marks, Fails, Gives}
+use Rattle.trf16.specs.Prelude.{blank_at, blanks_at, round_at, rounds_at, is_blank_cell, is_player, line_onto, lines_onto, without_players, whole_report, laid_out, Sheet, columns, lines, without_marks, Fails, Gives}
 use Rattle.trf16.specs.Outcomes.{◌>>=◌}
 use Rattle.trf16.proofs.LineSteps.{line_keeps, line_adds}
 use Rattle.trf16.specs.declared.limits.TheConstants.{MOST_BYTES, MOST_ROUNDS}
@@ -130,8 +130,8 @@ is_utf8_is A B bytes (Err e) h = by (is_utf8 bytes) refl
 
 -- a text that is not too long is what its lines make of a sheet with no players
 pub laid_is : (bytes text : List ℕ) (utf8 : Bool) (bye : ℕ) (fresh : Sheet) → nat_lt MOST_BYTES (length bytes) ≡ false → text ≡ without_marks bytes
-    → utf8 ≡ is_utf8 text → fresh ≡ without_players utf8 (lines text) bye → laid_out bytes bye ≡ filled fresh (lines text)
-unfolding laid_out filled
+    → utf8 ≡ is_utf8 text → fresh ≡ without_players utf8 (lines text) bye → laid_out bytes bye ≡ whole_report fresh (lines text)
+unfolding laid_out whole_report
 laid_is bytes text utf8 bye fresh few same columns_are fresh_is = rw (few, ← same, ← columns_are, fresh_is) refl
 
 -- a report whose players are judged behind it

@@ -20,7 +20,7 @@ pub use Rattle.trf16.specs.Written.{blanks, bye_letter, cell_text, colour_letter
 pub use Rattle.trf16.specs.Round.{CanBePaired, cell_by, cell_on, cells_with, entry_with, named_by, with_cell, with_round}
 pub use Rattle.trf16.specs.BeforeRound.{before_round, cell_back, cells_back, entry_back, line_back, taken_back}
 pub use Rattle.trf16.specs.Steps.{AllStart, IsStart, behind_end, carried_as, lines_carried}
-unfoldable pub use Rattle.trf16.specs.Steps.{filled}
+unfoldable pub use Rattle.trf16.specs.Steps.{whole_report}
 pub use Rattle.trf16.specs.StartRanks.{HasOwnStarts, starts_of}
 pub use Rattle.trf16.specs.Points.{SpellsHalf, SpellsPoints}
 pub use Rattle.trf16.specs.Names.{name_in, name_of, player_of}

@@ -34,5 +34,5 @@ abbrev pub lines_carried : Bool → Bool → List (List ℕ) → ℕ → Sheet
 lines_carried bare utf8 all bye = record (without_players utf8 all bye) { carried = map (carried_as bare utf8) all }
 
 -- a report with what all lines of a text add to it, unless its size is refused
-unfoldable pub filled : Sheet → List (List ℕ) → Result Sheet Fault
-filled sheet all = lines_onto sheet 1 all >>= λ next. sized next (has_too_many_rounds sheet.utf8 all)
+unfoldable pub whole_report : Sheet → List (List ℕ) → Result Sheet Fault
+whole_report sheet all = lines_onto sheet 1 all >>= λ next. sized next (has_too_many_rounds sheet.utf8 all)

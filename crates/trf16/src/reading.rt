@@ -6,7 +6,7 @@ ghost use Rattle.std.specs.Str.{is_utf8};
 ghost use Rattle.trf16.specs.Lines.{lines, columns, text};
 ghost use Rattle.trf16.specs.Fields.{without_last};
 ghost use Rattle.trf16.specs.Outcomes.{Gives};
-ghost use Rattle.trf16.specs.Steps.{filled};
+ghost use Rattle.trf16.specs.Steps.{whole_report};
 ghost use Rattle.trf16.specs.Sheet.{entry_of, known};
 ghost use Rattle.trf16.specs.Notes.{is_marked, first_noted, Tells, TellsApart};
 ghost use Rattle.trf16.specs.Summed.{verdict_unsummed};
@@ -344,8 +344,8 @@ fn has_size(draft: &Draft<'_>, too_long: bool) -> Result<(), Fault>
 }
 
 // Reads all lines onto a report, notes what they say, looks at its size, and answers who is named together.
-#[tactic(auto, unfolding(crate::specs::Steps::filled, crate::specs::Verdict::sized))]
-fn filled<'a>(
+#[tactic(auto, unfolding(crate::specs::Steps::whole_report, crate::specs::Verdict::sized))]
+fn read_whole<'a>(
     alloc: Global,
     draft: &mut Draft<'a>,
     notes: &mut Notes,
@@ -355,7 +355,7 @@ fn filled<'a>(
     requires firsts { (kind : LineKind) → first_noted notes.old kind ≡ None }
     requires together { notes.old.together ≡ false }
     requires fresh { draft.old.carried ≡ (without_players draft.old.utf8 (lines text.now) draft.old.bye).carried }
-    ensures given { Gives (λ _. draft.new) result (filled draft.old (lines text.now)) }
+    ensures given { Gives (λ _. draft.new) result (whole_report draft.old (lines text.now)) }
     ensures noted { IfOk result (λ _. Tells notes.new draft.new) }
     ensures told_apart { IfOk result (λ apart. TellsApart apart draft.new) }
     ensures few_players { IfOk result (λ _. length draft.new.players ≤ MOST_PLAYERS) }
@@ -377,7 +377,7 @@ fn laid_out<'a>(alloc: Global, bytes: &'a [u8], bye: u16) -> Result<Report<'a>, 
     let text = skip_marks(bytes);
     let mut notes = Notes::new(alloc)?;
     let mut draft = Draft::new(alloc, text, is_utf8(text), bye);
-    let apart = filled(alloc, &mut draft, &mut notes, text)?;
+    let apart = read_whole(alloc, &mut draft, &mut notes, text)?;
     Ok(draft.into_report(notes, apart))
 }
 

@@ -1,7 +1,7 @@
 use Rattle.std.proofs.Common.{◌≡◌, ℕ, ◌<◌, nat_lt, true, length, Ok, refl, sym, ap, ◌∙◌, arith}
 use Rattle.std.proofs.lemmas.Bool.{le-ltb}
 use Rattle.std.proofs.lemmas.Bool.Decides.{nat_tests}
-use Rattle.trf16.specs.Prelude.{filled, laid_out, lines, Sheet}
+use Rattle.trf16.specs.Prelude.{whole_report, laid_out, lines, Sheet}
 use Rattle.trf16.proofs.ReadingLemmas.{exits, laid_is}
 use Rattle.trf16.proofs.reading.laid_out.Goals as goal
 use Rattle.trf16.specs.declared.fault.Fault.{Fault}
@@ -20,7 +20,7 @@ returns-in_err-apart c =
     let bytes = c.args.bytes.now in
     let text = c.skip_marks-text.result.now in
     let draft = c.new-draft.result in
-    exits (λ (r : Sheet). r) _ _ (filled draft (lines text)) _ c.from_residual-in_err-apart.ensures.1 c.in_err-apart.ensures.given
+    exits (λ (r : Sheet). r) _ _ (whole_report draft (lines text)) _ c.from_residual-in_err-apart.ensures.1 c.in_err-apart.ensures.given
     (λ fault e.
     laid_is bytes text c.is_utf8.result c.args.bye draft (le-ltb MOST_BYTES (length bytes) c.if-bytes-gt-MOST_BYTES.false) c.skip_marks-text.ensures c.is_utf8.ensures c.new-draft.ensures
     ∙ e)
