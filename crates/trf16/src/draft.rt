@@ -1,6 +1,6 @@
 // What the lines so far say: a report whose lines are still being read. It becomes a `Report` once the limits are
 // looked at.
-ghost use Rattle.std.specs.Prelude.{◌≡◌, ◌≤◌, false, length, map, vec_len, is_some, IfOk, Ok, Some};
+ghost use Rattle.std.specs.Prelude.{◌≡◌, ◌≤◌, false, length, map, is_some, IfOk, Ok, Some};
 ghost use Rattle.trf16.specs.Lines.{lines};
 ghost use Rattle.trf16.specs.Outcomes.{Gives};
 ghost use Rattle.trf16.specs.Sheet.{entry_of, with_player, known};

@@ -2,7 +2,7 @@
 ghost use Rattle.std.specs.Prelude.{◌≡◌, codes};
 ghost use Rattle.std.specs.List.{list_any};
 ghost use Rattle.trf16.specs.Lines.{columns};
-ghost use Rattle.trf16.specs.Fields.{words, number_of};
+ghost use Rattle.trf16.specs.Fields.{words};
 ghost use Rattle.trf16.specs.Extensions.{is_word, rounds_in, colour_named, named_together, colour_behind};
 ghost use Rattle.trf16.specs.Extensions.{colour_behind_all, colour_in, are_start_ranks, is_named, names_both};
 

@@ -1,5 +1,5 @@
 // Which cell an opponent, a colour and a result spell: the nine rows of the cell grammar.
-ghost use Rattle.std.specs.Prelude.{◌≡◌, ◌<◌, IfSome};
+ghost use Rattle.std.specs.Prelude.{◌≡◌};
 ghost use Rattle.trf16.specs.Fields.{words};
 ghost use Rattle.trf16.specs.Cells.{mark_in, colour_of, is_no_colour, bye_cell, forfeit_cell, outcome_of, game_cell};
 ghost use Rattle.trf16.specs.Cells.{cell_of, opponent_in, cell_from};
