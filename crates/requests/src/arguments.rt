@@ -57,39 +57,79 @@ pub enum OptionName {
     Bye,
 }
 
+// How help and complaints call an option and its value, and what help says of it.
+#[derive(Clone, Copy)]
+struct Labels<'a> {
+    name: &'a str,
+    value: &'a str,
+    help: &'a str,
+}
+
 // How help names the values of `--initial` and of `--by`: by what they may be. clap names them so too where it
 // complains, as where no value stands behind the option.
 const COLOURS: &str = "white|black";
 
 const KEYS: &str = "direct,buchholz,sb";
 
-const BRACKET_HELP: &str =
-    "The number of the bracket, 1 to 1000; 1 is the first that is paired [required]";
+const BRACKET: Labels<'static> = Labels {
+    name: "bracket",
+    value: "K",
+    help: "The number of the bracket, 1 to 1000; 1 is the first that is paired [required]",
+};
 
-const FROM_HELP: &str =
-    "Begins behind the candidate with this cursor, as an earlier run printed it [default: the first]";
+const FROM: Labels<'static> = Labels {
+    name: "from",
+    value: "CURSOR",
+    help: "Begins behind the candidate with this cursor, as an earlier run printed it [default: the first]",
+};
 
-const COUNT_HELP: &str = "How many candidates to print at most, 1 to 10000 [default: 100]";
+const COUNT: Labels<'static> = Labels {
+    name: "count",
+    value: "N",
+    help: "How many candidates to print at most, 1 to 10000 [default: 100]",
+};
 
-const PLAYER_HELP: &str = "Tells of this player alone, by start rank, 1 to 9999 [default: of all]";
+const PLAYER: Labels<'static> = Labels {
+    name: "player",
+    value: "P",
+    help: "Tells of this player alone, by start rank, 1 to 9999 [default: of all]",
+};
 
-const INSTEAD_HELP: &str =
-    "Tells why he does not meet this one, 1 to 9999, or 0: why he has not the bye";
+const INSTEAD: Labels<'static> = Labels {
+    name: "instead",
+    value: "Q",
+    help: "Tells why he does not meet this one, 1 to 9999, or 0: why he has not the bye",
+};
 
-const ROUND_HELP: &str =
-    "Answers as on the report as it stood before round N, 1 to 64 [default: before the next round]";
+const ROUND: Labels<'static> = Labels {
+    name: "round",
+    value: "N",
+    help: "Answers as on the report as it stood before round N, 1 to 64 [default: before the next round]",
+};
 
-const PLAYED_ROUND_HELP: &str =
-    "The round whose boards are printed, 1 to 64 [default: the last that was paired]";
+const PLAYED_ROUND: Labels<'static> = Labels {
+    name: "round",
+    value: "N",
+    help: "The round whose boards are printed, 1 to 64 [default: the last that was paired]",
+};
 
-const ROUNDS_HELP: &str =
-    "Rounds of the whole tournament, 1 to 64 [default: those of the report's XXR line]";
+const ROUNDS: Labels<'static> = Labels {
+    name: "rounds",
+    value: "N",
+    help: "Rounds of the whole tournament, 1 to 64 [default: those of the report's XXR line]",
+};
 
-const INITIAL_HELP: &str =
-    "The initial colour, white or black [default: that of the report's XXC line]";
+const INITIAL: Labels<'static> = Labels {
+    name: "initial",
+    value: COLOURS,
+    help: "The initial colour, white or black [default: that of the report's XXC line]",
+};
 
-const STEPS_HELP: &str =
-    "Steps that the search in a bracket may take, 0 to 1000000000 [default: 10000000]";
+const STEPS: Labels<'static> = Labels {
+    name: "steps",
+    value: "N",
+    help: "Steps that the search in a bracket may take, 0 to 1000000000 [default: 10000000]",
+};
 
 const REPORT_HELP: &str = "Prints the report with the new round in place of the boards";
 
@@ -114,10 +154,17 @@ const GAMES_HELP: &str =
 
 const WORDS_HELP: &str = "Tells it in sentences and with names, to be read out";
 
-const BY_HELP: &str =
-    "What tells players of one score apart: one to three of direct, buchholz and sb, joined by commas, none twice [default: direct,buchholz,sb]";
+const BY: Labels<'static> = Labels {
+    name: "by",
+    value: KEYS,
+    help: "What tells players of one score apart: one to three of direct, buchholz and sb, joined by commas, none twice [default: direct,buchholz,sb]",
+};
 
-const BYE_HELP: &str = "Half points that the pairing-allocated bye gives, 0 to 2 [default: 2]";
+const BYE: Labels<'static> = Labels {
+    name: "bye",
+    value: "N",
+    help: "Half points that the pairing-allocated bye gives, 0 to 2 [default: 2]",
+};
 
 /// An option, as clap is told of it.
 pub fn option_for<'a>(alloc: Global, which: OptionName) -> Arg<'a>
@@ -126,15 +173,15 @@ pub fn option_for<'a>(alloc: Global, which: OptionName) -> Arg<'a>
 {
     match which {
         OptionName::Bracket => bracket(alloc),
-        OptionName::From => option(alloc, "from", "CURSOR", FROM_HELP),
-        OptionName::Count => number(alloc, "count", "N", COUNT_HELP, counts()),
-        OptionName::Player => number(alloc, "player", "P", PLAYER_HELP, players()),
-        OptionName::Instead => number(alloc, "instead", "Q", INSTEAD_HELP, opponents()),
-        OptionName::Round => few_rounds(alloc, "round", ROUND_HELP),
-        OptionName::PlayedRound => few_rounds(alloc, "round", PLAYED_ROUND_HELP),
-        OptionName::Rounds => few_rounds(alloc, "rounds", ROUNDS_HELP),
-        OptionName::Initial => option(alloc, "initial", COLOURS, INITIAL_HELP),
-        OptionName::Steps => number(alloc, "steps", "N", STEPS_HELP, limits()),
+        OptionName::From => option(alloc, FROM),
+        OptionName::Count => number(alloc, COUNT, counts()),
+        OptionName::Player => number(alloc, PLAYER, players()),
+        OptionName::Instead => number(alloc, INSTEAD, opponents()),
+        OptionName::Round => few_rounds(alloc, ROUND),
+        OptionName::PlayedRound => few_rounds(alloc, PLAYED_ROUND),
+        OptionName::Rounds => few_rounds(alloc, ROUNDS),
+        OptionName::Initial => option(alloc, INITIAL),
+        OptionName::Steps => number(alloc, STEPS, limits()),
         OptionName::Report => flag(alloc, "report", REPORT_HELP),
         OptionName::Notes => flag(alloc, "notes", NOTES_HELP),
         OptionName::Points => flag(alloc, "points", POINTS_HELP),
@@ -144,8 +191,8 @@ pub fn option_for<'a>(alloc: Global, which: OptionName) -> Arg<'a>
         OptionName::PlayerNames => flag(alloc, "names", PLAYER_NAMES_HELP),
         OptionName::Games => flag(alloc, "games", GAMES_HELP),
         OptionName::Words => flag(alloc, "words", WORDS_HELP),
-        OptionName::By => option(alloc, "by", KEYS, BY_HELP),
-        OptionName::Bye => number(alloc, "bye", "N", BYE_HELP, half_points()),
+        OptionName::By => option(alloc, BY),
+        OptionName::Bye => number(alloc, BYE, half_points()),
     }
 }
 
@@ -156,16 +203,16 @@ fn bracket<'a>(alloc: Global) -> Arg<'a>
     ensures local { result.global ≡ false }
 {
     let numbers = value_parser!(u16).range(1..=1000);
-    number(alloc, "bracket", "K", BRACKET_HELP, numbers).required(true)
+    number(alloc, BRACKET, numbers).required(true)
 }
 
 // An option whose value is a number of rounds, or one of a round.
-fn few_rounds<'a>(alloc: Global, name: &'a str, help: &'a str) -> Arg<'a>
-    ensures rule { rule_of result ≡ few_rounds_rule name.entry.now }
+fn few_rounds<'a>(alloc: Global, labels: Labels<'a>) -> Arg<'a>
+    ensures rule { rule_of result ≡ few_rounds_rule labels.entry.name.now }
     ensures local { result.global ≡ false }
 {
     let rounds = value_parser!(u8).range(1..=MOST_ROUNDS as i64);
-    number(alloc, name, "N", help, rounds)
+    number(alloc, labels, rounds)
 }
 
 // The numbers of candidates that may be asked for.
@@ -204,28 +251,22 @@ fn half_points<'a>() -> ValueParser<'a>
 }
 
 // An option whose value is a number that a parser reads.
-fn number<'a>(
-    alloc: Global,
-    name: &'a str,
-    value: &'a str,
-    help: &'a str,
-    parser: ValueParser<'a>,
-) -> Arg<'a>
-    ensures rule { rule_of result ≡ number_rule name.entry.now parser.entry }
+fn number<'a>(alloc: Global, labels: Labels<'a>, parser: ValueParser<'a>) -> Arg<'a>
+    ensures rule { rule_of result ≡ number_rule labels.entry.name.now parser.entry }
     ensures local { result.global ≡ false }
 {
-    option(alloc, name, value, help).value_parser(parser)
+    option(alloc, labels).value_parser(parser)
 }
 
 // An option that takes one value.
-fn option<'a>(alloc: Global, name: &'a str, value: &'a str, help: &'a str) -> Arg<'a>
-    ensures rule { rule_of result ≡ option_rule name.entry.now }
+fn option<'a>(alloc: Global, labels: Labels<'a>) -> Arg<'a>
+    ensures rule { rule_of result ≡ option_rule labels.entry.name.now }
     ensures local { result.global ≡ false }
 {
-    Arg::new(alloc, name)
-        .long(name)
-        .value_name(value)
-        .help(help)
+    Arg::new(alloc, labels.name)
+        .long(labels.name)
+        .value_name(labels.value)
+        .help(labels.help)
 }
 
 // An option without a value.
