@@ -1,5 +1,5 @@
 // The options of the commands, from what clap makes of the words.
-ghost use Rattle.std.specs.Prelude.{◌≡◌, ℕ, List, Bool, option_map, codes, if◌then◌else◌};
+ghost use Rattle.std.specs.Prelude.{◌≡◌, ℕ, List, Bool, option_map};
 ghost use Rattle.clap.specs.Words.{first_of};
 ghost use Rattle.requests.specs.Options.{boards_options, bye_in, candidates_options, check_options};
 ghost use Rattle.requests.specs.Options.{count_in, explain_options, flag_in, format_options, from_in, initial_in};
