@@ -173,14 +173,14 @@ module _ (half first_count second_count : ℕ) (fits : List ℕ → ℕ → Bool
   Walked-second beginning [] later walked = tt
   Walked-second beginning (x ∷ path) later walked = (
     omega (arith, walked.0, stop-second half first_count second_count beginning later),
-    Walked-second (beginning ++ x ∷ []) path (omega (arith, length-append beginning (x ∷ []))) walked.1,
+    Walked-second (beginning ++ x ∷ []) path (omega (arith, length-append beginning (x ∷ []))) walked.2,
   )
 
   pub Walked-first : (m : ℕ) (beginning path : List ℕ) → length beginning + m ≡ half → Walked (two_halves half first_count second_count fits beyond) beginning path → AllByRecursion (λ place. place < first_count) (take m path) × AllByRecursion (λ place. place < second_count) (drop m path)
   Walked-first zero beginning path whole walked = (tt, Walked-second beginning path (omega arith) walked)
   Walked-first (suc m) beginning [] whole walked = (tt, tt)
   Walked-first (suc m) beginning (x ∷ path) whole walked =
-      let rest = Walked-first m (beginning ++ x ∷ []) path (omega (arith, whole, length-append beginning (x ∷ []))) walked.1 in
+      let rest = Walked-first m (beginning ++ x ∷ []) path (omega (arith, whole, length-append beginning (x ∷ []))) walked.2 in
       ((omega (arith, walked.0, stop-first half first_count second_count beginning (omega arith)), rest.0), rest.1)
 
   pub Walked-halves : (path : List ℕ) → Walked (two_halves half first_count second_count fits beyond) [] path → AllByRecursion (λ place. place < first_count) (take half path) × AllByRecursion (λ place. place < second_count) (drop half path)

@@ -164,4 +164,4 @@ hint-short (x ∷ hint) (y ∷ path) short =
 -- where such a search has walked, the search has walked without the path
 pub Walked-hinted : (hint : List ℕ) (plan : Plan) (beginning path : List ℕ) → Walked (hinted hint plan) beginning path → Walked plan beginning path
 Walked-hinted hint plan beginning [] walked = tt
-Walked-hinted hint plan beginning (x ∷ path) walked = (walked.0, Walked-hinted hint plan (beginning ++ x ∷ []) path walked.1)
+Walked-hinted hint plan beginning (x ∷ path) walked = (walked.0, walked.1, Walked-hinted hint plan (beginning ++ x ∷ []) path walked.2)

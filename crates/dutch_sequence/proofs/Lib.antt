@@ -1,3 +1,4 @@
+pub mod MarkLemmas
 pub mod Moves
 pub mod Lists
 pub mod Found

@@ -170,24 +170,30 @@ pub ahead-whole : (plan : Plan) (path : List ℕ) (number : ℕ) → length path
 ahead-whole plan path number whole fresh = ap (ahead plan path) fresh ∙ ahead-found plan path whole
 
 -- a path that goes on, and one that loses its last number
-pub Walked-push : (plan : Plan) (beginning path : List ℕ) (number : ℕ) → Walked plan beginning path → number < plan.stop (beginning ++ path) → Walked plan beginning (path ++ number ∷ [])
-Walked-push plan beginning [] number walked low = (subst (λ path. number < plan.stop path) (append-nil beginning) low, tt)
-Walked-push plan beginning (first ∷ path) number walked low = (
+pub Walked-push : (plan : Plan) (beginning path : List ℕ) (number : ℕ) → Walked plan beginning path → number < plan.stop (beginning ++ path) → plan.fits (beginning ++ path) number ≡ true → Walked plan beginning (path ++ number ∷ [])
+Walked-push plan beginning [] number walked low fit = (
+  subst (λ path. number < plan.stop path) (append-nil beginning) low,
+  subst (λ path. plan.fits path number ≡ true) (append-nil beginning) fit,
+  tt,
+)
+Walked-push plan beginning (first ∷ path) number walked low fit = (
   walked.0,
-  Walked-push plan (beginning ++ first ∷ []) path number walked.1
-      (subst (λ path'. number < plan.stop path') (sym (append_assoc beginning (first ∷ []) path)) low),
+  walked.1,
+  Walked-push plan (beginning ++ first ∷ []) path number walked.2
+      (subst (λ path'. number < plan.stop path') (sym (append_assoc beginning (first ∷ []) path)) low)
+      (subst (λ path'. plan.fits path' number ≡ true) (sym (append_assoc beginning (first ∷ []) path)) fit),
 )
 
 pub Walked-pop : (plan : Plan) (beginning path : List ℕ) (number : ℕ) → Walked plan beginning (path ++ number ∷ []) → Walked plan beginning path × (number < plan.stop (beginning ++ path))
 Walked-pop plan beginning [] number walked = (tt, subst (λ path. number < plan.stop path) (sym (append-nil beginning)) walked.0)
 Walked-pop plan beginning (first ∷ path) number walked =
-    let rest = Walked-pop plan (beginning ++ first ∷ []) path number walked.1 in
-    ((walked.0, rest.0), subst (λ path'. number < plan.stop path') (append_assoc beginning (first ∷ []) path) rest.1)
+    let rest = Walked-pop plan (beginning ++ first ∷ []) path number walked.2 in
+    ((walked.0, walked.1, rest.0), subst (λ path'. number < plan.stop path') (append_assoc beginning (first ∷ []) path) rest.1)
 
 -- the same, at the paths that the code has
-pub Walked-longer : (plan : Plan) (path longer : List ℕ) (number : ℕ) → longer ≡ path ++ number ∷ [] → Walked plan [] path → number < plan.stop path → Walked plan [] longer
-Walked-longer plan path longer number is_longer walked low =
-    subst (Walked plan []) (sym is_longer) (Walked-push plan [] path number walked low)
+pub Walked-longer : (plan : Plan) (path longer : List ℕ) (number : ℕ) → longer ≡ path ++ number ∷ [] → Walked plan [] path → number < plan.stop path → plan.fits path number ≡ true → Walked plan [] longer
+Walked-longer plan path longer number is_longer walked low fit =
+    subst (Walked plan []) (sym is_longer) (Walked-push plan [] path number walked low fit)
 
 pub Walked-shorter : (plan : Plan) (path shorter : List ℕ) (number : ℕ) → path ≡ shorter ++ number ∷ [] → Walked plan [] path → Walked plan [] shorter × (number < plan.stop shorter)
 Walked-shorter plan path shorter number is_longer walked = Walked-pop plan [] shorter number (subst (Walked plan []) is_longer walked)
@@ -196,7 +202,7 @@ Walked-shorter plan path shorter number is_longer walked = Walked-pop plan [] sh
 pub Walked-below : (plan : Plan) (bound : ℕ) → ((path : List ℕ) → plan.stop path ≤ bound) → (beginning path : List ℕ) → Walked plan beginning path → AllByRecursion (λ number. number < bound) path
 Walked-below plan bound stops beginning [] walked = tt
 Walked-below plan bound stops beginning (number ∷ path) walked =
-    (omega (arith, stops beginning), Walked-below plan bound stops (beginning ++ number ∷ []) path walked.1)
+    (omega (arith, stops beginning), Walked-below plan bound stops (beginning ++ number ∷ []) path walked.2)
 
 -- a part of a path
 pub AllByRecursion-drop : (P : ℕ → Type 0) (n : ℕ) (xs : List ℕ) → AllByRecursion P xs → AllByRecursion P (drop n xs)

@@ -280,7 +280,7 @@ module _ (pool : List ℕ) (k : ℕ) (hint : List ℕ) (size difference : ℕ) (
   trials-after = ap (trials_of_stages pool k (greatest_difference pool k size - difference) size (suc difference)) next
 
 -- a stage that is entered anew
-module _ (pool : List ℕ) (k : ℕ) (state : SearchState) (size difference : ℕ) (is_size : state.size ≡ size) (is_difference : state.difference ≡ difference) (no_hint : state.hint.items ≡ []) (no_path : state.descent.path.items ≡ []) (no_number : state.descent.number ≡ 0) (no_beyond : state.descent.beyond ≡ None) where
+module _ (pool : List ℕ) (k : ℕ) (state : SearchState) (size difference : ℕ) (is_size : state.size ≡ size) (is_difference : state.difference ≡ difference) (no_hint : state.hint.items ≡ []) (no_path : state.descent.path ≡ []) (no_number : state.descent.number ≡ 0) (no_beyond : state.descent.beyond ≡ None) where
   pub sets-entered : sets_from pool k state ≡ sets_ahead pool k [] size difference [] 0 None
   sets-entered = cc
 

@@ -9,7 +9,8 @@ use Rattle.std.proofs.lemmas.List.{append-nil, map-append}
 use Rattle.std.proofs.lemmas.List.Folds.{flat_map-map, list_any-append}
 use Rattle.std.proofs.lemmas.List.Kept.{AllPairs-from_increasing}
 use Rattle.std.proofs.lemmas.Bool.{ne_eqb, eq-eqb, eqb-true, lt-ltb, le-ltb, cases_order, cases_Bool, true≢false}
-use Rattle.dutch_sequence.specs.Prelude.{Plan, entry, ahead, hits, trials, tuples, without, all_meet, from_on, numbers_from, transpositions, short_beginnings, beginnings_below, transposition_plan, numbers_at, place_in, places_in, hinted, first_hint, Stands, sorted, IsIn, lower_first}
+use Rattle.dutch_sequence.specs.Prelude.{Plan, entry, ahead, hits, trials, tuples, without, all_meet, from_on, numbers_from, transpositions, short_beginnings, beginnings_below, transposition_plan, numbers_at, place_in, places_in, hinted, first_hint, Stands, IsOpen, Walked, HasEachOnce, sorted, IsIn, lower_first}
+use Rattle.dutch_sequence.proofs.MarkLemmas.{once-push}
 use Rattle.dutch_sequence.proofs.Moves.{Walked-below}
 use Rattle.dutch_sequence.proofs.Lists.{map-flat_map, filter-flat_map, flat_map-filter, flat_map-below, map-numbers_from, map-same, filter-same, filter-filter, filter-all}
 use Rattle.dutch_sequence.proofs.HalfWalks.{Admitted}
@@ -329,3 +330,17 @@ stands-within meets first first' pool pool' pool'' hint path same_first same_poo
   Walked-below (hinted hint (transposition_plan meets first' pool')) (length pool'') (λ path. omega (arith, ap length same_pool, ap length same_pool')) [] path stands.1,
   omega (arith, ap length same_first, stands.0),
 )
+
+-- and no place comes twice on it, since one that is taken does not fit
+not_taken : (taken meets : Bool) → (not taken && meets) ≡ true → taken ≡ false
+not_taken true meets fit = cc
+not_taken false meets fit = refl
+
+walked-once : (meets : ℕ → ℕ → Bool) (first pool beginning path : List ℕ) → HasEachOnce beginning → Walked (transposition_plan meets first pool) beginning path → HasEachOnce (beginning ++ path)
+walked-once meets first pool beginning [] once walked = subst HasEachOnce (sym (append-nil beginning)) once
+walked-once meets first pool beginning (x ∷ path) once walked =
+    subst HasEachOnce (append_assoc beginning (x ∷ []) path)
+    (walked-once meets first pool (beginning ++ x ∷ []) path (once-push beginning x once (not_taken (list_any (eqb x) beginning) (meets (slice_index first (length beginning)) (slice_index pool x)) walked.1)) walked.2)
+
+pub open-once : (meets : ℕ → ℕ → Bool) (first pool path : List ℕ) → IsOpen (transposition_plan meets first pool) path → HasEachOnce path
+open-once meets first pool path opened = walked-once meets first pool [] path tt opened.1

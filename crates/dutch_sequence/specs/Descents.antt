@@ -1,12 +1,12 @@
 -- Where a search may stand: a model that carries the search, and which a reader of the promises may pass by.
-use Rattle.std.specs.Prelude.{◌≡◌, ℕ, ◌+◌, ◌-◌, ◌*◌, ◌<◌, ◌≤◌, List, [], ◌∷◌, ◌++◌, length, if◌then◌else◌, Option}
+use Rattle.std.specs.Prelude.{◌≡◌, ℕ, ◌+◌, ◌-◌, ◌*◌, ◌<◌, ◌≤◌, List, [], ◌∷◌, ◌++◌, length, true, if◌then◌else◌, Option}
 use Rattle.dutch_sequence.specs.Trials.{Plan, below, ahead, lower, lowest}
 use Rattle.dutch_sequence.specs.declared.search.Descent.{Descent}
 
--- each number of a path, after a beginning, is below the end of the numbers that its place tries
+-- each number of a path, after a beginning, is below the end of the numbers that its place tries, and fits there
 abbrev pub Walked : Plan → List ℕ → List ℕ → Type 0
 Walked plan beginning [] = Unit {0}
-Walked plan beginning (number ∷ path) = (number < plan.stop beginning) × Walked plan (beginning ++ number ∷ []) path
+Walked plan beginning (number ∷ path) = (number < plan.stop beginning) × (plan.fits beginning number ≡ true) × Walked plan (beginning ++ number ∷ []) path
 
 -- a path is one of the search's, and fills no more than its places
 abbrev pub Stands : Plan → List ℕ → Type 0
@@ -22,8 +22,8 @@ IsSpent plan path number = below plan (plan.places - length path) path number �
 
 -- how many moves a search can make at most that are no trial: it gives back each place, and stands still at each beginning once
 abbrev pub free_moves : Descent → ℕ
-free_moves descent = 2 * length descent.path.items + (if descent.asked then 0 else 1)
+free_moves descent = 2 * length descent.path + (if descent.asked then 0 else 1)
 
 -- what lies beyond the trials of a search, those made and those to come, if anything was noted
 abbrev pub beyond_all : Plan → Descent → Option ℕ
-beyond_all plan descent = lower descent.beyond (lowest (ahead plan descent.path.items descent.number))
+beyond_all plan descent = lower descent.beyond (lowest (ahead plan descent.path descent.number))

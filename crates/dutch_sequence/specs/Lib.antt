@@ -2,6 +2,7 @@ pub mod Choices
 pub mod Keys
 pub mod Trials
 pub mod Steps
+pub mod Marks
 pub mod Descents
 pub mod Hints
 pub mod Transposition

@@ -225,23 +225,23 @@ module _ (pool : List ℕ) (k : ℕ) where
   abbrev pub IsOwn : SearchState → Type 0
   IsOwn state =
       AllByRecursion (IsOfStage state.size state.difference)
-      (hits (ahead (hinted state.hint.items (exchange_plan state.size state.difference)) state.descent.path.items state.descent.number))
+      (hits (ahead (hinted state.hint.items (exchange_plan state.size state.difference)) state.descent.path state.descent.number))
 
   -- where a search may stand: so many can be exchanged; its path is one of its stage; no set is passed over, and each path to come is
   -- one of its stage
   abbrev pub IsSearchState : SearchState → Type 0
   IsSearchState state =
       (state.size ≤ k) × (state.size ≤ length pool - k)
-      × Stands (hinted state.hint.items (exchange_plan state.size state.difference)) state.descent.path.items
+      × Stands (hinted state.hint.items (exchange_plan state.size state.difference)) state.descent.path
       × IsKnown state × IsOwn state
 
   -- the sets to come from where it stands
   abbrev pub sets_from : SearchState → List (List ℕ)
-  sets_from state = sets_ahead state.hint.items state.size state.difference state.descent.path.items state.descent.number state.descent.beyond
+  sets_from state = sets_ahead state.hint.items state.size state.difference state.descent.path state.descent.number state.descent.beyond
 
   -- and the trials
   abbrev pub trials_from : SearchState → ℕ
-  trials_from state = trials_ahead state.hint.items state.size state.difference state.descent.path.items state.descent.number state.descent.beyond
+  trials_from state = trials_ahead state.hint.items state.size state.difference state.descent.path state.descent.number state.descent.beyond
 
   -- and how many moves that are no trial: those in its stage, and two for each stage that follows
   abbrev pub free_moves_from : SearchState → ℕ
@@ -249,4 +249,4 @@ module _ (pool : List ℕ) (k : ℕ) where
 
   -- the class of the sets whose paths begin as its path does
   abbrev pub class_from : SearchState → ExchangeClass
-  class_from state = exchange_class state.size state.difference state.descent.path.items
+  class_from state = exchange_class state.size state.difference state.descent.path

@@ -20,7 +20,7 @@ ghost use Rattle.std.specs.List.{AllByRecursion};
 ghost use Rattle.std.specs.Result.{IsErr};
 ghost use Rattle.dutch_sequence.specs.Choices.{subsets, from_on};
 ghost use Rattle.dutch_sequence.specs.Sides.{count_of};
-ghost use Rattle.dutch_sequence.specs.Stages.{barred_numbers, held_numbers, in_limit, exchange_plan, exchange_class};
+ghost use Rattle.dutch_sequence.specs.Stages.{barred_numbers, held_numbers, in_limit, exchange_plan};
 ghost use Rattle.dutch_sequence.specs.Stages.{is_fixed, out_limit, fixed_numbers, class_from, free_moves_from};
 ghost use Rattle.dutch_sequence.specs.Stages.{IsSearchState, sets_from, trials_from, stages_ahead, set_of, kept_of, value_of};
 ghost use Rattle.dutch_sequence.specs.Stages.{following, out_places, in_places, exchange_path, exchange_difference};
@@ -38,7 +38,8 @@ use crate::exchanged::Exchange;
 use crate::generator::Generator;
 use crate::halves::first_of_half;
 use crate::numbers::{LIMIT, Numbers, fill};
-use crate::search::{Descent, Hinted, Path, advance, first_hint, leave, put_behind};
+use crate::path::Places;
+use crate::search::{Descent, Hinted, advance, first_hint, leave, put_behind};
 use crate::stage::{ExchangeStage, greatest_of, least_of};
 use crate::steps::{Budget, Drawn, Progress, Stopped};
 use crate::sums::{Sides, total_of, value_at};
@@ -74,7 +75,7 @@ fn following_of(difference: usize, greatest: usize, beyond: Option<usize>) -> Op
 struct SearchState {
     size: usize,
     difference: usize,
-    hint: Path,
+    hint: Places,
     descent: Descent,
 }
 
@@ -84,7 +85,7 @@ impl SearchState {
         ensures size { self.new.size ≡ size }
         ensures difference { self.new.difference ≡ difference }
         ensures hint { self.new.hint.items ≡ [] }
-        ensures path { self.new.descent.path.items ≡ [] }
+        ensures path { self.new.descent.path ≡ [] }
         ensures number { self.new.descent.number ≡ 0 }
         ensures beyond { self.new.descent.beyond ≡ None }
         ensures asked { self.new.descent.asked ≡ false }
@@ -97,7 +98,7 @@ impl SearchState {
 }
 
 /// The places of the numbers that a set has moved out, from the highest.
-fn out_places(sides: &Sides<'_>, set: &[u16]) -> Path
+fn out_places(sides: &Sides<'_>, set: &[u16]) -> Places
     ensures places { result.items ≡ out_places sides.now.pool.now sides.now.k set.now }
     ensures within { AllByRecursion (λ place. place < sides.now.k) result.items }
     ensures fits { length result.items ≤ sides.now.k }
@@ -112,7 +113,7 @@ fn out_places(sides: &Sides<'_>, set: &[u16]) -> Path
 }
 
 /// The places of the numbers that a set has moved in, from the lowest.
-fn in_places(sides: &Sides<'_>, set: &[u16]) -> Path
+fn in_places(sides: &Sides<'_>, set: &[u16]) -> Places
     ensures places { result.items ≡ in_places sides.now.pool.now sides.now.k set.now }
     ensures within { AllByRecursion (λ place. place < length sides.now.pool.now - sides.now.k) result.items }
     ensures fits { length result.items ≤ length sides.now.pool.now - sides.now.k }
@@ -131,7 +132,7 @@ fn enter_at(sides: &Sides<'_>, set: &[u16], state: &mut SearchState)
     ensures size { state.new.size ≡ length (out_places sides.now.pool.now sides.now.k set.now) }
     ensures difference { state.new.difference ≡ exchange_difference sides.now.pool.now sides.now.k set.now }
     ensures hint { state.new.hint.items ≡ exchange_path sides.now.pool.now sides.now.k set.now }
-    ensures path { state.new.descent.path.items ≡ [] }
+    ensures path { state.new.descent.path ≡ [] }
     ensures number { state.new.descent.number ≡ first_hint (exchange_path sides.now.pool.now sides.now.k set.now) }
     ensures beyond { state.new.descent.beyond ≡ Some (suc (exchange_difference sides.now.pool.now sides.now.k set.now)) }
 {
@@ -149,7 +150,7 @@ fn enter_at(sides: &Sides<'_>, set: &[u16], state: &mut SearchState)
 #[tactic(auto, unfolding(crate::specs::Stages::stages_ahead))]
 fn next_stage(sides: &Sides<'_>, state: &mut SearchState) -> bool
     requires spent { ahead (hinted state.old.hint.items
-        (exchange_plan sides.now.pool.now sides.now.k state.old.size state.old.difference)) state.old.descent.path.items
+        (exchange_plan sides.now.pool.now sides.now.k state.old.size state.old.difference)) state.old.descent.path
         state.old.descent.number
         ≡ [] }
     requires standing { IsSearchState sides.now.pool.now sides.now.k state.old }
@@ -309,7 +310,7 @@ fn exchange_at<'a>(sides: &Sides<'a>, state: &SearchState, numbers: &'a mut Numb
         size: state.size,
         difference: state.difference,
     };
-    let count = put_held_and_barred(&stage, &state.descent.path, numbers);
+    let count = put_held_and_barred(&stage, state.descent.path.as_slice(), numbers);
     let (held, barred) = numbers.split_at(count);
     let (original, others) = sides.pool.split_at(sides.k);
     Exchange {
@@ -340,8 +341,8 @@ fn advance_set(
         ((after ≡ before) × (ask ≡ true) × (0 < state.new.size)
         × (way budget.new (free_moves_from sides.now.pool.now sides.now.k state.new)
         < way budget.old (free_moves_from sides.now.pool.now sides.now.k state.old)))
-        ((before ≡ set_of sides.now.pool.now sides.now.k state.new.size state.new.descent.path.items ∷ after)
-        × (length state.new.descent.path.items ≡ state.new.size + state.new.size))
+        ((before ≡ set_of sides.now.pool.now sides.now.k state.new.size state.new.descent.path ∷ after)
+        × (length state.new.descent.path ≡ state.new.size + state.new.size))
         ((before ≡ []) × (after ≡ []) × (trials_from sides.now.pool.now sides.now.k state.new ≡ 0))
         ((after ≡ before) × (budget.new.used ≡ budget.new.limit)
         × (ask ≡ false → 0 < trials_from sides.now.pool.now sides.now.k state.new)) }
@@ -361,7 +362,7 @@ fn advance_set(
         };
         match advance(&tree, ask && 0 < state.size, &mut state.descent, budget)? {
             Progress::Beginning => {
-                if state.descent.path.is_empty() && budget.used == budget.limit {
+                if state.descent.path.as_slice().is_empty() && budget.used == budget.limit {
                     state.descent.asked = false;
                     return Err(Stopped);
                 }
@@ -394,7 +395,7 @@ fn leave_sets(
     ensures stopped { IsErr result → budget.new.used ≡ budget.new.limit }
     ensures spends { Spends budget.old budget.new }
 {
-    if state.descent.path.is_empty() {
+    if state.descent.path.as_slice().is_empty() {
         if budget.used == budget.limit {
             return Err(Stopped);
         }
@@ -441,10 +442,10 @@ fn put_moved_in(sides: &Sides<'_>, ins: &[u16], numbers: &mut Numbers)
 /// Fills a list with the set that a whole search has found.
 fn put_set(sides: &Sides<'_>, state: &SearchState, numbers: &mut Numbers)
     requires standing { IsSearchState sides.now.pool.now sides.now.k state.now }
-    requires whole { length state.now.descent.path.items ≡ state.now.size + state.now.size }
-    ensures { numbers.new.items ≡ set_of sides.now.pool.now sides.now.k state.now.size state.now.descent.path.items }
+    requires whole { length state.now.descent.path ≡ state.now.size + state.now.size }
+    ensures { numbers.new.items ≡ set_of sides.now.pool.now sides.now.k state.now.size state.now.descent.path }
 {
-    let (outs, ins) = state.descent.path.split_at(state.size);
+    let (outs, ins) = state.descent.path.as_slice().split_at(state.size);
     put_kept(sides, outs, numbers);
     put_moved_in(sides, ins, numbers);
 }

@@ -15,6 +15,7 @@ mod generator;
 mod halves;
 mod limbo;
 pub mod numbers;
+mod path;
 mod rules;
 mod search;
 mod stage;

@@ -11,7 +11,8 @@ ghost use Rattle.dutch_sequence.specs.Keys.{IsIn};
 use crate::generator::Generator;
 use crate::halves::{end_of_half, first_of_half};
 use crate::numbers::{LIMIT, Numbers, fill};
-use crate::search::{Descent, Hinted, PLACES, Path, Tree, climb_on, first_hint, put_behind};
+use crate::path::{Path, Places};
+use crate::search::{Descent, Hinted, Tree, climb_on, first_hint, put_behind};
 use crate::steps::{Budget, Drawn};
 use arrayvec::ArrayVec;
 use std::marker::Model;
@@ -71,7 +72,7 @@ fn put_numbers(places: &[u16], numbers: &mut Numbers)
 }
 
 /// The places of numbers, which count from 1.
-fn places_of(numbers: &[u16]) -> Path
+fn places_of(numbers: &[u16]) -> Places
     requires few { length numbers.now ≤ LIMIT }
     ensures { result.items ≡ places_of numbers.now }
 {
@@ -97,7 +98,7 @@ fn leader(scores: &[u16], first: usize, place: usize) -> usize
 }
 
 /// The first set with the scores of a set of places.
-fn leaders(scores: &[u16], places: &[u16]) -> Path
+fn leaders(scores: &[u16], places: &[u16]) -> Places
     requires within { AllByRecursion (λ place. place < length scores.now) places.now }
     requires few { length places.now ≤ LIMIT }
     requires narrow { length scores.now ≤ LIMIT }
@@ -154,7 +155,8 @@ impl<'a> Tree for Ranked<'a> {
     }
 
     #[tactic(auto, unfolding(crate::specs::Halves::half_stop))]
-    fn admits(&self, path: &[u16], place: u16) -> bool {
+    fn admits(&self, path: &Path, place: u16) -> bool {
+        let path = path.as_slice();
         if path.len() < self.k {
             place_leads(self.scores, self.k, path, place as usize)
         } else {
@@ -170,7 +172,7 @@ impl<'a> Tree for Ranked<'a> {
 pub struct LimboExchanges {
     scores: Numbers,
     k: usize,
-    hint: Path,
+    hint: Places,
     descent: Descent,
 }
 
@@ -187,12 +189,12 @@ impl Model for LimboExchanges {
 
     ghost view = { λ t. record {
       coming = map (second_numbers t.k)
-          (hits (ahead (hinted t.hint.items (limbo_plan t.scores.items t.k)) t.descent.path.items t.descent.number));
-      left = trials (ahead (hinted t.hint.items (limbo_plan t.scores.items t.k)) t.descent.path.items t.descent.number);
+          (hits (ahead (hinted t.hint.items (limbo_plan t.scores.items t.k)) t.descent.path t.descent.number));
+      left = trials (ahead (hinted t.hint.items (limbo_plan t.scores.items t.k)) t.descent.path t.descent.number);
     } };
 
     ghost invariant = { λ t. (length t.scores.items ≤ LIMIT) × (t.k ≤ length t.scores.items)
-        × Stands (hinted t.hint.items (limbo_plan t.scores.items t.k)) t.descent.path.items };
+        × Stands (hinted t.hint.items (limbo_plan t.scores.items t.k)) t.descent.path };
 }
 
 impl LimboExchanges {
@@ -280,7 +282,7 @@ impl Generator for LimboExchanges {
         if !climb_on(&tree, &mut self.descent, budget)? {
             return Ok(false);
         }
-        put_numbers(&self.descent.path[self.k..], numbers);
+        put_numbers(&self.descent.path.as_slice()[self.k..], numbers);
         Ok(true)
     }
 }

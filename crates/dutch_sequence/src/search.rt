@@ -9,22 +9,15 @@
 // It makes no list, since it runs once for each trial: it writes what it finds into a list that it is handed
 // (`put_next`), and begins anew in place, at the cost of what it held (`start`).
 ghost use Rattle.std.specs.Prelude.{◌≡◌, ◌+◌, ◌-◌, ◌<◌, ◌≤◌, None, Some, [], ◌∷◌, ◌++◌, length, true, false};
-ghost use Rattle.dutch_sequence.specs.declared.search.TheConstants.{PLACES};
+ghost use Rattle.dutch_sequence.specs.declared.path.TheConstants.{PLACES};
 ghost use Rattle.dutch_sequence.specs.Trials.{Plan, Tried, entry, below, ahead, hits, trials, lower, lowest};
 ghost use Rattle.dutch_sequence.specs.Hints.{hint_after, first_hint};
 ghost use Rattle.dutch_sequence.specs.Choices.{GoesOn};
 ghost use Rattle.dutch_sequence.specs.Steps.{MatchDrawn, MatchProgress, Passes, Spends, way};
 ghost use Rattle.dutch_sequence.specs.Descents.{Stands, IsOpen, IsSpent, free_moves};
 
-use crate::numbers::LIMIT;
+use crate::path::{Path, Places};
 use crate::steps::{Budget, Drawn, Progress, Stopped};
-use arrayvec::ArrayVec;
-
-/// The most places of a search: an exchange or a set of moved-down players fills two for each number.
-pub const PLACES: usize = 2 * LIMIT;
-
-/// The numbers at the places of a search that are filled, one after another.
-pub type Path = ArrayVec<u16, PLACES>;
 
 /// What a search fills, and which numbers it tries where.
 pub trait Tree {
@@ -45,7 +38,7 @@ pub trait Tree {
         ensures { result ≡ (plan self.now).stop path.now };
 
     /// Yes if the number may stand next after the beginning.
-    fn admits(&self, path: &[u16], number: u16) -> bool
+    fn admits(&self, path: &Path, number: u16) -> bool
         requires opened { IsOpen (plan self.now) path.now }
         requires tried { number < (plan self.now).stop path.now }
         ensures { result ≡ (plan self.now).fits path.now number };
@@ -66,13 +59,13 @@ pub trait Tree {
     ghost narrow: { (tree : Self) → (plan tree).width ≤ PLACES };
 }
 
-/// Puts places behind a path.
-pub fn put_behind(path: &mut Path, places: &[u16])
-    requires room { length path.old.items + length places.now ≤ PLACES }
-    ensures { path.new.items ≡ path.old.items ++ places.now }
+/// Puts places behind others.
+pub fn put_behind(front: &mut Places, places: &[u16])
+    requires room { length front.old.items + length places.now ≤ PLACES }
+    ensures { front.new.items ≡ front.old.items ++ places.now }
 {
     for place in places {
-        path.push(*place);
+        front.push(*place);
     }
 }
 
@@ -103,7 +96,7 @@ pub fn first_hint(hint: &[u16]) -> usize
 #[derive(Drop)]
 pub struct Hinted<'a, T> {
     pub tree: T,
-    pub hint: &'a Path,
+    pub hint: &'a Places,
 }
 
 impl<'a, T: Tree> Tree for Hinted<'a, T> {
@@ -132,7 +125,7 @@ impl<'a, T: Tree> Tree for Hinted<'a, T> {
         self.tree.stop(path)
     }
 
-    fn admits(&self, path: &[u16], number: u16) -> bool {
+    fn admits(&self, path: &Path, number: u16) -> bool {
         self.tree.admits(path, number)
     }
 
@@ -157,13 +150,13 @@ pub struct Descent {
 impl Descent {
     /// A descent that has filled no place.
     pub fn new(number: usize) -> Descent
-        ensures path { result.path.items ≡ [] }
+        ensures path { result.path ≡ [] }
         ensures number { result.number ≡ number }
         ensures beyond { result.beyond ≡ None }
         ensures asked { result.asked ≡ false }
     {
         Descent {
-            path: ArrayVec::new(),
+            path: Path::new(),
             number,
             beyond: None,
             asked: false,
@@ -172,7 +165,7 @@ impl Descent {
 
     /// Begins anew, with no place filled.
     pub fn restart(&mut self, number: usize)
-        ensures path { self.new.path.items ≡ [] }
+        ensures path { self.new.path ≡ [] }
         ensures number { self.new.number ≡ number }
         ensures beyond { self.new.beyond ≡ None }
         ensures asked { self.new.asked ≡ false }
@@ -221,22 +214,22 @@ pub fn end_number<T: Tree>(tree: &T, path: &[u16]) -> usize
 
 /// Leaves all that is still to come below the path. What lies beyond it is not known then.
 pub fn leave<T: Tree>(tree: &T, descent: &mut Descent)
-    requires { Stands (T.plan tree.now) descent.old.path.items }
-    ensures path { descent.new.path.items ≡ descent.old.path.items }
-    ensures passes { Passes (GoesOn descent.old.path.items)
-        (hits (ahead (T.plan tree.now) descent.old.path.items descent.old.number))
-        (hits (ahead (T.plan tree.now) descent.new.path.items descent.new.number)) }
+    requires { Stands (T.plan tree.now) descent.old.path }
+    ensures path { descent.new.path ≡ descent.old.path }
+    ensures passes { Passes (GoesOn descent.old.path)
+        (hits (ahead (T.plan tree.now) descent.old.path descent.old.number))
+        (hits (ahead (T.plan tree.now) descent.new.path descent.new.number)) }
     ensures beyond { descent.new.beyond ≡ Some 0 }
     ensures asked { descent.new.asked ≡ descent.old.asked }
 {
-    descent.number = end_number(tree, &descent.path);
+    descent.number = end_number(tree, descent.path.as_slice());
     descent.beyond = Some(0);
 }
 
 /// Comes to a beginning about which the caller was not asked yet, and below which something is left.
 fn comes_to_ask<T: Tree>(tree: &T, ask: bool, descent: &mut Descent) -> bool
-    requires { Stands (T.plan tree.now) descent.old.path.items }
-    ensures path { descent.new.path.items ≡ descent.old.path.items }
+    requires { Stands (T.plan tree.now) descent.old.path }
+    ensures path { descent.new.path ≡ descent.old.path }
     ensures number { descent.new.number ≡ descent.old.number }
     ensures beyond { descent.new.beyond ≡ descent.old.beyond }
     ensures asks { result ≡ true → (ask ≡ true) × (free_moves descent.new < free_moves descent.old) }
@@ -246,26 +239,26 @@ fn comes_to_ask<T: Tree>(tree: &T, ask: bool, descent: &mut Descent) -> bool
         return false;
     }
     descent.asked = true;
-    descent.number < end_number(tree, &descent.path)
+    descent.number < end_number(tree, descent.path.as_slice())
 }
 
 /// Makes one trial: takes the number if it fits, and otherwise goes on to the next one.
 fn try_number<T: Tree>(tree: &T, descent: &mut Descent)
-    requires opened { IsOpen (T.plan tree.now) descent.old.path.items }
-    requires tried { descent.old.number < (T.plan tree.now).stop descent.old.path.items }
-    ensures stands { Stands (T.plan tree.now) descent.new.path.items }
-    ensures goes_on { ahead (T.plan tree.now) descent.old.path.items descent.old.number
-        ≡ Tried ((T.plan tree.now).beyond descent.old.path.items descent.old.number)
-        ∷ ahead (T.plan tree.now) descent.new.path.items descent.new.number }
+    requires opened { IsOpen (T.plan tree.now) descent.old.path }
+    requires tried { descent.old.number < (T.plan tree.now).stop descent.old.path }
+    ensures stands { Stands (T.plan tree.now) descent.new.path }
+    ensures goes_on { ahead (T.plan tree.now) descent.old.path descent.old.number
+        ≡ Tried ((T.plan tree.now).beyond descent.old.path descent.old.number)
+        ∷ ahead (T.plan tree.now) descent.new.path descent.new.number }
     ensures beyond { descent.new.beyond
-        ≡ lower descent.old.beyond ((T.plan tree.now).beyond descent.old.path.items descent.old.number) }
+        ≡ lower descent.old.beyond ((T.plan tree.now).beyond descent.old.path descent.old.number) }
     ensures nearer { free_moves descent.new < free_moves descent.old + 4 }
 {
     let number = descent.number as u16;
-    descent.beyond = lower_of(descent.beyond, tree.beyond(&descent.path, number));
+    descent.beyond = lower_of(descent.beyond, tree.beyond(descent.path.as_slice(), number));
     if tree.admits(&descent.path, number) {
         descent.path.push(number);
-        descent.number = first_number(tree, &descent.path);
+        descent.number = first_number(tree, descent.path.as_slice());
         descent.asked = false;
     } else {
         descent.number += 1;
@@ -275,15 +268,15 @@ fn try_number<T: Tree>(tree: &T, descent: &mut Descent)
 /// Takes the last number from a path below which nothing is left, and goes on to the next one; false if the path is
 /// empty.
 fn go_back<T: Tree>(tree: &T, descent: &mut Descent) -> bool
-    requires stood { Stands (T.plan tree.now) descent.old.path.items }
-    requires spent { IsSpent (T.plan tree.now) descent.old.path.items descent.old.number }
-    ensures stands { Stands (T.plan tree.now) descent.new.path.items }
-    ensures same { ahead (T.plan tree.now) descent.new.path.items descent.new.number
-        ≡ ahead (T.plan tree.now) descent.old.path.items descent.old.number }
+    requires stood { Stands (T.plan tree.now) descent.old.path }
+    requires spent { IsSpent (T.plan tree.now) descent.old.path descent.old.number }
+    ensures stands { Stands (T.plan tree.now) descent.new.path }
+    ensures same { ahead (T.plan tree.now) descent.new.path descent.new.number
+        ≡ ahead (T.plan tree.now) descent.old.path descent.old.number }
     ensures beyond { descent.new.beyond ≡ descent.old.beyond }
     ensures shorter { result ≡ true → free_moves descent.new < free_moves descent.old }
     ensures nearer { free_moves descent.new ≤ free_moves descent.old }
-    ensures ended { result ≡ false → ahead (T.plan tree.now) descent.new.path.items descent.new.number ≡ [] }
+    ensures ended { result ≡ false → ahead (T.plan tree.now) descent.new.path descent.new.number ≡ [] }
 {
     match descent.path.pop() {
         Some(number) => {
@@ -303,22 +296,22 @@ pub fn advance<T: Tree>(
     descent: &mut Descent,
     budget: &mut Budget,
 ) -> Result<Progress, Stopped>
-    requires { Stands (T.plan tree.now) descent.old.path.items }
-    ensures stands { Stands (T.plan tree.now) descent.new.path.items }
-    ensures answer { let before = hits (ahead (T.plan tree.now) descent.old.path.items descent.old.number) in
-        let ahead = ahead (T.plan tree.now) descent.new.path.items descent.new.number in
+    requires { Stands (T.plan tree.now) descent.old.path }
+    ensures stands { Stands (T.plan tree.now) descent.new.path }
+    ensures answer { let before = hits (ahead (T.plan tree.now) descent.old.path descent.old.number) in
+        let ahead = ahead (T.plan tree.now) descent.new.path descent.new.number in
         MatchProgress result
         ((hits ahead ≡ before) × (ask ≡ true)
         × (way budget.new (free_moves descent.new) < way budget.old (free_moves descent.old)))
-        ((before ≡ descent.new.path.items ∷ hits ahead)
-        × (length descent.new.path.items ≡ (T.plan tree.now).places))
+        ((before ≡ descent.new.path ∷ hits ahead)
+        × (length descent.new.path ≡ (T.plan tree.now).places))
         ((before ≡ []) × (ahead ≡ []))
         ((hits ahead ≡ before) × (budget.new.used ≡ budget.new.limit) × (0 < trials ahead)) }
-    ensures steps { budget.new.used + trials (ahead (T.plan tree.now) descent.new.path.items descent.new.number)
-        ≡ budget.old.used + trials (ahead (T.plan tree.now) descent.old.path.items descent.old.number) }
+    ensures steps { budget.new.used + trials (ahead (T.plan tree.now) descent.new.path descent.new.number)
+        ≡ budget.old.used + trials (ahead (T.plan tree.now) descent.old.path descent.old.number) }
     ensures beyond { lower descent.new.beyond
-        (lowest (ahead (T.plan tree.now) descent.new.path.items descent.new.number))
-        ≡ lower descent.old.beyond (lowest (ahead (T.plan tree.now) descent.old.path.items descent.old.number)) }
+        (lowest (ahead (T.plan tree.now) descent.new.path descent.new.number))
+        ≡ lower descent.old.beyond (lowest (ahead (T.plan tree.now) descent.old.path descent.old.number)) }
     ensures spends { Spends budget.old budget.new }
 {
     loop {
@@ -330,7 +323,7 @@ pub fn advance<T: Tree>(
                 descent.number = 1;
                 return Ok(Progress::Whole);
             }
-        } else if descent.number < tree.stop(&descent.path) {
+        } else if descent.number < tree.stop(descent.path.as_slice()) {
             if budget.used == budget.limit {
                 descent.asked = false;
                 return Err(Stopped);
@@ -348,23 +341,23 @@ pub fn advance<T: Tree>(
 /// Goes on to the next whole path, which the descent then has, unless the budget or the search ends before it. Nothing
 /// is left out.
 pub fn climb_on<T: Tree>(tree: &T, descent: &mut Descent, budget: &mut Budget) -> Drawn
-    requires { Stands (T.plan tree.now) descent.old.path.items }
-    ensures stands { Stands (T.plan tree.now) descent.new.path.items }
+    requires { Stands (T.plan tree.now) descent.old.path }
+    ensures stands { Stands (T.plan tree.now) descent.new.path }
     ensures answer { MatchDrawn result
-        ((hits (ahead (T.plan tree.now) descent.old.path.items descent.old.number)
-        ≡ descent.new.path.items ∷ hits (ahead (T.plan tree.now) descent.new.path.items descent.new.number))
-        × (length descent.new.path.items ≡ (T.plan tree.now).places))
-        ((hits (ahead (T.plan tree.now) descent.old.path.items descent.old.number) ≡ [])
-        × (ahead (T.plan tree.now) descent.new.path.items descent.new.number ≡ []))
-        ((hits (ahead (T.plan tree.now) descent.new.path.items descent.new.number)
-        ≡ hits (ahead (T.plan tree.now) descent.old.path.items descent.old.number))
+        ((hits (ahead (T.plan tree.now) descent.old.path descent.old.number)
+        ≡ descent.new.path ∷ hits (ahead (T.plan tree.now) descent.new.path descent.new.number))
+        × (length descent.new.path ≡ (T.plan tree.now).places))
+        ((hits (ahead (T.plan tree.now) descent.old.path descent.old.number) ≡ [])
+        × (ahead (T.plan tree.now) descent.new.path descent.new.number ≡ []))
+        ((hits (ahead (T.plan tree.now) descent.new.path descent.new.number)
+        ≡ hits (ahead (T.plan tree.now) descent.old.path descent.old.number))
         × (budget.new.used ≡ budget.new.limit)
-        × (0 < trials (ahead (T.plan tree.now) descent.new.path.items descent.new.number))) }
-    ensures steps { budget.new.used + trials (ahead (T.plan tree.now) descent.new.path.items descent.new.number)
-        ≡ budget.old.used + trials (ahead (T.plan tree.now) descent.old.path.items descent.old.number) }
+        × (0 < trials (ahead (T.plan tree.now) descent.new.path descent.new.number))) }
+    ensures steps { budget.new.used + trials (ahead (T.plan tree.now) descent.new.path descent.new.number)
+        ≡ budget.old.used + trials (ahead (T.plan tree.now) descent.old.path descent.old.number) }
     ensures beyond { lower descent.new.beyond
-        (lowest (ahead (T.plan tree.now) descent.new.path.items descent.new.number))
-        ≡ lower descent.old.beyond (lowest (ahead (T.plan tree.now) descent.old.path.items descent.old.number)) }
+        (lowest (ahead (T.plan tree.now) descent.new.path descent.new.number))
+        ≡ lower descent.old.beyond (lowest (ahead (T.plan tree.now) descent.old.path descent.old.number)) }
     ensures spends { Spends budget.old budget.new }
 {
     match advance(tree, false, descent, budget)? {

@@ -11,6 +11,7 @@ ghost use Rattle.dutch_sequence.specs.Descents.{IsOpen};
 use crate::exchange::Side;
 use crate::halves::{end_of_half, first_of_half};
 use crate::numbers::LIMIT;
+use crate::path::Path;
 use crate::search::Tree;
 use crate::sums::{Sides, run_of, total_of, value_at};
 
@@ -133,8 +134,8 @@ impl<'a> Tree for ExchangeStage<'a> {
     }
 
     #[tactic(auto, unfolding(crate::specs::Stages::within_reach))]
-    fn admits(&self, path: &[u16], place: u16) -> bool {
-        let range = range_of(self, path, place as usize);
+    fn admits(&self, path: &Path, place: u16) -> bool {
+        let range = range_of(self, path.as_slice(), place as usize);
         range.least <= self.difference && self.difference <= range.greatest
     }
 

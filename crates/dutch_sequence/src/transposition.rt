@@ -1,6 +1,6 @@
 // Transpositions, article D.1: tuples of a pool in the order of their numbers, specified by a sorted and filtered list
 // of tuples.
-ghost use Rattle.std.specs.Prelude.{◌≡◌, ◌+◌, ◌*◌, ◌<◌, ◌≤◌, ℕ, [], ◌∷◌, length, map, filter};
+ghost use Rattle.std.specs.Prelude.{◌≡◌, ◌+◌, ◌*◌, ◌<◌, ◌≤◌, [], ◌∷◌, length, map, filter};
 ghost use Rattle.std.specs.List.{AllByRecursion};
 ghost use Rattle.std.specs.List.Sorted.{IsStrictlyIncreasing};
 ghost use Rattle.dutch_sequence.specs.declared.numbers.TheConstants.{LIMIT};
@@ -12,8 +12,9 @@ ghost use Rattle.dutch_sequence.specs.Steps.{MatchProgress, Passes, Spends, way}
 
 use crate::generator::Generator;
 use crate::numbers::{LIMIT, Numbers, fill};
+use crate::path::{Path, Places};
 use crate::rules::Rule;
-use crate::search::{Descent, Hinted, Path, Tree, advance, climb_on, first_hint, leave};
+use crate::search::{Descent, Hinted, Tree, advance, climb_on, first_hint, leave};
 use crate::steps::{Budget, Drawn, Progress, Stopped};
 use arrayvec::ArrayVec;
 use std::marker::Model;
@@ -45,15 +46,15 @@ fn place_in(pool: &[u16], number: u16) -> usize
     place
 }
 
-/// Fills a path with the places of numbers in a pool.
-fn put_places(pool: &[u16], numbers: &[u16], path: &mut Path)
+/// Fills a list with the places of numbers in a pool.
+fn put_places(pool: &[u16], numbers: &[u16], places: &mut Places)
     requires small { length pool.now ≤ LIMIT }
     requires few { length numbers.now ≤ LIMIT }
-    ensures { path.new.items ≡ places_in pool.now numbers.now }
+    ensures { places.new.items ≡ places_in pool.now numbers.now }
 {
-    path.clear();
+    places.clear();
     for number in numbers {
-        path.push(place_in(pool, *number) as u16);
+        places.push(place_in(pool, *number) as u16);
     }
 }
 
@@ -104,8 +105,8 @@ impl<'a, R: Rule> Tree for Opponents<'a, R> {
         None
     }
 
-    fn admits(&self, path: &[u16], number: u16) -> bool {
-        !path.contains(&number)
+    fn admits(&self, path: &Path, number: u16) -> bool {
+        !path.has(number)
             && self
                 .rule
                 .may_meet(self.first[path.len()], self.pool[number as usize])
@@ -120,7 +121,7 @@ pub struct Transpositions<'a, R: Rule> {
     first: Numbers,
     pool: Numbers,
     rule: &'a R,
-    hint: Path,
+    hint: Places,
     descent: Descent,
 }
 
@@ -138,17 +139,17 @@ impl<'a, R: Rule> Model for Transpositions<'a, R> {
     ghost view = { λ t. record {
       coming = map (numbers_at t.pool.items)
           (hits (ahead (hinted t.hint.items
-          (transposition_plan (R.meets t.rule.now) t.first.items t.pool.items)) t.descent.path.items t.descent.number));
-      beginning = numbers_at t.pool.items t.descent.path.items;
+          (transposition_plan (R.meets t.rule.now) t.first.items t.pool.items)) t.descent.path t.descent.number));
+      beginning = numbers_at t.pool.items t.descent.path;
       free_moves = free_moves t.descent;
       left = trials (ahead (hinted t.hint.items
-          (transposition_plan (R.meets t.rule.now) t.first.items t.pool.items)) t.descent.path.items t.descent.number);
+          (transposition_plan (R.meets t.rule.now) t.first.items t.pool.items)) t.descent.path t.descent.number);
     } };
 
     ghost invariant = { λ t.
         (length t.first.items ≤ LIMIT) × (length t.pool.items ≤ LIMIT)
         × Stands (hinted t.hint.items (transposition_plan
-        (R.meets t.rule.now) t.first.items t.pool.items)) t.descent.path.items };
+        (R.meets t.rule.now) t.first.items t.pool.items)) t.descent.path };
 }
 
 impl<'a, R: Rule> Transpositions<'a, R> {
@@ -245,7 +246,7 @@ impl<'a, R: Rule> Transpositions<'a, R> {
             hint: &self.hint,
         };
         let progress = advance(&tree, true, &mut self.descent, budget)?;
-        pick(&self.pool, &self.descent.path, numbers);
+        pick(&self.pool, self.descent.path.as_slice(), numbers);
         Ok(progress)
     }
 
@@ -281,7 +282,7 @@ impl<'a, R: Rule> Generator for Transpositions<'a, R> {
         if !climb_on(&tree, &mut self.descent, budget)? {
             return Ok(false);
         }
-        pick(&self.pool, &self.descent.path, numbers);
+        pick(&self.pool, self.descent.path.as_slice(), numbers);
         Ok(true)
     }
 }

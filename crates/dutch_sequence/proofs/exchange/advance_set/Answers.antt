@@ -13,7 +13,7 @@ returns-in_err-advance-clause-answer c =
     let p = c.loop-state.state in
     let d = c.advance.new.descent in
     let stopped = c.in_err-advance.ensures.answer in
-    let same = sets-by_hits c.args.sides.now.pool.now c.args.sides.now.k p.hint.items p.size p.difference d.path.items p.descent.path.items d.number p.descent.number d.beyond p.descent.beyond c.advance.ensures.beyond stopped.0 in
+    let same = sets-by_hits c.args.sides.now.pool.now c.args.sides.now.k p.hint.items p.size p.difference d.path p.descent.path d.number p.descent.number d.beyond p.descent.beyond c.advance.ensures.beyond stopped.0 in
     came-stopped _ _ _ _ _ c.from_residual.ensures.0 (same ∙ c.loop-state.invariant.sets, stopped.1, λ _. omega (arith, stopped.2))
 
 pub returns-then-budget-clause-answer : goal.returns-then-budget-clause-answer
@@ -21,7 +21,7 @@ returns-then-budget-clause-answer c =
     let p = c.loop-state.state in
     let d = c.advance.new.descent in
     let begins = came _ _ _ _ c.in-Beginning.is c.in_ok-advance.ensures.answer in
-    let same = sets-by_hits c.args.sides.now.pool.now c.args.sides.now.k p.hint.items p.size p.difference d.path.items p.descent.path.items d.number p.descent.number d.beyond p.descent.beyond c.advance.ensures.beyond begins.0 in
+    let same = sets-by_hits c.args.sides.now.pool.now c.args.sides.now.k p.hint.items p.size p.difference d.path p.descent.path d.number p.descent.number d.beyond p.descent.beyond c.advance.ensures.beyond begins.0 in
     let asks : c.args.ask ≡ true = elim c.if-ask.branch [
       | then-ask w ↦ w.if-ask.true
       | else-ask w ↦ absurd (true≢false (sym begins.1 ∙ w.advance-is ∙ w.if-ask.false))
@@ -33,7 +33,7 @@ returns-in-Beginning-clause-answer c =
     let p = c.loop-state.state in
     let d = c.advance.new.descent in
     let begins = came _ _ _ _ c.in-Beginning.is c.in_ok-advance.ensures.answer in
-    let same = sets-by_hits c.args.sides.now.pool.now c.args.sides.now.k p.hint.items p.size p.difference d.path.items p.descent.path.items d.number p.descent.number d.beyond p.descent.beyond c.advance.ensures.beyond begins.0 in
+    let same = sets-by_hits c.args.sides.now.pool.now c.args.sides.now.k p.hint.items p.size p.difference d.path p.descent.path d.number p.descent.number d.beyond p.descent.beyond c.advance.ensures.beyond begins.0 in
     let asks : (c.args.ask ≡ true) × (0 < p.size) = elim c.if-ask.branch [
       | then-ask w ↦ (w.if-ask.true, ltb-true 0 p.size (sym w.advance-is ∙ begins.1))
       | else-ask w ↦ absurd (true≢false (sym begins.1 ∙ w.advance-is ∙ w.if-ask.false))
@@ -45,7 +45,7 @@ returns-in-Whole-clause-answer c =
     let p = c.loop-state.state in
     let d = c.advance.new.descent in
     let found = came _ _ _ _ c.in-Whole.is c.in_ok-advance.ensures.answer in
-    let follows = sets-found c.args.sides.now.pool.now c.args.sides.now.k p.hint.items p.size p.difference p.descent.path.items d.path.items p.descent.number d.number p.descent.beyond d.beyond (sym c.advance.ensures.beyond) found.0 in
+    let follows = sets-found c.args.sides.now.pool.now c.args.sides.now.k p.hint.items p.size p.difference p.descent.path d.path p.descent.number d.number p.descent.beyond d.beyond (sym c.advance.ensures.beyond) found.0 in
     (sym c.loop-state.invariant.sets ∙ follows, found.1)
 
 pub returns-then-not-next_stage-clause-answer : goal.returns-then-not-next_stage-clause-answer
@@ -54,7 +54,7 @@ returns-then-not-next_stage-clause-answer c =
     let d = c.advance.new.descent in
     let ended = c.next_stage.ensures.ended c.if-not-next_stage.true in
     let none = came _ _ _ _ c.in-Over.is c.in_ok-advance.ensures.answer in
-    let same = sets-by_hits c.args.sides.now.pool.now c.args.sides.now.k p.hint.items p.size p.difference d.path.items p.descent.path.items d.number p.descent.number d.beyond p.descent.beyond c.advance.ensures.beyond (ap hits none.1 ∙ sym none.0) in
+    let same = sets-by_hits c.args.sides.now.pool.now c.args.sides.now.k p.hint.items p.size p.difference d.path p.descent.path d.number p.descent.number d.beyond p.descent.beyond c.advance.ensures.beyond (ap hits none.1 ∙ sym none.0) in
     (sym c.loop-state.invariant.sets ∙ sym same ∙ sym c.next_stage.ensures.sets ∙ ended.0, ended.0, ended.1)
 
 pub loop-state-preserved : goal.loop-state-preserved
@@ -63,8 +63,8 @@ loop-state-preserved c =
     let p = c.loop-state.state in
     let d = c.advance.new.descent in
     let none = came _ _ _ _ c.in-Over.is c.in_ok-advance.ensures.answer in
-    let same = sets-by_hits c.args.sides.now.pool.now c.args.sides.now.k p.hint.items p.size p.difference d.path.items p.descent.path.items d.number p.descent.number d.beyond p.descent.beyond c.advance.ensures.beyond (ap hits none.1 ∙ sym none.0) in
-    let after = trials-after c.args.sides.now.pool.now c.args.sides.now.k p.hint.items p.size p.difference d.path.items p.descent.path.items d.number p.descent.number d.beyond p.descent.beyond c.advance.ensures.beyond in
+    let same = sets-by_hits c.args.sides.now.pool.now c.args.sides.now.k p.hint.items p.size p.difference d.path p.descent.path d.number p.descent.number d.beyond p.descent.beyond c.advance.ensures.beyond (ap hits none.1 ∙ sym none.0) in
+    let after = trials-after c.args.sides.now.pool.now c.args.sides.now.k p.hint.items p.size p.difference d.path p.descent.path d.number p.descent.number d.beyond p.descent.beyond c.advance.ensures.beyond in
     let nearer = c.next_stage.ensures.nearer c.if-not-next_stage.false in
     let fresh = c.next_stage.ensures.fresh c.if-not-next_stage.false in
     record {

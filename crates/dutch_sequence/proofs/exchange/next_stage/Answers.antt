@@ -12,14 +12,14 @@ returns-in-Some-clause-sets c =
     let p = c.args.state.now in
     let entered = c.enter.ensures in
     sets-entered c.args.sides.now.pool.now c.args.sides.now.k c.enter.new.self p.size c.in-Some.next entered.size entered.difference entered.hint entered.path entered.number entered.beyond
-    ∙ sets-next c.args.sides.now.pool.now c.args.sides.now.k p.hint.items p.size p.difference p.descent.path.items p.descent.number p.descent.beyond c.requires.spent c.in-Some.next (search rules)
+    ∙ sets-next c.args.sides.now.pool.now c.args.sides.now.k p.hint.items p.size p.difference p.descent.path p.descent.number p.descent.beyond c.requires.spent c.in-Some.next (search rules)
 
 pub returns-in-Some-clause-trials : goal.returns-in-Some-clause-trials
 returns-in-Some-clause-trials c =
     let p = c.args.state.now in
     let entered = c.enter.ensures in
     trials-entered c.args.sides.now.pool.now c.args.sides.now.k c.enter.new.self p.size c.in-Some.next entered.size entered.difference entered.hint entered.path entered.number entered.beyond
-    ∙ trials-next c.args.sides.now.pool.now c.args.sides.now.k p.hint.items p.size p.difference p.descent.path.items p.descent.number p.descent.beyond c.requires.spent c.in-Some.next (search rules)
+    ∙ trials-next c.args.sides.now.pool.now c.args.sides.now.k p.hint.items p.size p.difference p.descent.path p.descent.number p.descent.beyond c.requires.spent c.in-Some.next (search rules)
 
 pub returns-then-state-min-clause-sets : goal.returns-then-state-min-clause-sets
 returns-then-state-min-clause-sets c =
@@ -27,7 +27,7 @@ returns-then-state-min-clause-sets c =
     let entered = c.enter-then-state-min.ensures in
     sets-entered c.args.sides.now.pool.now c.args.sides.now.k c.enter-then-state-min.new.self (suc p.size) (least_difference c.args.sides.now.pool.now c.args.sides.now.k (suc p.size)) (entered.size ∙ one_up p.size)
     (entered.difference ∙ c.least_of.ensures ∙ ap (least_difference c.args.sides.now.pool.now c.args.sides.now.k) (one_up p.size)) entered.hint entered.path entered.number entered.beyond
-    ∙ sets-larger c.args.sides.now.pool.now c.args.sides.now.k p.hint.items p.size p.difference p.descent.path.items p.descent.number p.descent.beyond c.requires.spent (search rules) (search rules)
+    ∙ sets-larger c.args.sides.now.pool.now c.args.sides.now.k p.hint.items p.size p.difference p.descent.path p.descent.number p.descent.beyond c.requires.spent (search rules) (search rules)
 
 pub returns-then-state-min-clause-trials : goal.returns-then-state-min-clause-trials
 returns-then-state-min-clause-trials c =
@@ -35,14 +35,14 @@ returns-then-state-min-clause-trials c =
     let entered = c.enter-then-state-min.ensures in
     trials-entered c.args.sides.now.pool.now c.args.sides.now.k c.enter-then-state-min.new.self (suc p.size) (least_difference c.args.sides.now.pool.now c.args.sides.now.k (suc p.size)) (entered.size ∙ one_up p.size)
     (entered.difference ∙ c.least_of.ensures ∙ ap (least_difference c.args.sides.now.pool.now c.args.sides.now.k) (one_up p.size)) entered.hint entered.path entered.number entered.beyond
-    ∙ trials-larger c.args.sides.now.pool.now c.args.sides.now.k p.hint.items p.size p.difference p.descent.path.items p.descent.number p.descent.beyond c.requires.spent (search rules) (search rules)
+    ∙ trials-larger c.args.sides.now.pool.now c.args.sides.now.k p.hint.items p.size p.difference p.descent.path p.descent.number p.descent.beyond c.requires.spent (search rules) (search rules)
 
 pub returns-then-state-min-clause-nearer : goal.returns-then-state-min-clause-nearer
 returns-then-state-min-clause-nearer c _ =
     let p = c.args.state.now in
     let entered = c.enter-then-state-min.ensures in
     let larger : stages_ahead c.args.sides.now.pool.now c.args.sides.now.k (suc p.size) (least_difference c.args.sides.now.pool.now c.args.sides.now.k (suc p.size)) < stages_ahead c.args.sides.now.pool.now c.args.sides.now.k p.size p.difference =
-    stages-larger c.args.sides.now.pool.now c.args.sides.now.k p.hint.items p.size p.difference p.descent.path.items p.descent.number p.descent.beyond c.requires.spent (search rules) (search rules) in
+    stages-larger c.args.sides.now.pool.now c.args.sides.now.k p.hint.items p.size p.difference p.descent.path p.descent.number p.descent.beyond c.requires.spent (search rules) (search rules) in
     subst (λ size. stages_ahead c.args.sides.now.pool.now c.args.sides.now.k size c.enter-then-state-min.new.self.difference < stages_ahead c.args.sides.now.pool.now c.args.sides.now.k p.size p.difference) (sym (entered.size ∙ one_up p.size))
     (subst (λ d. stages_ahead c.args.sides.now.pool.now c.args.sides.now.k (suc p.size) d < stages_ahead c.args.sides.now.pool.now c.args.sides.now.k p.size p.difference)
     (sym (entered.difference ∙ c.least_of.ensures ∙ ap (least_difference c.args.sides.now.pool.now c.args.sides.now.k) (one_up p.size))) larger)
@@ -50,8 +50,8 @@ returns-then-state-min-clause-nearer c _ =
 pub returns-clause-ended : goal.returns-clause-ended
 returns-clause-ended c _ =
     let p = c.args.state.now in (
-      sets-none c.args.sides.now.pool.now c.args.sides.now.k p.hint.items p.size p.difference p.descent.path.items p.descent.number p.descent.beyond c.requires.spent (search rules) (search rules),
-      trials-none c.args.sides.now.pool.now c.args.sides.now.k p.hint.items p.size p.difference p.descent.path.items p.descent.number p.descent.beyond c.requires.spent (search rules) (search rules),
+      sets-none c.args.sides.now.pool.now c.args.sides.now.k p.hint.items p.size p.difference p.descent.path p.descent.number p.descent.beyond c.requires.spent (search rules) (search rules),
+      trials-none c.args.sides.now.pool.now c.args.sides.now.k p.hint.items p.size p.difference p.descent.path p.descent.number p.descent.beyond c.requires.spent (search rules) (search rules),
     )
 
 pub returns-in-Some-clause-stands : goal.returns-in-Some-clause-stands

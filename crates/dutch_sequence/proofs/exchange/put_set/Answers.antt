@@ -10,5 +10,5 @@ put_moved_in-requires-clause-within c =
     let pool = c.args.sides.now.pool.now in
     let k = c.args.sides.now.k in
     let p = c.args.state.now in
-    subst (AllByRecursion (λ place. place < length pool - k)) (sym (c.split_at.ensures.back ∙ ap (drop p.size) c.deref.ensures.0))
-    (Walked-halves p.size k (length pool - k) (within_reach pool k p.size p.difference) (beyond_reach pool k p.size p.difference) p.descent.path.items (Walked-hinted p.hint.items (exchange_plan pool k p.size p.difference) [] p.descent.path.items c.requires.standing.2.1)).1
+    subst (AllByRecursion (λ place. place < length pool - k)) (sym (c.split_at.ensures.back ∙ ap (drop p.size) c.as_slice.ensures))
+    (Walked-halves p.size k (length pool - k) (within_reach pool k p.size p.difference) (beyond_reach pool k p.size p.difference) p.descent.path (Walked-hinted p.hint.items (exchange_plan pool k p.size p.difference) [] p.descent.path c.requires.standing.2.1)).1

@@ -4,10 +4,10 @@ use Rattle.dutch_sequence.proofs.search.advance.Given as goal
 
 abbrev pub invariant-loop-ask : goal.invariant-loop-ask
 invariant-loop-ask g l = record {
-  stands : Stands (g.T.Tree.plan l.tree) l.descent.path.items;
-  same : hits (ahead (g.T.Tree.plan l.tree) l.descent.path.items l.descent.number) ≡ hits (ahead (g.T.Tree.plan l.tree) l.initial.descent.path.items l.initial.descent.number);
-  trials : l.budget.used + trials (ahead (g.T.Tree.plan l.tree) l.descent.path.items l.descent.number) ≡ l.initial.budget.used + trials (ahead (g.T.Tree.plan l.tree) l.initial.descent.path.items l.initial.descent.number);
-  beyond : lower l.descent.beyond (lowest (ahead (g.T.Tree.plan l.tree) l.descent.path.items l.descent.number)) ≡ lower l.initial.descent.beyond (lowest (ahead (g.T.Tree.plan l.tree) l.initial.descent.path.items l.initial.descent.number));
+  stands : Stands (g.T.Tree.plan l.tree) l.descent.path;
+  same : hits (ahead (g.T.Tree.plan l.tree) l.descent.path l.descent.number) ≡ hits (ahead (g.T.Tree.plan l.tree) l.initial.descent.path l.initial.descent.number);
+  trials : l.budget.used + trials (ahead (g.T.Tree.plan l.tree) l.descent.path l.descent.number) ≡ l.initial.budget.used + trials (ahead (g.T.Tree.plan l.tree) l.initial.descent.path l.initial.descent.number);
+  beyond : lower l.descent.beyond (lowest (ahead (g.T.Tree.plan l.tree) l.descent.path l.descent.number)) ≡ lower l.initial.descent.beyond (lowest (ahead (g.T.Tree.plan l.tree) l.initial.descent.path l.initial.descent.number));
   nearer : way l.budget (free_moves l.descent) ≤ way l.initial.budget (free_moves l.initial.descent);
   spends : Spends l.initial.budget l.budget;
 }

@@ -6,6 +6,6 @@ use Rattle.dutch_sequence.proofs.search.leave.Goals as goal
 pub returns-clause-passes : goal.returns-clause-passes
 returns-clause-passes g c =
     let plan = g.T.Tree.plan c.args.tree.now in
-    let path = c.args.descent.now.path.items in
+    let path = c.args.descent.now.path in
     idle-left plan (GoesOn path) path c.args.descent.now.number c.end_number-descent.result
-    (subst (λ path. IsSpent plan path c.end_number-descent.result) c.deref.ensures.0 c.end_number-descent.ensures) (λ whole on. on)
+    (subst (λ path. IsSpent plan path c.end_number-descent.result) c.as_slice.ensures c.end_number-descent.ensures) (λ whole on. on)

@@ -3,4 +3,4 @@ use Rattle.dutch_sequence.specs.Prelude.{places_in}
 use Rattle.dutch_sequence.proofs.transposition.put_places.Given as goal
 
 abbrev pub invariant-loop-number : goal.invariant-loop-number
-invariant-loop-number l = l.path.items ≡ places_in l.pool (take l.number-index l.numbers)
+invariant-loop-number l = l.places.items ≡ places_in l.pool (take l.number-index l.numbers)

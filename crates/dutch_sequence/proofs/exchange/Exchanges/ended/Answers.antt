@@ -21,7 +21,7 @@ invariant_of-result c =
         omega arith,
         omega arith,
         (omega (arith, ap length c.new-3.ensures.path), subst (Walked (hinted hint.items (exchange_plan pool 0 0 0)) []) (sym c.new-3.ensures.path) tt),
-        ended-known pool hint.items descent.path.items descent.number descent.beyond c.new.ensures,
-        subst (AllByRecursion (IsOfStage pool 0 0 0)) (sym (ended-hits pool hint.items descent.path.items descent.number c.new.ensures c.new-2.ensures c.new-3.ensures.path c.new-3.ensures.number)) tt,
+        ended-known pool hint.items descent.path descent.number descent.beyond c.new.ensures,
+        subst (AllByRecursion (IsOfStage pool 0 0 0)) (sym (ended-hits pool hint.items descent.path descent.number c.new.ensures c.new-2.ensures c.new-3.ensures.path c.new-3.ensures.number)) tt,
       ),
     )

@@ -10,8 +10,8 @@ returns-clause-answer c =
     let old = c.self.inside.state in
     let new = c.advance_set.new.state in
     sym (ap (λ v. v.coming) c.self.view_is)
-    ∙ subst (λ pool. sets_from pool k old ≡ set_of pool k new.size new.descent.path.items ∷ sets_from pool k new) c.deref.ensures.0 (came _ _ _ _ c.in-Whole.is c.in_ok-advance_set.ensures.answer).0
-    ∙ ap (λ set. set ∷ sets_from c.self.inside.pool.items k new) (sym (c.put_set.ensures ∙ ap (λ pool. set_of pool k new.size new.descent.path.items) c.deref.ensures.0))
+    ∙ subst (λ pool. sets_from pool k old ≡ set_of pool k new.size new.descent.path ∷ sets_from pool k new) c.deref.ensures.0 (came _ _ _ _ c.in-Whole.is c.in_ok-advance_set.ensures.answer).0
+    ∙ ap (λ set. set ∷ sets_from c.self.inside.pool.items k new) (sym (c.put_set.ensures ∙ ap (λ pool. set_of pool k new.size new.descent.path) c.deref.ensures.0))
 
 pub returns-in-Over-clause-answer : goal.returns-in-Over-clause-answer
 returns-in-Over-clause-answer c =

@@ -10,8 +10,8 @@ pub put_numbers-requires-clause-within : goal.put_numbers-requires-clause-within
 put_numbers-requires-clause-within c =
     let k = c.self.inside.k in
     let scores = c.deref.result.now in
-    AllByRecursion-take (λ place. place < LIMIT) (length c.deref-2.result.now - k) (drop k c.deref-2.result.now)
-    (AllByRecursion-drop (λ place. place < LIMIT) k c.deref-2.result.now
-    (subst (AllByRecursion (λ place. place < LIMIT)) (sym c.deref-2.ensures.0)
+    AllByRecursion-take (λ place. place < LIMIT) (length c.as_slice.result.now - k) (drop k c.as_slice.result.now)
+    (AllByRecursion-drop (λ place. place < LIMIT) k c.as_slice.result.now
+    (subst (AllByRecursion (λ place. place < LIMIT)) (sym c.as_slice.ensures)
     (Walked-below (limbo_plan scores k) LIMIT
-    (λ path. omega (arith, half_stop-one k (length scores) path, c.deref.ensures.1)) [] c.climb_on.new.descent.path.items c.climb_on.ensures.stands.1)))
+    (λ path. omega (arith, half_stop-one k (length scores) path, c.deref.ensures.1)) [] c.climb_on.new.descent.path c.climb_on.ensures.stands.1)))

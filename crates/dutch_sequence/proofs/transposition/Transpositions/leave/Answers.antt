@@ -10,6 +10,6 @@ returns-clause-passes g c =
     let plan = hinted own.hint.items (transposition_plan (g.R.Rule.meets own.rule.now) own.first.items own.pool.items) in
     let tuples = numbers_at own.pool.items in
     let left = c.leave.new.descent in
-    subst (λ (v : TuplesAhead). Passes (GoesOn v.beginning) v.coming (map tuples (hits (ahead plan left.path.items left.number)))) c.self.view_is
-    (passes-map (GoesOn own.descent.path.items) (GoesOn (tuples own.descent.path.items)) tuples _ _
-    (λ path on. record { rest = tuples on.rest; is = ap tuples on.is ∙ map-append _ own.descent.path.items on.rest }) c.leave.ensures.passes)
+    subst (λ (v : TuplesAhead). Passes (GoesOn v.beginning) v.coming (map tuples (hits (ahead plan left.path left.number)))) c.self.view_is
+    (passes-map (GoesOn own.descent.path) (GoesOn (tuples own.descent.path)) tuples _ _
+    (λ path on. record { rest = tuples on.rest; is = ap tuples on.is ∙ map-append _ own.descent.path on.rest }) c.leave.ensures.passes)

@@ -8,17 +8,17 @@ use Rattle.dutch_sequence.proofs.transposition.TranspositionsGenerator.put_next.
 pub pick-requires-clause-within : goal.pick-requires-clause-within
 pick-requires-clause-within g c =
     let own = c.self.inside in
-    subst (λ pool. AllByRecursion (λ place. place < length pool) c.deref-2.result.now) (sym c.deref.ensures.0)
-    (subst (AllByRecursion (λ place. place < length own.pool.items)) (sym c.deref-2.ensures.0)
+    subst (λ pool. AllByRecursion (λ place. place < length pool) c.as_slice.result.now) (sym c.deref.ensures.0)
+    (subst (AllByRecursion (λ place. place < length own.pool.items)) (sym c.as_slice.ensures)
     (Walked-below (transposition_plan (g.R.Rule.meets own.rule.now) own.first.items own.pool.items) (length own.pool.items) (λ path. omega arith) []
-    c.climb_on.new.descent.path.items c.climb_on.ensures.stands.1))
+    c.climb_on.new.descent.path c.climb_on.ensures.stands.1))
 
 pub returns-clause-answer : goal.returns-clause-answer
 returns-clause-answer g c =
     let own = c.self.inside in
-    let path = c.climb_on.new.descent.path.items in
+    let path = c.climb_on.new.descent.path in
     let plan = transposition_plan (g.R.Rule.meets own.rule.now) own.first.items own.pool.items in
-    let picked : c.pick.new.numbers.items ≡ numbers_at own.pool.items path = c.pick.ensures ∙ ap (λ pool. numbers_at pool c.deref-2.result.now) c.deref.ensures.0 ∙ ap (numbers_at own.pool.items) c.deref-2.ensures.0 in
+    let picked : c.pick.new.numbers.items ≡ numbers_at own.pool.items path = c.pick.ensures ∙ ap (λ pool. numbers_at pool c.as_slice.result.now) c.deref.ensures.0 ∙ ap (numbers_at own.pool.items) c.as_slice.ensures in
     sym (ap (λ v. v.coming) c.self.view_is)
     ∙ ap (map (numbers_at own.pool.items)) (drawn _ _ _ c.if-not-branch.false c.in_ok-climb_on.ensures.answer).0
     ∙ ap (λ numbers. numbers ∷ map (numbers_at own.pool.items) (hits (ahead (hinted own.hint.items plan) path c.climb_on.new.descent.number))) (sym picked)
