@@ -9,7 +9,7 @@ use Rattle.dutch_sequence.proofs.Found.{found, found-zero, found-suc}
 use Rattle.dutch_sequence.proofs.Orders.{IsIn-flat_map, flat_map-IsIn, Ascends-append, is_before-lower, is_before-equal}
 use Rattle.dutch_sequence.proofs.ByKeys.{is_before, Ascends}
 
-numbers-in : (x first count : ℕ) → IsIn x (numbers_from first count) → (first ≤ x) × (x < first + count)
+pub numbers-in : (x first count : ℕ) → IsIn x (numbers_from first count) → (first ≤ x) × (x < first + count)
 numbers-in x first zero m = absurd m
 numbers-in x first (suc count) (inl same) = (omega arith, omega arith)
 numbers-in x first (suc count) (inr m) = let rest = numbers-in x (suc first) count m in (omega arith, omega arith)

@@ -5,11 +5,11 @@ use Rattle.std.specs.List.{filter, flat_map, list_any, AllByRecursion}
 use Rattle.std.specs.List.Sorted.{IsStrictlyIncreasing}
 use Rattle.std.proofs.Math.Seq.{drop-cons, take-length}
 use Rattle.std.proofs.lemmas.Simd.{map-map}
-use Rattle.std.proofs.lemmas.List.{append-nil, map-append}
+use Rattle.std.proofs.lemmas.List.{append-nil, map-append, append_cancel_left}
 use Rattle.std.proofs.lemmas.List.Folds.{flat_map-map, list_any-append}
 use Rattle.std.proofs.lemmas.List.Kept.{AllPairs-from_increasing}
 use Rattle.std.proofs.lemmas.Bool.{ne_eqb, eq-eqb, eqb-true, lt-ltb, le-ltb, cases_order, cases_Bool, true≢false}
-use Rattle.dutch_sequence.specs.Prelude.{Plan, entry, ahead, hits, trials, tuples, without, all_meet, from_on, numbers_from, transpositions, short_beginnings, beginnings_below, transposition_plan, numbers_at, place_in, places_in, hinted, first_hint, Stands, IsOpen, Walked, HasEachOnce, sorted, IsIn, lower_first}
+use Rattle.dutch_sequence.specs.Prelude.{Plan, entry, ahead, hits, trials, tuples, without, all_meet, from_on, numbers_from, transpositions, short_beginnings, beginnings_below, transposition_plan, numbers_at, place_in, places_in, hinted, first_hint, Stands, IsOpen, Walked, HasEachOnce, sorted, IsIn, lower_first, GoesOn, IsPast}
 use Rattle.dutch_sequence.proofs.MarkLemmas.{once-push}
 use Rattle.dutch_sequence.proofs.Moves.{Walked-below}
 use Rattle.dutch_sequence.proofs.Lists.{map-flat_map, filter-flat_map, flat_map-filter, flat_map-below, map-numbers_from, map-same, filter-same, filter-filter, filter-all}
@@ -344,3 +344,18 @@ walked-once meets first pool beginning (x ∷ path) once walked =
 
 pub open-once : (meets : ℕ → ℕ → Bool) (first pool path : List ℕ) → IsOpen (transposition_plan meets first pool) path → HasEachOnce path
 open-once meets first pool path opened = walked-once meets first pool [] path tt opened.1
+
+-- the numbers of a path that is past another do not go on from that one's, since a pool ascends
+pub past-apart : (plan : Plan) (pool : List ℕ) → IsStrictlyIncreasing pool → ((path : List ℕ) → plan.stop path ≤ length pool) → (path later : List ℕ) → IsPast plan path later → GoesOn (numbers_at pool path) (numbers_at pool later) → ⊥
+past-apart plan pool rises stops path later past on =
+    let f : ℕ → ℕ = slice_index pool in
+    let front : List ℕ = map f past.front in
+    let first : map f path ≡ front ++ f past.number ∷ map f past.rest = ap (map f) past.here ∙ map-append f past.front (past.number ∷ past.rest) in
+    let second : map f later ≡ front ++ f past.next ∷ map f past.others = ap (map f) past.there ∙ map-append f past.front (past.next ∷ past.others) in
+    let same : front ++ f past.next ∷ map f past.others ≡ front ++ f past.number ∷ (map f past.rest ++ on.rest) =
+    sym second ∙ on.is ∙ ap (λ xs. xs ++ on.rest) first ∙ append_assoc front (f past.number ∷ map f past.rest) on.rest in
+    let heads : f past.next ∷ map f past.others ≡ f past.number ∷ (map f past.rest ++ on.rest) = append_cancel_left front _ _ same in
+    let equal : f past.next ≡ f past.number = cc in
+    let within : past.next < length pool = omega (arith, stops past.front, past.tried) in
+    let below : f past.number < f past.next = AllPairs-from_increasing pool rises past.number past.next 0 past.above within in
+    omega (arith, equal, below)

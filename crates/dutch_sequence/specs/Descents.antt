@@ -20,6 +20,19 @@ IsOpen plan path = (length path < plan.places) × Walked plan [] path
 abbrev pub IsSpent : Plan → List ℕ → ℕ → Type 0
 IsSpent plan path number = below plan (plan.places - length path) path number ≡ []
 
+-- a path follows all those that go on from another one: at the first place where it differs from that one it has a higher number, which
+-- is one that this place tries
+pub record IsPast (plan : Plan) (path later : List ℕ) : Type 0 where
+  pub front : List ℕ
+  pub number : ℕ
+  pub rest : List ℕ
+  pub next : ℕ
+  pub others : List ℕ
+  pub here : path ≡ front ++ number ∷ rest
+  pub there : later ≡ front ++ next ∷ others
+  pub above : number < next
+  pub tried : next < plan.stop front
+
 -- how many moves a search can make at most that are no trial: it gives back each place, and stands still at each beginning once
 abbrev pub free_moves : Descent → ℕ
 free_moves descent = 2 * length descent.path + (if descent.asked then 0 else 1)

@@ -6,7 +6,7 @@ unfoldable pub use Rattle.dutch_sequence.specs.Trials.{after, ahead, below}
 pub use Rattle.dutch_sequence.specs.Steps.{Ahead, MatchDrawn, MatchFound, MatchProgress, MatchStep, Passes, SetsAhead, Spends, TuplesAhead, way}
 unfoldable pub use Rattle.dutch_sequence.specs.Marks.{has_mark}
 pub use Rattle.dutch_sequence.specs.Marks.{stands_oddly}
-pub use Rattle.dutch_sequence.specs.Descents.{IsOpen, IsSpent, Stands, Walked, beyond_all, free_moves}
+pub use Rattle.dutch_sequence.specs.Descents.{IsOpen, IsPast, IsSpent, Stands, Walked, beyond_all, free_moves}
 pub use Rattle.dutch_sequence.specs.Hints.{first_hint, hint_after, hinted, number_or}
 pub use Rattle.dutch_sequence.specs.Transposition.{all_tuples, beginnings_below, short_beginnings, transpositions}
 pub use Rattle.dutch_sequence.specs.Halves.{two_halves}

@@ -9,12 +9,13 @@
 // It makes no list, since it runs once for each trial: it writes what it finds into a list that it is handed
 // (`put_next`), and begins anew in place, at the cost of what it held (`start`).
 ghost use Rattle.std.specs.Prelude.{◌≡◌, ◌+◌, ◌-◌, ◌<◌, ◌≤◌, None, Some, [], ◌∷◌, ◌++◌, length, true, false};
+ghost use Rattle.std.specs.List.{AllByRecursion};
 ghost use Rattle.dutch_sequence.specs.declared.path.TheConstants.{PLACES};
 ghost use Rattle.dutch_sequence.specs.Trials.{Plan, Tried, entry, below, ahead, hits, trials, lower, lowest};
 ghost use Rattle.dutch_sequence.specs.Hints.{hint_after, first_hint};
 ghost use Rattle.dutch_sequence.specs.Choices.{GoesOn};
 ghost use Rattle.dutch_sequence.specs.Steps.{MatchDrawn, MatchProgress, Passes, Spends, way};
-ghost use Rattle.dutch_sequence.specs.Descents.{Stands, IsOpen, IsSpent, free_moves};
+ghost use Rattle.dutch_sequence.specs.Descents.{Stands, IsOpen, IsPast, IsSpent, free_moves};
 
 use crate::path::{Path, Places};
 use crate::steps::{Budget, Drawn, Progress, Stopped};
@@ -218,6 +219,8 @@ pub fn leave<T: Tree>(tree: &T, descent: &mut Descent)
     ensures path { descent.new.path ≡ descent.old.path }
     ensures passes { Passes (GoesOn descent.old.path)
         (hits (ahead (T.plan tree.now) descent.old.path descent.old.number))
+        (hits (ahead (T.plan tree.now) descent.new.path descent.new.number)) }
+    ensures past { AllByRecursion (IsPast (T.plan tree.now) descent.old.path)
         (hits (ahead (T.plan tree.now) descent.new.path descent.new.number)) }
     ensures beyond { descent.new.beyond ≡ Some 0 }
     ensures asked { descent.new.asked ≡ descent.old.asked }

@@ -128,6 +128,7 @@ pub struct Transpositions<'a, R: Rule> {
 impl<'a, R: Rule> Model for Transpositions<'a, R> {
     ghost use Rattle.dutch_sequence.specs.declared.numbers.TheConstants.{LIMIT};
     ghost use Rattle.std.specs.Prelude.{◌≤◌, length, map};
+    ghost use Rattle.std.specs.List.Sorted.{IsStrictlyIncreasing};
     ghost use Rattle.dutch_sequence.specs.Steps.{TuplesAhead};
     ghost use Rattle.dutch_sequence.specs.Trials.{ahead, hits, trials};
     ghost use Rattle.dutch_sequence.specs.Descents.{Stands, free_moves};
@@ -147,7 +148,7 @@ impl<'a, R: Rule> Model for Transpositions<'a, R> {
     } };
 
     ghost invariant = { λ t.
-        (length t.first.items ≤ LIMIT) × (length t.pool.items ≤ LIMIT)
+        (length t.first.items ≤ LIMIT) × (length t.pool.items ≤ LIMIT) × IsStrictlyIncreasing t.pool.items
         × Stands (hinted t.hint.items (transposition_plan
         (R.meets t.rule.now) t.first.items t.pool.items)) t.descent.path };
 }
@@ -253,6 +254,7 @@ impl<'a, R: Rule> Transpositions<'a, R> {
     /// Leaves all lists that begin as the search stands, at no step.
     pub fn leave(&mut self)
         ensures passes { Passes (GoesOn self.old.beginning) self.old.coming self.new.coming }
+        ensures gone { AllByRecursion (λ list. ¬ GoesOn self.old.beginning list) self.new.coming }
         ensures same { self.new.free_moves ≡ self.old.free_moves }
     {
         let tree = Hinted {
