@@ -342,8 +342,8 @@ walked-once meets first pool beginning (x ∷ path) once walked =
     subst HasEachOnce (append_assoc beginning (x ∷ []) path)
     (walked-once meets first pool (beginning ++ x ∷ []) path (once-push beginning x once (not_taken (list_any (eqb x) beginning) (meets (slice_index first (length beginning)) (slice_index pool x)) walked.1)) walked.2)
 
-pub open-once : (meets : ℕ → ℕ → Bool) (first pool path : List ℕ) → IsOpen (transposition_plan meets first pool) path → HasEachOnce path
-open-once meets first pool path opened = walked-once meets first pool [] path tt opened.1
+pub open_once : (meets : ℕ → ℕ → Bool) (first pool path : List ℕ) → IsOpen (transposition_plan meets first pool) path → HasEachOnce path
+open_once meets first pool path opened = walked-once meets first pool [] path tt opened.1
 
 -- the numbers of a path that is past another do not go on from that one's, since a pool ascends
 pub past-apart : (plan : Plan) (pool : List ℕ) → IsStrictlyIncreasing pool → ((path : List ℕ) → plan.stop path ≤ length pool) → (path later : List ℕ) → IsPast plan path later → GoesOn (numbers_at pool path) (numbers_at pool later) → ⊥

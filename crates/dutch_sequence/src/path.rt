@@ -115,10 +115,11 @@ impl Path {
         self.places.len()
     }
 
-    /// Yes if the number is one of them, where none of them comes twice. The cost is the same however long the path is.
+    /// Yes if the number is one of them. The cost is the same however long the path is.
     pub fn has(&self, number: u16) -> bool
-        requires { number < PLACES }
-        ensures { HasEachOnce self.now → result ≡ list_any (eqb number) self.now }
+        requires once { HasEachOnce self.now }
+        requires low { number < PLACES }
+        ensures { result ≡ list_any (eqb number) self.now }
     {
         has_mark(&self.marks, number as usize)
     }

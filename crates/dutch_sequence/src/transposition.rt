@@ -105,6 +105,7 @@ impl<'a, R: Rule> Tree for Opponents<'a, R> {
         None
     }
 
+    #[tactic(auto, using(crate::proofs::TupleSearch::open_once))]
     fn admits(&self, path: &Path, number: u16) -> bool {
         !path.has(number)
             && self
