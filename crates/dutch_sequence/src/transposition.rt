@@ -1,6 +1,6 @@
 // Transpositions, article D.1: tuples of a pool in the order of their numbers, specified by a sorted and filtered list
 // of tuples.
-ghost use Rattle.std.specs.Prelude.{◌≡◌, ◌+◌, ◌*◌, ◌<◌, ◌≤◌, [], ◌∷◌, length, map, filter, take, slice_index};
+ghost use Rattle.std.specs.Prelude.{◌≡◌, ◌+◌, ◌*◌, ◌<◌, ◌≤◌, [], ◌∷◌, length, map, filter, take};
 ghost use Rattle.std.specs.List.{AllByRecursion};
 ghost use Rattle.std.specs.List.Sorted.{IsStrictlyIncreasing};
 ghost use Rattle.dutch_sequence.specs.declared.numbers.TheConstants.{LIMIT};
@@ -19,33 +19,27 @@ use crate::steps::{Budget, Drawn, Progress, Stopped};
 use arrayvec::ArrayVec;
 use std::marker::Model;
 
-/// How many numbers at the front of a list are those at the first places of a path: up to the first place where they
-/// differ, or all of the shorter one.
-fn front_at(pool: &[u16], path: &[u16], numbers: &[u16]) -> usize
+/// Puts the numbers at the first places of a path over those of a list.
+fn put_over(pool: &[u16], path: &[u16], numbers: &mut [u16])
     requires within { AllByRecursion (λ place. place < length pool.now) path.now }
-    ensures same { take result numbers.now ≡ numbers_at pool.now (take result path.now) }
-    ensures most { result < length path.now → result < length numbers.now
-        → ¬ (slice_index numbers.now result ≡ slice_index pool.now (slice_index path.now result)) }
+    requires few { length numbers.old ≤ length path.now }
+    ensures { numbers.new ≡ numbers_at pool.now (take (length numbers.old) path.now) }
 {
-    let shorter = path.len().min(numbers.len());
-    for place in 0..shorter {
-        if numbers[place] != pool[path[place] as usize] {
-            return place;
-        }
+    for place in 0..numbers.len() {
+        numbers[place] = pool[path[place] as usize];
     }
-    shorter
 }
 
-/// Fills a list anew with the numbers at places of a pool. A path mostly has the front of the one before, whose numbers
-/// stand in the list: these are kept, and only the rest is put.
+/// Fills a list anew with the numbers at places of a pool. The list mostly has as many already, those of the path before:
+/// to write over them costs less than to clear the list and to push each.
 fn pick(pool: &[u16], path: &[u16], numbers: &mut Numbers)
     requires within { AllByRecursion (λ place. place < length pool.now) path.now }
     requires few { length path.now ≤ LIMIT }
     ensures { numbers.new.items ≡ numbers_at pool.now path.now }
 {
-    let kept = front_at(pool, path, numbers);
-    numbers.truncate(kept);
-    for place in kept..path.len() {
+    numbers.truncate(path.len());
+    put_over(pool, path, numbers);
+    for place in numbers.len()..path.len() {
         numbers.push(pool[path[place] as usize]);
     }
 }
