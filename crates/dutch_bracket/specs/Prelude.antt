@@ -5,7 +5,7 @@ pub use Rattle.dutch_bracket.specs.Shapes.{IsFirst, IsFound, IsGreater, down_fro
 pub use Rattle.dutch_bracket.specs.Quality.{NextValue, Quality, again, all_items, by_list, by_number, compared_in, count_in_pairs, count_of_both, count_with_topscorers, differences, differs, first_difference, first_that_differs, float_of, has_topscorer, highest_first, is_down, is_float, is_missed, is_strong, is_strong_missed, is_third, is_up, is_wide, misses, one_if, placed, placed_all}
 unfoldable pub use Rattle.dutch_bracket.specs.Quality.{count_in, is_better, psd, quality_with}
 pub use Rattle.dutch_bracket.specs.QualityIn.{next_in, quality_in, with_next}
-unfoldable pub use Rattle.dutch_bracket.specs.QualityIn.{with_others}
+unfoldable pub use Rattle.dutch_bracket.specs.QualityIn.{with_floats}
 pub use Rattle.dutch_bracket.specs.NextBracket.{AreLeft, HasNoBetter, IsFlat, IsNext, IsNoBetter, IsOfBracket, is_lower, legal_by, legal_in, lowest_list, lowest_list_upto, next_bracket, no_value, psd_in, value_in, value_of_shape}
 unfoldable pub use Rattle.dutch_bracket.specs.NextBracket.{quality, value_of}
 pub use Rattle.dutch_bracket.specs.NextMatchings.{GoesBelow, IsSmall, JoinsBelow, MayPairBelow, count_below, group_below, number_pairs, players_below, score_below, seat_below, value_below}

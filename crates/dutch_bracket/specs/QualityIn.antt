@@ -32,9 +32,14 @@ next_in q = record { pairs = q.next_pairs; psd = q.next_psd }
 abbrev pub with_next : NextValue → Quality → Quality
 with_next next q = record q { next_pairs = next.pairs; next_psd = next.psd }
 
--- a quality with the items of a candidate by seats, but for what it says of the differences, of the next bracket, and of missed
--- preferences: C.6, C.7, C.10, C.11 [with quality_in]
-unfoldable pub with_others : Facts → Seated → Quality → Quality
-with_others facts candidate q =
+-- a quality with what a candidate by seats makes of those who go down or up again: C.12 to C.19 [with quality_in]
+unfoldable pub with_floats : Facts → Seated → Quality → Quality
+with_floats facts candidate q =
     let k = quality_with facts candidate (next_in q) in
-    record k { psd = q.psd; missed_preferences = q.missed_preferences; missed_strong = q.missed_strong }
+    record k {
+      psd = q.psd;
+      wide_differences = q.wide_differences;
+      third_colours = q.third_colours;
+      missed_preferences = q.missed_preferences;
+      missed_strong = q.missed_strong;
+    }

@@ -4,7 +4,7 @@ ghost use Rattle.std.specs.Prelude.{◌≡◌, ◌≤◌, true, length};
 ghost use Rattle.dutch_bracket.specs.Seated.{by_seats, IsCandidate};
 ghost use Rattle.dutch_bracket.specs.Quality.{quality_with, is_better};
 ghost use Rattle.dutch_bracket.specs.NextBracket.{no_value};
-ghost use Rattle.dutch_bracket.specs.QualityIn.{quality_in, next_in, with_next, with_others};
+ghost use Rattle.dutch_bracket.specs.QualityIn.{quality_in, next_in, with_next, with_floats};
 
 use crate::colours_missed::{Miss, count_in_pairs, count_with_topscorers};
 use crate::differences::fill_psd;
@@ -76,8 +76,8 @@ pub struct Quality {
     pub psd: Numbers,
     next_pairs: Reverse<usize>,
     pub next_psd: Numbers,
-    wide_differences: u16,
-    third_colours: u16,
+    pub wide_differences: u16,
+    pub third_colours: u16,
     pub missed_preferences: u16,
     pub missed_strong: u16,
     down_again: usize,
@@ -235,21 +235,18 @@ impl Quality {
 }
 
 /// The lists in which a quality is worked out, filled anew for each candidate and each beginning: its players by seats,
-/// its items, and those with whom S1R can still be paired, by number.
+/// and its items.
 #[derive(Default, Drop)]
 pub struct QualityLists {
     pub seated: Seated,
     pub quality: Quality,
-    pub pool: Numbers,
 }
 
-/// Fills a quality with the items of a candidate by seats, except those of C.6, C.7, C.10 and C.11, which stay.
-#[tactic(auto, using(crate::proofs::Places::length_differences), unfolding(crate::specs::Quality::quality_with, crate::specs::QualityIn::with_others))]
-pub fn fill_others(field: &Field, candidate: &Seated, quality: &mut Quality)
-    ensures { quality_in quality.new ≡ with_others field.now candidate.now (quality_in quality.old) }
+/// Fills what a quality says of those who go down or up again in a candidate by seats (C.12 to C.19).
+#[tactic(auto, using(crate::proofs::Places::length_differences), unfolding(crate::specs::Quality::quality_with, crate::specs::QualityIn::with_floats))]
+pub fn fill_floats(field: &Field, candidate: &Seated, quality: &mut Quality)
+    ensures { quality_in quality.new ≡ with_floats field.now candidate.now (quality_in quality.old) }
 {
-    quality.wide_differences = count_with_topscorers(field, Miss::Wide, &candidate.pairs);
-    quality.third_colours = count_with_topscorers(field, Miss::Third, &candidate.pairs);
     fill_down_again(field, candidate, 1, &mut quality.down_again_by);
     fill_up_again(field, candidate, 1, &mut quality.up_again_by);
     fill_down_again(field, candidate, 2, &mut quality.down_again_before_by);
@@ -261,14 +258,16 @@ pub fn fill_others(field: &Field, candidate: &Seated, quality: &mut Quality)
 }
 
 /// Fills a quality with the items of a candidate by seats, except that of C.7, which stays.
-#[tactic(auto, unfolding(crate::specs::Quality::quality_with, crate::specs::QualityIn::with_others))]
+#[tactic(auto, unfolding(crate::specs::Quality::quality_with, crate::specs::QualityIn::with_floats))]
 pub fn fill_seated(field: &Field, candidate: &Seated, quality: &mut Quality)
     ensures { quality_in quality.new ≡ quality_with field.now candidate.now (next_in (quality_in quality.old)) }
 {
     fill_psd(field, candidate, &mut quality.psd);
+    quality.wide_differences = count_with_topscorers(field, Miss::Wide, &candidate.pairs);
+    quality.third_colours = count_with_topscorers(field, Miss::Third, &candidate.pairs);
     quality.missed_preferences = count_in_pairs(field, Miss::Preference, &candidate.pairs);
     quality.missed_strong = count_in_pairs(field, Miss::StrongPreference, &candidate.pairs);
-    fill_others(field, candidate, quality);
+    fill_floats(field, candidate, quality);
 }
 
 /// Fills the quality of a candidate of a bracket with these seats, for the value of the next bracket that it has.

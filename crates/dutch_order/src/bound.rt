@@ -1,6 +1,6 @@
 // What can tell that all candidates with a given beginning are idle: they may be passed over. Then a listing may leave
 // them all out. A bound works its answer out in its `Room`, which the caller of the listing lends to each question: so
-// no question makes a list.
+// no question makes a list. What it leaves there serves the next question, whose beginning is often nearly the same.
 ghost use Rattle.std.specs.Prelude.{◌≡◌, ℕ, Bool, true};
 ghost use Rattle.dutch_order.specs.Arrangements.{Arrangement, Frame, candidates};
 ghost use Rattle.dutch_sequence.specs.Exchanged.{IsExchange};
@@ -15,6 +15,9 @@ use dutch_sequence::Exchange;
 pub trait Bound {
     /// Room in which it works a question out. It is lent for each question, so that no question makes it anew.
     type Room;
+
+    /// What stands in the room is true.
+    ghost Holds: { Self → Self.Room → Type 0 };
 
     /// The bracket whose candidates it knows.
     ghost frame: { Self → Frame };
@@ -31,11 +34,18 @@ pub trait Bound {
     /// A candidate is idle: it may be passed over.
     ghost is_idle: { Self → Arrangement → Bool };
 
-    /// Yes if it knows that every candidate with this beginning is idle. A no says nothing.
+    /// Makes the room ready for questions, whatever stands in it.
+    fn start(&self, room: &mut Self::Room)
+        ensures { Holds self.now room.new };
+
+    /// Yes if it knows that every candidate with this beginning is idle. A no says nothing. The room is ready then for
+    /// the next question.
     fn cannot_win(&self, prefix: &Prefix<'_>, room: &mut Self::Room) -> bool
-        ensures { result ≡ true → (a : Arrangement)
+        requires { Holds self.now room.old }
+        ensures idle { result ≡ true → (a : Arrangement)
             → IsIn a (candidates (meets self.now) (may_be_left self.now) (frame self.now) (shape self.now))
-            → Begins prefix.now a → is_idle self.now a ≡ true };
+            → Begins prefix.now a → is_idle self.now a ≡ true }
+        ensures ready { Holds self.now room.new };
 
     /// Yes if it knows that every candidate with this beginning, whose S1 and S2 are chosen, and with such an S1R is
     /// idle. A no says nothing.

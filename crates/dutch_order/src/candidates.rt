@@ -349,7 +349,7 @@ impl<'a, R: Rule> Candidates<'a, R> {
         if self.ended {
             return Step::End;
         }
-        if self.too_many_left || cuts.cuts(&Prefix::nothing()) {
+        if self.too_many_left || cuts.cuts_at_first(&Prefix::nothing()) {
             self.ended = true;
             return Step::End;
         }

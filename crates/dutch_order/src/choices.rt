@@ -294,7 +294,7 @@ impl<'a, R: Rule> Blocks for ByS1r<'a, R> {
             },
             very_next: self.resume.is_some(),
         };
-        if cuts.cuts(&chosen.lists) {
+        if cuts.cuts_at_first(&chosen.lists) {
             return Ok(false);
         }
         if !choose_set(&mut self.s1r, &chosen, cuts, budget)? {

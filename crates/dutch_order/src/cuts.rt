@@ -14,10 +14,29 @@ pub trait Cuts {
     /// An arrangement is idle.
     ghost Idle: { Self → Arrangement → Type 0 };
 
+    /// It is ready for a question about a beginning.
+    ghost Ready: { Self → Type 0 };
+
+    /// Becomes ready for questions about beginnings.
+    fn start(&mut self)
+        ensures ready { Ready self.new }
+        ensures keeps { (a : Arrangement) → Idle self.new a → Idle self.old a };
+
     /// Yes if all arrangements that begin so are known to be idle. A no says nothing.
     fn cuts(&mut self, prefix: &Prefix<'_>) -> bool
+        requires { Ready self.old }
         ensures told { result ≡ true → (a : Arrangement) → Begins prefix.now a → Idle self.old a }
+        ensures ready { Ready self.new }
         ensures keeps { (a : Arrangement) → Idle self.new a → Idle self.old a };
+
+    /// The same, as the first of its questions.
+    fn cuts_at_first(&mut self, prefix: &Prefix<'_>) -> bool
+        ensures told { result ≡ true → (a : Arrangement) → Begins prefix.now a → Idle self.old a }
+        ensures keeps { (a : Arrangement) → Idle self.new a → Idle self.old a }
+    {
+        self.start();
+        self.cuts(prefix)
+    }
 
     /// Yes if all arrangements that begin so, and whose S1R is such an exchange, are known to be idle. A no says
     /// nothing.
@@ -33,6 +52,10 @@ pub struct NoCuts;
 
 impl Cuts for NoCuts {
     ghost Idle = { λ _ _. ⊥ };
+
+    ghost Ready = { λ _. Unit {0} };
+
+    fn start(&mut self) {}
 
     fn cuts(&mut self, _prefix: &Prefix<'_>) -> bool {
         false
@@ -55,6 +78,12 @@ impl<'b, B: Bound> Cuts for BoundWithRoom<'b, B> {
     ghost Idle = { λ w a.
         IsIn a (candidates (B.meets w.bound.now) (B.may_be_left w.bound.now) (B.frame w.bound.now)
         (B.shape w.bound.now)) → B.is_idle w.bound.now a ≡ true };
+
+    ghost Ready = { λ w. B.Holds w.bound.now w.room.now };
+
+    fn start(&mut self) {
+        self.bound.start(self.room);
+    }
 
     fn cuts(&mut self, prefix: &Prefix<'_>) -> bool {
         self.bound.cannot_win(prefix, self.room)

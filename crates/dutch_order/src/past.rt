@@ -51,6 +51,7 @@ pub fn choose_tuple<R: Rule, C: Cuts>(
     ensures keeps { (a : Arrangement) → C.Idle cuts.new a → C.Idle cuts.old a }
     ensures spends { Spends budget.old budget.new }
 {
+    cuts.start();
     loop {
         match tuples.choices.advance(&mut tuples.latest, budget)? {
             Progress::Beginning => {

@@ -70,6 +70,10 @@ impl<'a> Bound for Wished<'a> {
 
     ghost is_idle = { λ w a. not (grants w.wish a) };
 
+    ghost Holds = { λ _ _. Unit {0} };
+
+    fn start(&self, _room: &mut ()) {}
+
     #[tactic(auto, unfolding(dutch_bracket::specs::Brackets::candidates_of))]
     fn cannot_win(&self, prefix: &Prefix<'_>, _room: &mut ()) -> bool {
         rules_out(&self.shaped, self.wish, prefix)

@@ -108,6 +108,10 @@ impl<'a> Bound for Keeps<'a> {
 
     ghost is_idle = { λ _ a. not (slice_index a.s1r 0 == 1) || not (slice_index a.s1r 1 == 2) };
 
+    ghost Holds = { λ _ _. Unit {0} };
+
+    fn start(&self, _room: &mut ()) {}
+
     fn cannot_win(&self, prefix: &Prefix<'_>, _room: &mut ()) -> bool {
         let Filling::S2r = prefix.filling() else {
             return false;
@@ -151,6 +155,10 @@ impl<'a> Bound for ByDifference<'a> {
     ghost may_be_left = { λ b. ⟦<Free as Rule>⟧.may_be_left b.rule.now };
 
     ghost is_idle = { λ _ a. sum_of a.s1r == 5 };
+
+    ghost Holds = { λ _ _. Unit {0} };
+
+    fn start(&self, _room: &mut ()) {}
 
     fn cannot_win(&self, _prefix: &Prefix<'_>, _room: &mut ()) -> bool {
         false

@@ -17,6 +17,7 @@ loop-cuts-preserved-then-cuts g c =
     record {
       passes = passes-more _ _ _ _ (passes-same _ _ _ _ was.passes (sym stands.0))
           (tuples-left Idle chosen.lists chosen.very_next c.if-not-chosen.true front told _ _ c.leave.ensures.passes);
+      ready = c.cuts.ensures.ready;
       keeps = λ a idle. was.keeps a (c.cuts.ensures.keeps a idle);
       spends = spends-more was.spends c.advance.ensures.spends;
     }

@@ -4,7 +4,7 @@ use Rattle.dutch_order.specs.Prelude.{Arrangement, may_leave, AreCandidates, Lis
 use Rattle.dutch_order.proofs.Behind.{no-candidates, still-candidates, later-candidates}
 use Rattle.dutch_sequence.proofs.Skipping.{passes-none, passes-all, all-of, drawn}
 use Rattle.dutch_order.proofs.candidates.Candidates.go_on.Goals as goal
-use Rattle.dutch_order.proofs.candidates.Candidates.go_on.Goals.{then-self-2-via-then-self-2, then-self-2-via-else-self-2+then-cuts}
+use Rattle.dutch_order.proofs.candidates.Candidates.go_on.Goals.{then-self-2-via-then-self-2, then-self-2-via-else-self-2+then-cuts_at_first}
 
 pub returns-then-self-2-clause-answer : goal.returns-then-self-2-clause-answer
 returns-then-self-2-clause-answer g c =
@@ -15,10 +15,10 @@ returns-then-self-2-clause-answer g c =
     sym (ap (λ told. still_coming told before) c.if-self.false) ∙ ap (λ (l : Listing g.row.R.Denot). l.coming) c.self.view_is in (
       elim c.then-self-2.branch [
         | then-self-2-via-then-self-2 w ↦ passes-none Idle _ _ (sym coming ∙ c.self.invariant.1 w.if-self-2.true)
-        | then-self-2-via-else-self-2+then-cuts w ↦
+        | then-self-2-via-else-self-2+then-cuts_at_first w ↦
             passes-all Idle _
             (all-of Idle _
-            (λ a. w.cuts.ensures.told w.if-cuts.true a (subst (λ filling. BeginsAt filling w.nothing.result.lists a) (sym w.nothing.ensures) (tt {0}))))
+            (λ a. w.cuts_at_first.ensures.told w.if-cuts_at_first.true a (subst (λ filling. BeginsAt filling w.nothing.result.lists a) (sym w.nothing.ensures) (tt {0}))))
       ],
       refl,
       ap (λ (l : Listing g.row.R.Denot). l.latest) c.self.view_is,
@@ -48,7 +48,7 @@ invariant_of-self-in-Ok-true g c =
       c.self.invariant.0,
       λ too_many_left. absurd (true≢false (sym too_many_left ∙ c.if-self-2.false)),
       subst (λ told. IsOne (still_coming told after)) (sym c.if-self.false)
-          (later-candidates _ _ _ _ (g.C.Cuts.Idle c.cuts.new.self) before _ _ (drawn _ _ _ c.in-Ok-true.field-0-test c.in-Ok-true.ensures.answer).0 all),
+          (later-candidates _ _ _ _ (g.C.Cuts.Idle c.cuts_at_first.new.self) before _ _ (drawn _ _ _ c.in-Ok-true.field-0-test c.in-Ok-true.ensures.answer).0 all),
     )
 
 pub invariant_of-self-in-Err : goal.invariant_of-self-in-Err
@@ -62,5 +62,5 @@ invariant_of-self-in-Err g c =
       c.self.invariant.0,
       λ too_many_left. absurd (true≢false (sym too_many_left ∙ c.if-self-2.false)),
       subst (λ told. IsOne (still_coming told after)) (sym c.if-self.false)
-          (still-candidates _ _ _ _ (g.C.Cuts.Idle c.cuts.new.self) before after c.in-Err.ensures.answer.0 all),
+          (still-candidates _ _ _ _ (g.C.Cuts.Idle c.cuts_at_first.new.self) before after c.in-Err.ensures.answer.0 all),
     )
