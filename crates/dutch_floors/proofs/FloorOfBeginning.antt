@@ -17,7 +17,7 @@ use Rattle.dutch_player.specs.Prelude.{Facts}
 use Rattle.dutch_bracket.specs.declared.colours_missed.Miss.TheVariants.{Preference}
 use Rattle.dutch_bracket.specs.Prelude.{HasPairsOf, fixed, fixed_lists, has_s1, is_of_shape, lists_by, residents_down, is_uniform, psd_with, repeated, IsFlat, is_lower, quality, Quality, count_in_pairs, highest_first, is_better, misses, psd, quality_with, IsNoBetter, HasNoBetter, NextValue, IsOf, Reached, frame_of, candidates_of, downfloaters, quality_of, all_pairs, difference, score_at, seat_of, floor_over}
 use Rattle.dutch_floors.specs.Behind.{Basis, NoneBeats, NoneHasBetterNext}
-use Rattle.dutch_floors.specs.FloorOf.{floor_of, is_flat, is_known, more_by, more_in, psd_over, residents_score, s1_by, s1_of}
+use Rattle.dutch_floors.specs.FloorOf.{floor_by, is_flat, is_known, more_by, more_in, psd_over, residents_score, s1_by, s1_of}
 use Rattle.dutch_floors.specs.Outlooks.{IsOutlook, awaited}
 use Rattle.dutch_bracket.proofs.C06Psd.{psd_by_first, psd_of_all, psd_of_beginning, uniform_of}
 use Rattle.dutch_floors.proofs.C07Outlook.{awaited_holds, flat_residents}
@@ -105,17 +105,18 @@ module _ (basis : Basis) (lower : List ℕ) (a : Arrangement) (of' : IsOf basis.
         missed_more (lists_by S2r lists) (has_fixed_pairs S2r lists a h),
       )
 
-  -- C.6 to C.19: no candidate with a beginning is better than its floor
-  floor_stands : (b : Beginning) → Begins b a → (has_s1 b.filling || is_uniform facts reached shape) ≡ true → IsOutlook facts reached lower shape basis.outlook
-      → is_better it (floor_of basis b) ≡ false
-  unfolding quality_of quality quality_with floor_of floor_over psd_over
-  floor_stands b h known outlook =
+  -- C.6 to C.19: no candidate with a beginning is better than its floor, where so many more miss
+  floor_stands : (b : Beginning) (more : ℕ) → Begins b a → (has_s1 b.filling || is_uniform facts reached shape) ≡ true → IsOutlook facts reached lower shape basis.outlook
+      → count_in_pairs facts (misses Preference) (all_pairs reached.seats (fixed_lists b)) + more ≤ it.missed_preferences
+      → is_better it (floor_by basis (s1_of basis b) more (fixed_lists b)) ≡ false
+  unfolding quality_of quality quality_with floor_over psd_over
+  floor_stands b more h known outlook missed =
       let later = awaited_holds facts reached lower shape basis.outlook of' outlook b.filling b.lists a arranged h known in
       let pairs = has_fixed_pairs b.filling b.lists a h in
       floor_holds facts reached lower (psd_over basis (s1_of basis b) (fixed facts reached (fixed_lists b)))
-      (awaited facts reached shape basis.outlook (s1_of basis b)) (more_by b.filling basis (fixed_lists b))
+      (awaited facts reached shape basis.outlook (s1_of basis b)) more
       (more_in true facts reached shape (fixed facts reached (fixed_lists b))) (fixed_lists b) a pairs
-      (psd_holds b.filling b.lists h known (is_flat facts reached) refl) later.0 later.1 (more_holds b.filling b.lists h)
+      (psd_holds b.filling b.lists h known (is_flat facts reached) refl) later.0 later.1 missed
       (more_miss_strongly facts reached shape (all_pairs reached.seats (fixed_lists b)) [] a within m
       (beside reached.seats (fixed_lists b) a pairs) (none_known (downfloaters facts reached a)))
 
@@ -123,10 +124,13 @@ known_s1 : (basis : Basis) (b : Beginning) → is_known basis b ≡ true → (ha
 known_s1 basis b h = (and_parts (is_of_shape basis.shape (fixed_lists b)) _ h).1
 
 -- so it is a floor
-pub none_beats : (basis : Basis) (b : Beginning) (floor : Quality) → IsOf basis.facts basis.reached
-    → IsOutlook basis.facts basis.reached basis.lower basis.shape basis.outlook → is_known basis b ≡ true → floor ≡ floor_of basis b → NoneBeats basis b floor
-none_beats basis b floor of' outlook known e a m h =
-    ap (is_better (quality_of basis.facts basis.reached basis.lower a)) e ∙ floor_stands basis basis.lower a of' m b h (known_s1 basis b known) outlook
+pub none_beats : (basis : Basis) (b : Beginning) (floor : Quality) (more : ℕ) → IsOf basis.facts basis.reached
+    → IsOutlook basis.facts basis.reached basis.lower basis.shape basis.outlook → is_known basis b ≡ true → more ≤ more_by b.filling basis (fixed_lists b)
+    → floor ≡ floor_by basis (s1_of basis b) more (fixed_lists b) → NoneBeats basis b floor
+none_beats basis b floor more of' outlook known few e a m h =
+    ap (is_better (quality_of basis.facts basis.reached basis.lower a)) e
+    ∙ floor_stands basis basis.lower a of' m b more h (known_s1 basis b known) outlook
+    (omega (arith, few, more_holds basis basis.lower a of' m b.filling b.lists h))
 
 -- ---- values of the next bracket
 

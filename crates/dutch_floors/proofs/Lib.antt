@@ -11,3 +11,4 @@ pub mod FreePlayers
 pub mod C10Lonely
 pub mod C07Outlook
 pub mod FloorOfBeginning
+pub mod SumLemmas

@@ -1,13 +1,14 @@
 -- Numbers that are marked one by one, and those that are left.
-use Rattle.std.proofs.Common.{◌≡◌, ℕ, zero, suc, ◌+◌, ◌-◌, ◌≤◌, Bool, true, false, not, ◌||◌, cond, List, [], ◌∷◌, ◌++◌, length, map, drop, filter, refl, sym, ap, ◌∙◌, arith}
+use Rattle.std.proofs.Common.{◌≡◌, ℕ, zero, suc, ◌+◌, ◌-◌, ◌≤◌, Bool, true, false, not, ◌||◌, cond, List, [], ◌∷◌, ◌++◌, length, map, max, drop, filter, refl, sym, ap, ◌∙◌, arith}
 use Rattle.std.proofs.lemmas.List.{length-map, append-nil}
 use Rattle.std.proofs.lemmas.List.Elements.{filter-append}
-use Rattle.std.specs.List.{AllByRecursion}
+use Rattle.std.specs.List.{AllByRecursion, list_any}
 use Rattle.dutch_order.specs.Prelude.{is_member, numbers_from, left_of, Arrangement}
 use Rattle.dutch_sequence.proofs.Members.{numbers-append}
 use Rattle.dutch_player.specs.Prelude.{Facts}
 use Rattle.dutch_sequence.specs.declared.numbers.TheConstants.{LIMIT}
-use Rattle.dutch_bracket.specs.Prelude.{Reached, score_at, has_bit, beyond, pool}
+use Rattle.dutch_order.specs.declared.bracket.Shape.{Shape}
+use Rattle.dutch_bracket.specs.Prelude.{Reached, score_at, has_bit, beyond, lonely, lonely_first, lonely_second, pool, residents_down, suits, waiting}
 use Rattle.dutch_sequence.proofs.Skipping.{filter-keeps, filter-drops}
 
 three : (p q r : ℕ → Bool) (x : ℕ) (xs ys : List ℕ) (a b c : Bool) → p x ≡ not a → q x ≡ not b → r x ≡ not c
@@ -60,3 +61,16 @@ pub beyond_is : (part xs : List ℕ) → drop (length part) xs ≡ beyond part x
 beyond_is [] xs = refl
 beyond_is (y ∷ part) [] = refl
 beyond_is (y ∷ part) (x ∷ xs) = beyond_is part xs
+
+-- lonely players by the lists in which they were counted
+pub lonely_few : (facts : Facts) (reached : Reached) (shape : Shape) (b : Arrangement) (waits others : List ℕ) (first second : ℕ) → waits ≡ waiting b → others ≡ pool facts reached b
+    → first ≤ length (filter (λ x. not (list_any (suits facts reached x) others)) waits)
+    → second ≤ length (filter (λ y. not (list_any (λ x. suits facts reached x y) waits)) others)
+    → max first (second - residents_down reached shape) ≤ lonely facts reached shape b
+unfolding lonely lonely_first lonely_second
+lonely_few facts reached shape b waits others first second those these one two =
+    let first_is : length (filter (λ x. not (list_any (suits facts reached x) others)) waits) ≡ lonely_first facts reached b =
+    λ i. length (filter (λ x. not (list_any (suits facts reached x) (these i))) (those i)) in
+    let second_is : length (filter (λ y. not (list_any (λ x. suits facts reached x y) waits)) others) ≡ lonely_second facts reached b =
+    λ i. length (filter (λ y. not (list_any (λ x. suits facts reached x y) (those i))) (these i)) in
+    omega (arith, one, two, first_is, second_is)

@@ -9,7 +9,7 @@ use Rattle.dutch_order.specs.declared.prefix.Filling.TheVariants.{S1, S2, S2r}
 use Rattle.dutch_order.specs.Prelude.{Arrangement, numbers_from, Beginning}
 use Rattle.dutch_sequence.specs.declared.numbers.TheConstants.{LIMIT}
 use Rattle.dutch_player.specs.Prelude.{Facts}
-use Rattle.dutch_bracket.specs.Prelude.{Quality, psd, Reached, Seated, seat_of, score_at, fixed, in_both, fixed_lists, is_of_shape, has_s1, wants, wants_firmly, lonely, psd_with, is_uniform, floor_over}
+use Rattle.dutch_bracket.specs.Prelude.{Quality, psd, Reached, Seated, seat_of, score_at, fixed, in_both, fixed_lists, is_of_shape, has_s1, wants, wants_firmly, lonely, next_in, psd_with, is_uniform, floor_over}
 use Rattle.dutch_floors.specs.Behind.{Basis}
 use Rattle.dutch_floors.specs.Outlooks.{awaited}
 use Rattle.dutch_floors.specs.declared.colour_floor.Wants.{Wants}
@@ -69,20 +69,21 @@ more_by S2 basis lists = more_in false basis.facts basis.reached basis.shape (fi
 more_by S2r basis lists =
     max (more_in false basis.facts basis.reached basis.shape (fixed basis.facts basis.reached lists)) (lonely basis.facts basis.reached basis.shape lists)
 
--- the floor by S1 and by what is known by seats, where so many more miss
-abbrev pub floor_by : Basis → List ℕ → ℕ → Seated → Quality
-floor_by basis s1 more known =
-    floor_over basis.facts (psd_over basis s1 known) (awaited basis.facts basis.reached basis.shape basis.outlook s1) more
-    (more_in true basis.facts basis.reached basis.shape known) known
+-- the floor behind lists, where so many more miss: of what a quality says only the PSD and the next bracket stay (C.6, C.7)
+abbrev pub floor_with : Basis → ℕ → Quality → Arrangement → Quality
+floor_with basis more q lists =
+    floor_over basis.facts q.psd (next_in q) more (more_in true basis.facts basis.reached basis.shape (fixed basis.facts basis.reached lists))
+    (fixed basis.facts basis.reached lists)
+
+-- the floor by S1 and by what is fixed, where so many more miss
+abbrev pub floor_by : Basis → List ℕ → ℕ → Arrangement → Quality
+floor_by basis s1 more lists =
+    floor_over basis.facts (psd_over basis s1 (fixed basis.facts basis.reached lists)) (awaited basis.facts basis.reached basis.shape basis.outlook s1) more
+    (more_in true basis.facts basis.reached basis.shape (fixed basis.facts basis.reached lists)) (fixed basis.facts basis.reached lists)
 
 -- S1 of a beginning; the first one, if none is chosen [with IsOutlook]
 abbrev pub s1_of : Basis → Beginning → List ℕ
 s1_of basis b = s1_by b.filling basis.shape (fixed_lists b).s1
-
--- the floor of a beginning
-unfoldable pub floor_of : Basis → Beginning → Quality
-floor_of basis b =
-    floor_by basis (s1_of basis b) (more_by b.filling basis (fixed_lists b)) (fixed basis.facts basis.reached (fixed_lists b))
 
 -- a floor is known: the lists are those of the bracket and the shape, and S1 is chosen, or it does not matter which is
 abbrev pub is_known : Basis → Beginning → Bool

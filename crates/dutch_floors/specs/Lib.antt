@@ -4,3 +4,5 @@ pub mod GhostValues
 pub mod Behind
 pub mod FloorOf
 pub mod Outlooks
+pub mod KnownPairs
+pub mod Missed

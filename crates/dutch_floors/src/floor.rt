@@ -1,25 +1,29 @@
 // The floor of a beginning: a quality that no candidate with this beginning is better than (C.04.3 C.6 to C.19). It is
 // asked for at each beginning that a choice comes to, so it takes no memory and looks at each player only a few times.
-ghost use Rattle.std.specs.Prelude.{◌≡◌, ◌≤◌, ◌||◌, ◌&&◌, true, length};
+ghost use Rattle.std.specs.Prelude.{◌≡◌, ◌≤◌, ◌||◌, ◌&&◌, ℕ, [], true, filter, length};
 ghost use Rattle.std.specs.Result.{MatchResult};
 ghost use Rattle.dutch_order.specs.Prelude.{Fits, Spends};
+ghost use Rattle.dutch_order.specs.declared.prefix.Filling.TheVariants.{S2r};
 ghost use Rattle.dutch_sequence.specs.declared.numbers.TheConstants.{LIMIT};
-ghost use Rattle.dutch_bracket.specs.Prelude.{next_in, quality_in, fixed, HasFewPairs, fixed_lists, psd_with};
-ghost use Rattle.dutch_bracket.specs.Prelude.{IsOf, frame_of, floor_over, has_s1, is_uniform};
+ghost use Rattle.dutch_bracket.specs.Prelude.{all_pairs, fixed, fixed_lists, frame_of, has_s1, is_uneven, is_uniform};
+ghost use Rattle.dutch_bracket.specs.Prelude.{HasFewPairs, IsOf, next_in, psd_with, quality_in, seated_so};
 ghost use Rattle.dutch_bracket.specs.Prelude.{IsNoBetter};
 ghost use Rattle.dutch_floors.specs.Outlooks.{IsOutlook, IsOutlookFrom, awaited};
-ghost use Rattle.dutch_floors.specs.FloorOf.{AreWants, is_flat, is_known, residents_score, psd_over, more_by, s1_of};
-ghost use Rattle.dutch_floors.specs.FloorOf.{floor_by, floor_of};
+ghost use Rattle.dutch_floors.specs.FloorOf.{AreWants, is_flat, is_known, residents_score, psd_over, more_by, more_in};
+ghost use Rattle.dutch_floors.specs.FloorOf.{floor_with, s1_of};
+ghost use Rattle.dutch_floors.specs.KnownPairs.{AreKnown, by_seat, number_pairs};
+ghost use Rattle.dutch_floors.specs.Missed.{AreMissed};
 ghost use Rattle.dutch_floors.specs.Behind.{IsBasisFor, NoneBeats, NoneHasBetterNext};
 
-use crate::colour_floor::{Wants, missed, more_missed, wants_in};
-use crate::lonely::lonely;
+use crate::colour_floor::{Wants, more_missed, served, wants_in};
+use crate::known_pairs::{KnownPairs, PairSums, fill_uneven};
+use crate::lonely::{lonely, most_lonely};
+use crate::notes::{FloorNotes, FloorQuestion};
 use crate::outlook::{Outlook, is_flat, leaves_first};
 use dutch_bracket::differences::fill_psd;
 use dutch_bracket::fixed_lists::{FixedLists, fill_fixed, fixed_lists, has_s1, is_of_shape};
 use dutch_bracket::psd_floor::{FlatShape, is_uniform};
-use dutch_bracket::quality::{NextValue, Quality, QualityLists, fill_others};
-use dutch_bracket::seated::Seated;
+use dutch_bracket::quality::{NextValue, Quality, QualityLists, fill_floats};
 use dutch_bracket::shaped::ShapedBracket;
 use dutch_order::{Budget, Filling, LIMIT, Numbers, Prefix, Shape, Stopped, numbered_from};
 use std::marker::Model;
@@ -187,55 +191,121 @@ impl<'a> Floors<'a> {
         self.awaits_no_better(prefix, quality)
     }
 
-    /// How many more miss than in the pairs that are fixed (C.10), while such a list is filled.
-    fn more_by(&self, filling: Filling, lists: &FixedLists<'_>, room: &mut QualityLists) -> usize
-        requires pairs { HasFewPairs lists.now }
-        requires seated { room.old.seated ≡ fixed self.now.facts self.now.reached lists.now }
-        ensures value { result ≡ more_by filling self.now lists.now }
+    /// How many more miss than in the known pairs, by counts (C.10); or of firm preferences (C.11).
+    fn more_missed(&self, known: &KnownPairs, firm: bool) -> usize
+        requires known { AreKnown self.now known.now }
+        ensures value { result ≡ more_in firm self.now.facts self.now.reached self.now.shape
+            (seated_so self.now.facts self.now.reached (by_seat self.now.reached.seats known.now.pairs.items) []) }
         ensures few { result ≤ LIMIT }
-        ensures seated { room.new.seated ≡ room.old.seated }
+        ensures room { length known.now.pairs.items ≤ LIMIT }
     {
-        let shape = self.shape();
-        let more = more_missed(self.shaped.context, shape, &room.seated, self.wants(false));
-        match filling {
-            Filling::S1 | Filling::S2 => return more,
+        let served = served(self.shaped.context, self.shape(), known.pairs.len());
+        more_missed(self.wants(firm), known.sums.wants(firm), served)
+    }
+
+    /// Lonely players may make a difference: S1R is chosen, and the most that there can be reach where a floor may lose.
+    /// (A no leaves them out: the floor is lower then than it can be, and not wrong.)
+    fn counts_lonely(
+        &self,
+        asked: &FloorQuestion<'_, '_>,
+        lists: &FixedLists<'_>,
+        missed: usize,
+    ) -> bool
+        ensures { result ≡ true → asked.now.prefix.now.filling ≡ S2r }
+    {
+        match asked.prefix.filling() {
+            Filling::S1 | Filling::S2 => false,
             Filling::S2r => {
-                return more.max(lonely(self.shaped.context, shape, lists, &mut room.pool));
+                let most = most_lonely(self.shaped.context, self.shaped.shape, lists);
+                missed <= usize::from(asked.most)
+                    && missed.saturating_add(most) >= usize::from(asked.fewest)
             }
         }
     }
 
-    /// Fills a list with the PSD (C.6).
+    /// So many more miss at least than in the known pairs (C.10), while such a list is filled: once S1R is chosen,
+    /// lonely players count too.
+    #[tactic(auto, using(crate::proofs::FloorLemmas::counts_few, crate::proofs::FloorLemmas::lonely_too))]
+    fn more_by(
+        &self,
+        asked: &FloorQuestion<'_, '_>,
+        lists: &FixedLists<'_>,
+        notes: &mut FloorNotes,
+    ) -> usize
+        requires known { AreKnown self.now notes.old.known }
+        requires pairs { notes.old.known.pairs.items ≡ number_pairs lists.now }
+        requires few { HasFewPairs lists.now }
+        ensures value { result ≤ more_by asked.now.prefix.now.filling self.now lists.now }
+        ensures few { result ≤ LIMIT }
+        ensures known { notes.new.known ≡ notes.old.known }
+    {
+        let more = self.more_missed(&notes.known, false);
+        let missed = usize::from(notes.known.sums.missed) + more;
+        if !self.counts_lonely(asked, lists, missed) {
+            return more;
+        }
+        more.max(lonely(self.shaped.context, self.shape(), lists, &mut notes.lonely))
+    }
+
+    /// What the known pairs add up to, where so many more miss their preference beside them (C.10), and by counts so many
+    /// more a strong one (C.11).
+    fn sums_with(&self, known: &KnownPairs, more: usize) -> PairSums
+        requires known { AreKnown self.now known.now }
+        requires more { more ≤ LIMIT }
+        ensures { AreMissed self.now more (by_seat self.now.reached.seats known.now.pairs.items) result }
+    {
+        let more_strong = self.more_missed(known, true) as u16;
+        let mut sums = known.sums;
+        sums.missed += more as u16;
+        sums.strong += more_strong;
+        sums
+    }
+
+    /// Fills in the PSD: by S1, or by what is fixed (C.6).
     #[tactic(auto, unfolding(crate::specs::FloorOf::psd_over))]
-    fn fill_psd(&self, s1: &[u16], seated: &Seated, psd: &mut Numbers)
+    fn fill_psd(&self, s1: &[u16], lists: &FixedLists<'_>, room: &mut QualityLists)
         requires few { length s1.now ≤ self.now.shape.mdps }
-        ensures { psd.new.items ≡ psd_over self.now s1.now seated.now }
+        requires pairs { HasFewPairs lists.now }
+        ensures { room.new.quality.psd.items
+            ≡ psd_over self.now s1.now (fixed self.now.facts self.now.reached lists.now) }
     {
         if self.flat {
-            self.fill_psd_with(s1, psd)
+            self.fill_psd_with(s1, &mut room.quality.psd);
         } else {
-            fill_psd(self.shaped.context.field(), seated, psd)
+            let context = self.shaped.context;
+            fill_fixed(context, lists, &mut room.seated);
+            fill_psd(context.field(), &room.seated, &mut room.quality.psd);
         }
     }
 
-    /// Fills the floor by S1 and by what is known by seats, where so many more miss (C.10).
-    #[tactic(auto, unfolding(dutch_bracket::specs::Floors::floor_over, dutch_bracket::specs::Quality::quality_with, dutch_bracket::specs::QualityIn::with_others))]
-    fn fill_over(&self, s1: &[u16], more: usize, room: &mut QualityLists)
+    /// Fills in the items that S1 tells, or what is fixed (C.6, C.7).
+    fn fill_first(&self, s1: &[u16], lists: &FixedLists<'_>, room: &mut QualityLists)
         requires few { length s1.now ≤ self.now.shape.mdps }
-        requires more { more ≤ LIMIT }
-        ensures { quality_in room.new.quality ≡ floor_by self.now s1.now more room.old.seated }
+        requires pairs { HasFewPairs lists.now }
+        ensures psd { (quality_in room.new.quality).psd
+            ≡ psd_over self.now s1.now (fixed self.now.facts self.now.reached lists.now) }
+        ensures next { next_in (quality_in room.new.quality)
+            ≡ awaited self.now.facts self.now.reached self.now.shape self.now.outlook s1.now }
     {
-        let context = self.shaped.context;
-        let seated = &room.seated;
-        let quality = &mut room.quality;
-        let more_strong = more_missed(context, self.shape(), seated, self.wants(true));
-        self.fill_psd(s1, seated, &mut quality.psd);
+        self.fill_psd(s1, lists, room);
         let next = self.awaited(s1);
-        quality.put_next(next.pairs, &next.psd);
-        let missed = missed(context, &seated.pairs);
-        quality.missed_preferences = missed.preference + more as u16;
-        quality.missed_strong = missed.strong + more_strong as u16;
-        fill_others(context.field(), seated, quality);
+        room.quality.put_next(next.pairs, &next.psd);
+    }
+
+    /// Fills in the items that pairs add up to (C.8 to C.19).
+    fn fill_counted(&self, lists: &FixedLists<'_>, sums: PairSums, room: &mut QualityLists)
+        requires pairs { HasFewPairs lists.now }
+        requires uneven { sums.uneven
+            ≡ length (filter (is_uneven self.now.facts) (all_pairs self.now.reached.seats lists.now)) }
+        ensures { (more : ℕ) → AreMissed self.now more (all_pairs self.now.reached.seats lists.now) sums
+            → quality_in room.new.quality ≡ floor_with self.now more (quality_in room.old.quality) lists.now }
+    {
+        room.quality.wide_differences = sums.wide;
+        room.quality.third_colours = sums.third;
+        room.quality.missed_preferences = sums.missed;
+        room.quality.missed_strong = sums.strong;
+        fill_uneven(self.shaped.context, lists, sums.uneven, &mut room.seated);
+        fill_floats(self.shaped.context.field(), &room.seated, &mut room.quality);
     }
 
     /// No floor of a beginning is known if its lists have no room in the shape, or if S1 is not chosen and it matters
@@ -252,29 +322,28 @@ impl<'a> Floors<'a> {
         is_of_shape(self.shape(), lists) && (has_s1(prefix.filling()) || self.uniform)
     }
 
-    /// Fills what is known by counts behind a beginning, if something is.
-    #[tactic(auto, unfolding(crate::specs::FloorOf::floor_of))]
-    fn fill_known(&self, prefix: &Prefix<'_>, room: &mut QualityLists) -> bool
-        ensures known { result ≡ is_known self.now prefix.now }
-        ensures of { IsOf self.now.facts self.now.reached }
-        ensures outlook { IsOutlook self.now.facts self.now.reached self.now.lower self.now.shape self.now.outlook }
-        ensures value { result ≡ true → quality_in room.new.quality ≡ floor_of self.now prefix.now }
+    /// Fills a quality that no candidate with a beginning is better than. A no says that none is known.
+    pub fn floor(
+        &self,
+        asked: &FloorQuestion<'_, '_>,
+        notes: &mut FloorNotes,
+        room: &mut QualityLists,
+    ) -> bool
+        requires known { AreKnown self.now notes.old.known }
+        ensures floor { result ≡ true → NoneBeats self.now asked.now.prefix.now (quality_in room.new.quality) }
+        ensures known { AreKnown self.now notes.new.known }
     {
+        let prefix = asked.prefix;
         let lists = fixed_lists(prefix);
         if !self.is_known(prefix, &lists) {
             return false;
         }
-        fill_fixed(self.shaped.context, &lists, &mut room.seated);
-        let more = self.more_by(prefix.filling(), &lists, room);
-        self.fill_over(self.s1(prefix), more, room);
+        notes.known.go_to(self.shaped.context, &lists);
+        let more = self.more_by(asked, &lists, notes);
+        let sums = self.sums_with(&notes.known, more);
+        self.fill_first(self.s1(prefix), &lists, room);
+        self.fill_counted(&lists, sums, room);
         true
-    }
-
-    /// Fills a quality that no candidate with a beginning is better than. A no says that none is known.
-    pub fn floor(&self, prefix: &Prefix<'_>, room: &mut QualityLists) -> bool
-        ensures { result ≡ true → NoneBeats self.now prefix.now (quality_in room.new.quality) }
-    {
-        self.fill_known(prefix, room)
     }
 
     /// The quality that a first pass aims at, if all residents have one score: what a beginning with the first S1
@@ -286,20 +355,17 @@ impl<'a> Floors<'a> {
             return None;
         }
         let lists = FixedLists {
-            s1: &self.first,
+            s1: &[],
             s2: &[],
             s1r: &[],
             s2r: &[],
         };
-        let mut room = QualityLists::default();
-        fill_fixed(self.shaped.context, &lists, &mut room.seated);
-        let more = more_missed(
-            self.shaped.context,
-            self.shape(),
-            &room.seated,
-            self.wants(false),
-        );
-        self.fill_over(&self.first, more, &mut room);
+        let (mut known, mut room) = (KnownPairs::default(), QualityLists::default());
+        known.clear();
+        let more = self.more_missed(&known, false);
+        let sums = self.sums_with(&known, more);
+        self.fill_first(&self.first, &lists, &mut room);
+        self.fill_counted(&lists, sums, &mut room);
         Some(room.quality.with_the_worst_floats())
     }
 }

@@ -9,5 +9,7 @@ mod colour_floor;
 pub mod floor;
 mod ghost_value;
 mod ghosts;
+pub mod known_pairs;
 mod lonely;
+pub mod notes;
 mod outlook;

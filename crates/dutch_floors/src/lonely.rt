@@ -1,5 +1,5 @@
 // Once S1R is chosen: players who miss their preference, whoever of those left becomes their opponent (C.04.3 C.10).
-ghost use Rattle.std.specs.Prelude.{◌≡◌, ◌+◌, ◌-◌, ◌≤◌, ◌||◌, ℕ, not, length, filter, max};
+ghost use Rattle.std.specs.Prelude.{◌≡◌, ◌+◌, ◌-◌, ◌≤◌, ◌||◌, ℕ, false, not, length, filter, max};
 ghost use Rattle.std.specs.List.{list_any};
 ghost use Rattle.arrayvec.specs.ArrayVec.{array_vec_len};
 ghost use Rattle.dutch_sequence.specs.declared.numbers.TheConstants.{LIMIT};
@@ -13,6 +13,41 @@ use dutch_order::{LIMIT, Numbers, Shape};
 
 /// A mark for each number of a bracket.
 type Marks = [u64; LIMIT / WORD + 1];
+
+/// Who suited each number last, or 0.
+type Suitors = [u16; LIMIT + 1];
+
+/// Where lonely players are looked for.
+#[derive(Drop)]
+pub(crate) struct LonelyRoom {
+    // those with whom S1R can still be paired
+    pool: Numbers,
+    suitors: Suitors,
+}
+
+impl Default for LonelyRoom {
+    fn default() -> LonelyRoom {
+        LonelyRoom {
+            pool: Numbers::new(),
+            suitors: [0; LIMIT + 1],
+        }
+    }
+}
+
+/// Who suited a number last, or 0.
+fn suitor_of(suitors: &Suitors, number: u16) -> u16 {
+    match suitors.get(usize::from(number)) {
+        Some(suitor) => *suitor,
+        None => 0,
+    }
+}
+
+/// Notes who suits a number.
+fn note_suitor(suitors: &mut Suitors, number: u16, suitor: u16) {
+    if usize::from(number) < suitors.len() {
+        suitors[usize::from(number)] = suitor;
+    }
+}
 
 /// Marks numbers, as far as there are marks for them.
 fn mark(numbers: &[u16], marks: &mut Marks)
@@ -65,54 +100,98 @@ fn waiting<'a>(lists: &FixedLists<'a>) -> &'a [u16]
     lists.s1r.split_at(lists.s2r.len()).1
 }
 
-fn suits_one(context: &Context<'_>, x: u16, others: &[u16]) -> bool
-    ensures { result ≡ list_any (suits context.now.facts context.now.reached x) others.now }
+/// Numbers of a bracket, and a mark for each of them.
+#[derive(Drop)]
+struct Marked<'m> {
+    numbers: &'m [u16],
+    marks: Marks,
+}
+
+impl<'m> Marked<'m> {
+    fn new(numbers: &'m [u16]) -> Marked<'m>
+        ensures { result.numbers.now ≡ numbers.now }
+    {
+        let mut marks = [0; LIMIT / WORD + 1];
+        mark(numbers, &mut marks);
+        Marked { numbers, marks }
+    }
+
+    fn has(&self, number: u16) -> bool {
+        has_bit(&self.marks, usize::from(number))
+    }
+}
+
+/// A no says that nobody of a pool suits one who waits. (Whoever suited them last suits them still. If that were not so,
+/// the floor would be lower than it can be, and not wrong.)
+fn is_suited(context: &Context<'_>, x: u16, pool: &Marked<'_>, suitors: &mut Suitors) -> bool
+    ensures { result ≡ false
+        → list_any (suits context.now.facts context.now.reached x) pool.now.numbers.now ≡ false }
 {
-    for other in others {
+    if pool.has(suitor_of(suitors, x)) {
+        return true;
+    }
+    let numbers = pool.numbers;
+    for other in numbers {
         if context.suits(x, *other) {
+            note_suitor(suitors, x, *other);
             return true;
         }
     }
     false
 }
 
-fn is_suited(context: &Context<'_>, y: u16, others: &[u16]) -> bool
-    ensures { result ≡ list_any (λ x. suits context.now.facts context.now.reached x y) others.now }
+/// A no says that one of a pool suits nobody who waits.
+fn suits_one(context: &Context<'_>, y: u16, waiting: &Marked<'_>, suitors: &mut Suitors) -> bool
+    ensures { result ≡ false
+        → list_any (λ x. suits context.now.facts context.now.reached x y) waiting.now.numbers.now ≡ false }
 {
-    for other in others {
+    if waiting.has(suitor_of(suitors, y)) {
+        return true;
+    }
+    let numbers = waiting.numbers;
+    for other in numbers {
         if context.suits(*other, y) {
+            note_suitor(suitors, y, *other);
             return true;
         }
     }
     false
 }
 
-/// How many of those who wait suit nobody of the pool.
-#[tactic(auto, unfolding(dutch_bracket::specs::ColourFloors::lonely_first))]
-fn lonely_first(context: &Context<'_>, waiting: &[u16], pool: &[u16]) -> usize
-    ensures value { result ≡ length
-        (filter (λ x. not (list_any (suits context.now.facts context.now.reached x) pool.now)) waiting.now) }
+/// So many at least of those who wait suit nobody of the pool.
+fn lonely_first(
+    context: &Context<'_>,
+    waiting: &[u16],
+    pool: &Marked<'_>,
+    suitors: &mut Suitors,
+) -> usize
+    ensures value { result ≤ length (filter
+        (λ x. not (list_any (suits context.now.facts context.now.reached x) pool.now.numbers.now)) waiting.now) }
     ensures few { result ≤ length waiting.now }
 {
     let mut count = 0;
     for x in waiting {
-        if !suits_one(context, *x, pool) {
+        if !is_suited(context, *x, pool, suitors) {
             count += 1;
         }
     }
     count
 }
 
-/// How many of the pool suit nobody who waits.
-#[tactic(auto, unfolding(dutch_bracket::specs::ColourFloors::lonely_second))]
-fn lonely_second(context: &Context<'_>, waiting: &[u16], pool: &[u16]) -> usize
-    ensures value { result ≡ length
-        (filter (λ y. not (list_any (λ x. suits context.now.facts context.now.reached x y) waiting.now)) pool.now) }
+/// So many at least of the pool suit nobody who waits.
+fn lonely_second(
+    context: &Context<'_>,
+    waiting: &Marked<'_>,
+    pool: &[u16],
+    suitors: &mut Suitors,
+) -> usize
+    ensures value { result ≤ length (filter
+        (λ y. not (list_any (λ x. suits context.now.facts context.now.reached x y) waiting.now.numbers.now)) pool.now) }
     ensures few { result ≤ length pool.now }
 {
     let mut count = 0;
     for y in pool {
-        if !is_suited(context, *y, waiting) {
+        if !suits_one(context, *y, waiting, suitors) {
             count += 1;
         }
     }
@@ -127,22 +206,35 @@ fn more_lonely(first: usize, second: usize, down: usize) -> usize
     first.max(second.saturating_sub(down))
 }
 
-/// How many miss at least for want of an opponent who suits. The list is filled anew with those that S1R can still be
-/// paired with.
-#[tactic(auto, unfolding(dutch_bracket::specs::ColourFloors::lonely, dutch_bracket::specs::ColourFloors::lonely_first, dutch_bracket::specs::ColourFloors::lonely_second))]
+/// So many miss at least for want of an opponent who suits.
 pub(crate) fn lonely(
     context: &Context<'_>,
     shape: Shape,
     lists: &FixedLists<'_>,
-    pool: &mut Numbers,
+    room: &mut LonelyRoom,
 ) -> usize
     requires { HasFewPairs lists.now }
-    ensures value { result ≡ lonely context.now.facts context.now.reached shape lists.now }
+    ensures value { result ≤ lonely context.now.facts context.now.reached shape lists.now }
     ensures few { result ≤ LIMIT }
 {
-    let waiting = waiting(lists);
-    put_pool(context, lists, pool);
-    let first = lonely_first(context, waiting, pool);
-    let second = lonely_second(context, waiting, pool);
+    put_pool(context, lists, &mut room.pool);
+    let (waiting, pool) = (waiting(lists), room.pool.as_slice());
+    let first = lonely_first(context, waiting, &Marked::new(pool), &mut room.suitors);
+    let second = lonely_second(context, &Marked::new(waiting), pool, &mut room.suitors);
     more_lonely(first, second, context.residents_down(shape))
+}
+
+/// At most so many players are lonely behind lists with an S1R: as many as wait, or as are left for them. (Nothing stands
+/// on it.)
+pub(crate) fn most_lonely(context: &Context<'_>, shape: Shape, lists: &FixedLists<'_>) -> usize
+    ensures few { result ≤ LIMIT }
+{
+    let waiting = lists.s1r.len().saturating_sub(lists.s2r.len());
+    let pool = context
+        .len()
+        .saturating_sub(context.reached().mdps())
+        .saturating_sub(lists.s2.len())
+        .saturating_sub(lists.s1r.len())
+        .saturating_sub(lists.s2r.len());
+    more_lonely(waiting, pool, context.residents_down(shape)).min(LIMIT)
 }

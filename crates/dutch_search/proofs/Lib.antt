@@ -1,4 +1,3 @@
 pub mod BarsBehind
 pub mod FloorsOfPass
 pub mod PassesTwice
-pub mod TurnCounts

@@ -6,8 +6,8 @@ use dutch_bracket::shaped::ShapedBracket;
 use dutch_floors::floor::Floors;
 use dutch_weights::weight_floor::WeightFloors;
 
-/// Behind the few steps that come first, a step counts once more for each so many pairs of the shape.
-pub(crate) const PAIRS_FOR_A_STEP: usize = 16;
+/// A turn is shorter by one part more for each so many pairs of the shape.
+pub(crate) const TURN_PAIRS: usize = 16;
 
 /// The pairs of brackets with more players are not weighed.
 const MOST_WEIGHED: usize = 400;
@@ -18,8 +18,6 @@ pub(crate) struct BothFloors<'a> {
     pub(crate) shaped: ShapedBracket<'a>,
     pub(crate) counts: Floors<'a>,
     pub(crate) weights: Option<WeightFloors<'a>>,
-    /// The few steps that come first did not suffice.
-    pub(crate) is_long: bool,
     ghost basis: { IsBasisFor shaped counts },
 }
 

@@ -1,16 +1,16 @@
 // How candidates are drawn within floors of both kinds (C.04.3 B.8): in turns of steps, behind each of which floors by
 // weight are asked for more, where the walk is stuck.
-ghost use Rattle.std.specs.Prelude.{◌≡◌, ◌+◌, ◌-◌, ◌*◌, ◌<◌, ◌≤◌, [], None, min};
+ghost use Rattle.std.specs.Prelude.{◌≡◌, ◌+◌, ◌-◌, ◌<◌, ◌≤◌, [], None, min};
 ghost use Rattle.std.specs.Option.{ForSome};
 ghost use Rattle.std.specs.Result.{MatchResult};
 ghost use Rattle.dutch_order.specs.Prelude.{MatchStep, Spends};
 ghost use Rattle.dutch_passes.specs.Prelude.{Draws, ListsFor, PassesIdle, aim_in, kept_in};
-ghost use Rattle.dutch_search.specs.Searching.{AreFor, price_of};
+ghost use Rattle.dutch_search.specs.Searching.{AreFor};
 ghost use Rattle.dutch_weights.specs.Prelude.{HasBar};
 
 use crate::bars::{Skipper, bars_of};
-use crate::both::{BothFloors, PAIRS_FOR_A_STEP, is_weighed};
-use crate::last_beginning::LastBeginning;
+use crate::both::{BothFloors, TURN_PAIRS, is_weighed};
+use crate::last_beginning::{LastBeginning, WalkNotes};
 use cheapest::LOOKS_IN_A_STEP;
 use dutch_bracket::greatest::Lister;
 use dutch_bracket::quality::Quality;
@@ -24,45 +24,20 @@ use dutch_weights::scope::Scope;
 use dutch_weights::weight_floor::WeightFloors;
 
 impl<'a> BothFloors<'a> {
-    /// For how many steps each one counts: for one alone in the few steps that come first, and behind them for the
-    /// more, the more pairs the questions look at that are asked.
-    fn price(&self) -> u64
-        ensures { result ≡ price_of self.now }
-    {
-        if self.is_long {
-            1 + (self.shaped.shape.pairs / PAIRS_FOR_A_STEP) as u64
-        } else {
-            1
-        }
-    }
-
-    /// The steps of a turn: all that are left, or so many that it is worth while to be told more behind them. Where
-    /// those that are left suffice for one, there is one at least.
-    #[tactic(auto, using(crate::proofs::TurnCounts::some_turn))]
+    /// The steps of a turn: all that are left, or so many that it is worth while to be told more behind them. They are
+    /// the fewer, the more pairs the questions of the turn look at.
     fn turn(&self, budget: &Budget) -> Budget
         ensures used { result.used ≡ 0 }
-        ensures limit { result.limit * price_of self.now ≤ budget.now.limit - budget.now.used }
-        ensures some { price_of self.now ≤ budget.now.limit - budget.now.used → 0 < result.limit }
+        ensures limit { result.limit ≤ budget.now.limit - budget.now.used }
+        ensures some { budget.now.used < budget.now.limit → 0 < result.limit }
     {
-        let (left, price) = (budget.limit - budget.used, self.price());
-        let steps = match &self.weights {
-            Some(weights) => weights.patience(budget.used).max(price).min(left),
+        let left = budget.limit - budget.used;
+        let parts = 1 + (self.shaped.shape.pairs / TURN_PAIRS) as u64;
+        let limit = match &self.weights {
+            Some(weights) => (weights.patience(budget.used) / parts).max(1).min(left),
             None => left,
         };
-        Budget {
-            used: 0,
-            limit: steps / price,
-        }
-    }
-
-    /// Counts the steps of a turn, each at its price, up to the limit.
-    fn count(&self, turn: &Budget, budget: &mut Budget)
-        ensures counts { budget.new.used
-            ≡ min (budget.old.used + turn.now.used * price_of self.now) budget.old.limit }
-        ensures spends { Spends budget.old budget.new }
-    {
-        let steps = turn.used.saturating_mul(self.price());
-        budget.used = budget.used.saturating_add(steps).min(budget.limit);
+        Budget { used: 0, limit }
     }
 
     /// Tells which beginnings a pass may skip, by the bars of its aim and of the candidate that it keeps.
@@ -114,7 +89,7 @@ impl<'a> BothFloors<'a> {
         budget: &mut Budget,
     ) -> Result<(), Stopped>
         ensures stopped { MatchResult result
-            (λ _. price_of self.old ≤ budget.old.limit - budget.old.used)
+            (λ _. budget.old.used < budget.old.limit)
             (λ _. budget.new.used ≡ budget.new.limit) }
         ensures context { self.new.shaped.context.now ≡ self.old.shaped.context.now }
         ensures shape { self.new.shaped.shape ≡ self.old.shaped.shape }
@@ -122,8 +97,7 @@ impl<'a> BothFloors<'a> {
         ensures weights { self.new.weights ≡ self.old.weights }
         ensures spends { Spends budget.old budget.new }
     {
-        if budget.limit - budget.used < self.price() {
-            budget.used = budget.limit;
+        if budget.used == budget.limit {
             return Err(Stopped);
         }
         match &mut self.weights {
@@ -136,11 +110,19 @@ impl<'a> BothFloors<'a> {
     }
 }
 
+/// Counts the steps of a turn, up to the limit.
+fn count(turn: &Budget, budget: &mut Budget)
+    ensures counts { budget.new.used ≡ min (budget.old.used + turn.now.used) budget.old.limit }
+    ensures spends { Spends budget.old budget.new }
+{
+    budget.used = budget.used.saturating_add(turn.used).min(budget.limit);
+}
+
 /// Draws the next candidate that is not known to be idle, in one turn.
 fn draw_once(
     skipper: &Skipper<'_, '_>,
     lister: &mut Lister<'_, ByNumber<'_>>,
-    work: &mut Workroom<LastBeginning>,
+    work: &mut Workroom<WalkNotes>,
     turn: &mut Budget,
 ) -> Step<()>
     requires lists { ListsFor skipper.now.so_far.pass.now lister.old.listing }
@@ -165,7 +147,7 @@ fn draw_once(
 }
 
 impl<'a> Guide for BothFloors<'a> {
-    type Notes = LastBeginning;
+    type Notes = WalkNotes;
 
     ghost use Rattle.std.specs.Prelude.{◌≡◌};
     ghost use Rattle.std.specs.Option.{ForSome};
@@ -180,7 +162,7 @@ impl<'a> Guide for BothFloors<'a> {
         &mut self,
         so_far: PassSoFar<'_, '_>,
         lister: &mut Lister<'_, ByNumber<'_>>,
-        work: &mut Workroom<LastBeginning>,
+        work: &mut Workroom<WalkNotes>,
         budget: &mut Budget,
     ) -> Result<bool, Stopped> {
         // (more floors change nothing of the weights, and so of the bars)
@@ -188,11 +170,11 @@ impl<'a> Guide for BothFloors<'a> {
         loop {
             let mut turn = self.turn(budget);
             let step = draw_once(&self.skipper(so_far, &bars), lister, work, &mut turn);
-            self.count(&turn, budget);
+            count(&turn, budget);
             match step {
                 Step::Found(()) => return Ok(true),
                 Step::End => return Ok(false),
-                Step::Undecided => self.go_on(&work.notes, &bars, budget)?,
+                Step::Undecided => self.go_on(&work.notes.last, &bars, budget)?,
             }
         }
     }
@@ -209,7 +191,6 @@ impl<'a> Guide for BothFloors<'a> {
     ) -> Result<Option<Quality>, Stopped> {
         let (context, shape) = (self.shaped.context, self.shaped.shape);
         let count = context.len();
-        self.is_long = true;
         // (weights are large: those of before go first)
         self.weights = None;
         if is_weighed(context, next) {

@@ -1,6 +1,7 @@
-// Where the walk of a pass was asked about last.
+// What a walk of a pass notes from one question to the next.
 use arrayvec::ArrayVec;
 use dutch_bracket::seated::Pair;
+use dutch_floors::notes::FloorNotes;
 use dutch_order::{LIMIT, Prefix};
 use dutch_weights::scope::Scope;
 
@@ -30,4 +31,11 @@ impl LastBeginning {
         put_pairs(prefix.s1(), prefix.s2(), &mut self.pairs);
         put_pairs(prefix.s1r(), prefix.s2r(), &mut self.pairs);
     }
+}
+
+/// The beginning that a walk asked about last, and what floors by counts noted of the questions before.
+#[derive(Default, Drop)]
+pub(crate) struct WalkNotes {
+    pub(crate) last: LastBeginning,
+    pub(crate) floors: FloorNotes,
 }

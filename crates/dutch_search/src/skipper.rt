@@ -6,24 +6,29 @@
 // is better than. With a wish, a floor is enough that holds only for those that grant it, as floors by weight do.
 ghost use Rattle.std.specs.Prelude.{◌≡◌, true, false};
 ghost use Rattle.dutch_bracket.specs.Prelude.{quality_here, HasNoBetter, is_better, next_in, quality_in};
+ghost use Rattle.dutch_floors.specs.KnownPairs.{AreKnown};
 ghost use Rattle.dutch_passes.specs.Prelude.{Loses, LosesIfOpen, is_idle_to};
 ghost use Rattle.dutch_search.specs.Skips.{HasNoBetterNext, IsBehindAim, IsBehindKept, OfEach, OfEachWith, Weighs};
 ghost use Rattle.dutch_search.specs.Skips.{context_of};
 
 use crate::bars::Skipper;
-use crate::last_beginning::LastBeginning;
+use crate::last_beginning::WalkNotes;
 use dual::Wide;
-use dutch_bracket::quality::{Quality, QualityLists};
+use dutch_bracket::quality::Quality;
+use dutch_floors::notes::FloorQuestion;
 use dutch_order::{Bound, Exchange, Prefix};
 use dutch_passes::{Workroom, is_barred, loses};
 
 impl<'a, 'k> Skipper<'a, 'k> {
     /// Fills a quality that no candidate with a beginning is better than. No says that none is known.
-    fn fill_floor(&self, prefix: &Prefix<'_>, room: &mut QualityLists) -> bool
-        ensures { result ≡ true → OfEach self.now prefix.now
-            (λ a. is_better (quality_here (context_of self.now) a) (quality_in room.new.quality) ≡ false) }
+    fn fill_floor(&self, asked: &FloorQuestion<'_, '_>, work: &mut Workroom<WalkNotes>) -> bool
+        requires known { AreKnown self.now.counts.now work.old.notes.floors.known }
+        ensures floor { result ≡ true → OfEach self.now asked.now.prefix.now
+            (λ a. is_better (quality_here (context_of self.now) a) (quality_in work.new.room.quality) ≡ false) }
+        ensures known { AreKnown self.now.counts.now work.new.notes.floors.known }
     {
-        self.counts.floor(prefix, room)
+        self.counts
+            .floor(asked, &mut work.notes.floors, &mut work.room)
     }
 
     /// C.7 by counts. A no says nothing.
@@ -34,15 +39,41 @@ impl<'a, 'k> Skipper<'a, 'k> {
         self.counts.has_no_better_next(prefix, quality)
     }
 
+    /// How many miss their preference in the aim and in the candidate that is kept: the fewer, and the more (C.10).
+    fn missed_bars(&self) -> (u16, u16) {
+        let aim = self.so_far.pass.aim.as_ref();
+        let kept = self.so_far.kept.as_ref();
+        match (aim, kept) {
+            (Some(aim), Some(kept)) => {
+                let (aim, kept) = (aim.missed_preferences, kept.quality.missed_preferences);
+                (aim.min(kept), aim.max(kept))
+            }
+            (Some(aim), None) => (aim.missed_preferences, aim.missed_preferences),
+            (None, Some(kept)) => {
+                let kept = &kept.quality;
+                (kept.missed_preferences, kept.missed_preferences)
+            }
+            (None, None) => (0, u16::MAX),
+        }
+    }
+
+    /// By counts.
     #[tactic(auto, using(dutch_passes::proofs::AimLemmas::floor_loses))]
-    fn loses_by_counts(&self, prefix: &Prefix<'_>, room: &mut QualityLists) -> bool
-        ensures { result ≡ true → OfEach self.now prefix.now (Loses self.now.so_far) }
+    fn loses_by_counts(&self, prefix: &Prefix<'_>, work: &mut Workroom<WalkNotes>) -> bool
+        requires known { AreKnown self.now.counts.now work.old.notes.floors.known }
+        ensures loses { result ≡ true → OfEach self.now prefix.now (Loses self.now.so_far) }
+        ensures known { AreKnown self.now.counts.now work.new.notes.floors.known }
     {
-        if !self.fill_floor(prefix, room) {
+        let (fewest, most) = self.missed_bars();
+        let asked = FloorQuestion {
+            prefix,
+            fewest,
+            most,
+        };
+        if !self.fill_floor(&asked, work) {
             return false;
         }
-        let floor = &room.quality;
-        loses(floor, &self.so_far.pass.aim, self.so_far.kept)
+        loses(&work.room.quality, &self.so_far.pass.aim, self.so_far.kept)
     }
 
     /// C.7: where the weights do not tell of the next bracket, the counts have to.
@@ -146,9 +177,10 @@ impl<'a, 'k> Skipper<'a, 'k> {
 }
 
 impl<'a, 'k> Bound for Skipper<'a, 'k> {
-    type Room = Workroom<LastBeginning>;
+    type Room = Workroom<WalkNotes>;
 
     ghost use Rattle.dutch_bracket.specs.Prelude.{frame_here, numbers_meet, number_may_be_left};
+    ghost use Rattle.dutch_floors.specs.KnownPairs.{AreKnown};
     ghost use Rattle.dutch_passes.specs.Prelude.{is_idle_to};
     ghost use Rattle.dutch_search.specs.Skips.{context_of};
 
@@ -162,19 +194,25 @@ impl<'a, 'k> Bound for Skipper<'a, 'k> {
 
     ghost is_idle = { λ s. is_idle_to s.so_far };
 
+    ghost Holds = { λ s work. AreKnown s.counts.now work.notes.floors.known };
+
+    fn start(&self, work: &mut Workroom<WalkNotes>) {
+        work.notes.floors.known.clear();
+    }
+
     #[tactic(auto, using(dutch_passes::proofs::AimLemmas::unwished_is_idle, dutch_passes::proofs::AimLemmas::loser_is_idle, dutch_passes::proofs::AimLemmas::loser_if_open_is_idle), unfolding(dutch_bracket::specs::Brackets::candidates_of))]
-    fn cannot_win(&self, prefix: &Prefix<'_>, work: &mut Workroom<LastBeginning>) -> bool {
+    fn cannot_win(&self, prefix: &Prefix<'_>, work: &mut Workroom<WalkNotes>) -> bool {
         if is_barred(self.so_far.pass, prefix) {
             return true;
         }
         if self.weights.is_some() {
-            work.notes.note(prefix);
+            work.notes.last.note(prefix);
         }
         // (with no aim and nothing kept no quality loses)
         if self.so_far.pass.aim.is_none() && self.so_far.kept.is_none() {
             return false;
         }
-        self.loses_by_weight(prefix) || self.loses_by_counts(prefix, &mut work.room)
+        self.loses_by_weight(prefix) || self.loses_by_counts(prefix, work)
     }
 
     #[tactic(auto, using(dutch_passes::proofs::AimLemmas::loser_if_open_is_idle), unfolding(dutch_bracket::specs::Brackets::candidates_of))]
@@ -182,7 +220,7 @@ impl<'a, 'k> Bound for Skipper<'a, 'k> {
         &self,
         prefix: &Prefix<'_>,
         exchange: &Exchange<'_>,
-        _work: &mut Workroom<LastBeginning>,
+        _work: &mut Workroom<WalkNotes>,
     ) -> bool {
         if self.so_far.pass.aim.is_none() && self.so_far.kept.is_none() {
             return false;

@@ -69,7 +69,6 @@ impl Finder for WithFloors {
                 shaped: *shaped,
                 counts,
                 weights: None,
-                is_long: false,
             },
         };
         match best_in_time(&mut pass, &mut judge, budget) {

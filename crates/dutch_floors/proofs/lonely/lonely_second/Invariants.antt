@@ -1,4 +1,4 @@
--- The count so far and that of those to come make the whole count.
+-- The count so far and that of those to come are at most the whole count.
 use Rattle.std.proofs.Common.{◌≡◌, ◌+◌, ◌≤◌, not, drop, length, filter}
 use Rattle.std.specs.List.{list_any}
 use Rattle.dutch_bracket.specs.Prelude.{suits}
@@ -7,6 +7,6 @@ use Rattle.dutch_floors.proofs.lonely.lonely_second.Given as goal
 abbrev pub invariant-loop-y : goal.invariant-loop-y
 invariant-loop-y l = record {
   few : l.count ≤ l.y-index;
-  so_far : l.count + length (filter (λ y. not (list_any (λ x. suits l.context.facts l.context.reached x y) l.waiting)) (drop l.y-index l.pool))
-      ≡ length (filter (λ y. not (list_any (λ x. suits l.context.facts l.context.reached x y) l.waiting)) l.pool);
+  so_far : l.count + length (filter (λ y. not (list_any (λ x. suits l.context.facts l.context.reached x y) l.waiting.numbers.now)) (drop l.y-index l.pool))
+      ≤ length (filter (λ y. not (list_any (λ x. suits l.context.facts l.context.reached x y) l.waiting.numbers.now)) l.pool);
 }

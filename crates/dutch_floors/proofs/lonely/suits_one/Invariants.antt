@@ -6,4 +6,4 @@ use Rattle.dutch_floors.proofs.lonely.suits_one.Given as goal
 
 abbrev pub invariant-loop-other : goal.invariant-loop-other
 invariant-loop-other l =
-    list_any (suits l.context.facts l.context.reached l.x) l.others ≡ list_any (suits l.context.facts l.context.reached l.x) (drop l.other-index l.others)
+    list_any (λ x. suits l.context.facts l.context.reached x l.y) l.numbers ≡ list_any (λ x. suits l.context.facts l.context.reached x l.y) (drop l.other-index l.numbers)

@@ -4,7 +4,7 @@ use Rattle.dutch_search.proofs.FloorsOfPass.{none_beats}
 use Rattle.dutch_search.specs.Prelude.{pass_of}
 use Rattle.dutch_search.proofs.bars.Skipper.fill_floor.Goals as goal
 
-pub returns : goal.returns
-returns c = λ known.
+pub returns-clause-floor : goal.returns-clause-floor
+returns-clause-floor c = λ known.
     let skipper = c.args.self.now in
-    none_beats (pass_of skipper).shaped skipper.counts.now skipper.basis c.args.prefix.now (quality_in c.floor.new.room.quality) (c.floor.ensures known)
+    none_beats (pass_of skipper).shaped skipper.counts.now skipper.basis c.args.asked.now.prefix.now (quality_in c.floor.new.room.quality) (c.floor.ensures.floor known)

@@ -1,0 +1,22 @@
+// What floors are asked, and what they note from one question to the next.
+use crate::known_pairs::KnownPairs;
+use crate::lonely::LonelyRoom;
+use dutch_order::Prefix;
+
+/// A beginning whose floor is asked for, and with how many players at least and at most who miss their preference the
+/// floor may lose (C.10). By these counts it is told whether it is worth while to look for lonely players; no floor is
+/// wrong by them.
+#[derive(Drop)]
+pub struct FloorQuestion<'q, 'p> {
+    pub prefix: &'q Prefix<'p>,
+    pub fewest: u16,
+    pub most: u16,
+}
+
+/// The pairs of the last beginning with what they add up to, and where lonely players were looked for. The one who asks
+/// lends it.
+#[derive(Default, Drop)]
+pub struct FloorNotes {
+    pub known: KnownPairs,
+    pub(crate) lonely: LonelyRoom,
+}
