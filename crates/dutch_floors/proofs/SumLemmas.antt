@@ -14,7 +14,7 @@ use Rattle.dutch_player.specs.Prelude.{Facts, SeatFacts, colours, seat_at}
 use Rattle.dutch_bracket.specs.declared.colours_missed.Miss.TheVariants.{Wide, Third, Preference, StrongPreference}
 use Rattle.dutch_bracket.specs.declared.seated.Floater.{Floater}
 use Rattle.dutch_player.specs.declared.float.Float.TheVariants.{Up, Down}
-use Rattle.dutch_bracket.specs.Prelude.{again, count_in, count_in_pairs, count_with_topscorers, differences, floats_down, goes_down, goes_up, going_down, going_up, has_topscorer, in_both, is_uneven, misses, quality_with, seat_of, with_floats, HasFewPairs, Quality, Seated}
+use Rattle.dutch_bracket.specs.Prelude.{again, count_in, count_with_topscorers, differences, floats_down, goes_down, goes_up, going_down, going_up, has_topscorer, in_both, is_uneven, misses, quality_with, seat_of, with_floats, HasFewPairs, Quality, Seated}
 use Rattle.dutch_bracket.proofs.C08ToC19Fixed.{with_topscorers_add_up}
 use Rattle.dutch_bracket.proofs.FixedPairs.{AddsUp}
 use Rattle.dutch_floors.proofs.GrantedColours.{at_most_one}

@@ -1,7 +1,6 @@
 // Once S1R is chosen: players who miss their preference, whoever of those left becomes their opponent (C.04.3 C.10).
 ghost use Rattle.std.specs.Prelude.{◌≡◌, ◌+◌, ◌-◌, ◌≤◌, ◌||◌, ℕ, false, not, length, filter, max};
 ghost use Rattle.std.specs.List.{list_any};
-ghost use Rattle.arrayvec.specs.ArrayVec.{array_vec_len};
 ghost use Rattle.dutch_sequence.specs.declared.numbers.TheConstants.{LIMIT};
 ghost use Rattle.dutch_order.specs.Prelude.{is_member, numbers_from};
 ghost use Rattle.dutch_bracket.specs.Prelude.{has_bit, suits, waiting, pool, lonely, HasFewPairs};

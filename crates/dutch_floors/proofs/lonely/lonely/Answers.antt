@@ -1,5 +1,5 @@
 -- Those who wait and the pool are those of the lists.
-use Rattle.std.proofs.Common.{◌≡◌, ◌∙◌, ◌≤◌, not, filter, length, subst, arith}
+use Rattle.std.proofs.Common.{◌∙◌, ◌≤◌, not, filter, length, subst, arith}
 use Rattle.std.specs.List.{list_any}
 use Rattle.dutch_bracket.specs.Prelude.{suits}
 use Rattle.dutch_floors.proofs.LonelyLemmas.{lonely_few}

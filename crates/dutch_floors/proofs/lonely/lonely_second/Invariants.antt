@@ -1,5 +1,5 @@
 -- The count so far and that of those to come are at most the whole count.
-use Rattle.std.proofs.Common.{◌≡◌, ◌+◌, ◌≤◌, not, drop, length, filter}
+use Rattle.std.proofs.Common.{◌+◌, ◌≤◌, not, drop, length, filter}
 use Rattle.std.specs.List.{list_any}
 use Rattle.dutch_bracket.specs.Prelude.{suits}
 use Rattle.dutch_floors.proofs.lonely.lonely_second.Given as goal

@@ -1,6 +1,6 @@
 -- The sums are small, as there is room for one pair more.
 use Rattle.std.proofs.Common.{arith}
-use Rattle.dutch_floors.proofs.SumLemmas.{few_known, more_known}
+use Rattle.dutch_floors.proofs.SumLemmas.{few_known}
 use Rattle.dutch_floors.proofs.known_pairs.KnownPairs.push.Goals as goal
 
 pub plus-self-requires-clause-few : goal.plus-self-requires-clause-few
