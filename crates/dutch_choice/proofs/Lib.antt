@@ -1,3 +1,12 @@
+pub mod CheapShapes
+pub mod CandidateCosts
+pub mod MateCandidates
+pub mod MatchedCandidates
+pub mod AlwaysShapes
+pub mod UniformShapes
+pub mod PairPartners
+pub mod MatchingShapes
+pub mod GreatestMatchings
 pub mod BestGranting
 pub mod AllPaired
 pub mod RuledOutLemmas

@@ -1,4 +1,9 @@
--- What the contracts of dutch_choice name: the choice in a bracket, wishes, and what a finder finds.
+-- What the contracts of dutch_choice name: what a matching of a bracket's players costs, and what it tells of the bracket's shape; the choice
+-- in a bracket, wishes, and what a finder finds.
+pub mod ShapeCosts
+pub mod Mates
+pub mod AlwaysShapes
+pub mod GreatestMatchings
 pub mod Wishes
 pub mod Found
 pub mod RuledOut

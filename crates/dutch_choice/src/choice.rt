@@ -6,6 +6,7 @@ ghost use Rattle.dutch_bracket.specs.Prelude.{IsAbove, HasCandidate};
 ghost use Rattle.dutch_choice.specs.Chosen.{IsChoice};
 
 use crate::finder::Finder;
+use crate::shape::shape_of;
 use dutch_bracket::context::Context;
 use dutch_bracket::fault::PairFault;
 use dutch_bracket::quality::Quality;
@@ -13,7 +14,6 @@ use dutch_bracket::reached::Reached;
 use dutch_bracket::shaped::ShapedBracket;
 use dutch_order::{Budget, Candidate, Shape, Step, Stopped};
 use dutch_player::Field;
-use dutch_shape::shape::shape_of;
 use std::alloc::Global;
 
 /// What is chosen in a bracket.

@@ -36,8 +36,7 @@ pub use dutch_bracket::{
     Answer, BracketKind, ByNumber, ITEMS, Item, NextValue, Pair, PairFault, Quality, Reached,
     Seats, are_left, completes, is_next, seats, split_first_group,
 };
-pub use dutch_choice::{Choice, Finder, choose};
-pub use dutch_shape::lookahead;
+pub use dutch_choice::{Choice, Finder, choose, lookahead};
 pub use instead::{Instead, best_instead};
 pub use items::who_counts;
 pub use lower::lower_of;

@@ -22,10 +22,10 @@ use dutch_bracket::group::split_first_group;
 use dutch_bracket::reached::{BracketKind, Reached, Seats, bracket, copied};
 use dutch_bracket::seated::seats_of;
 use dutch_choice::finder::Finder;
+use dutch_choice::shape::shape_of;
 use dutch_order::{Budget, Shape, Stopped, numbered_from};
 use dutch_player::Field;
 use dutch_player::laws::scores_do_not_ascend;
-use dutch_shape::shape::shape_of;
 use std::alloc::Global;
 use std::marker::Model;
 
