@@ -2,7 +2,7 @@
 use Rattle.std.proofs.Common.{◌≡◌, ℕ, zero, suc, ◌+◌, ◌<◌, ◌≤◌, Bool, true, false, cond, ◌==◌, List, [], ◌∷◌, ◌++◌, length, length-append, take, drop, refl, sym, ap, ◌∙◌, subst, arith}
 use Rattle.std.specs.List.{AllByRecursion, concat}
 use Rattle.std.proofs.lemmas.Bool.Decides.{nat_tests}
-use Rattle.std.proofs.lemmas.List.{append_cancel_left, take-append-drop}
+use Rattle.std.proofs.lemmas.List.{append_cancel_left, length-take, take-append-drop}
 use Rattle.std.proofs.lemmas.Bool.{eqb-true, cond_both}
 use Rattle.dutch_order.specs.Prelude.{numbers_from}
 use Rattle.dutch_sequence.proofs.Members.{length-numbers}
@@ -25,6 +25,12 @@ add-one n = omega arith
 -- there is somebody, by a test
 pub some_by_test : (xs : List ℕ) → false ≡ (length xs == 0) → 0 < length xs
 some_by_test xs h = grind (arith, nat_tests)
+
+-- as many as were taken are taken again
+taken_again : (n : ℕ) (xs : List ℕ) → take (length (take n xs)) xs ≡ take n xs
+taken_again zero xs = refl
+taken_again (suc n) [] = refl
+taken_again (suc n) (x ∷ xs) = ap (λ rest. x ∷ rest) (taken_again n xs)
 
 module _ (facts : Facts) where
   -- those at the front have the score
@@ -131,6 +137,24 @@ module _ (facts : Facts) where
   pub parted_by : {md rest group lower : List ℕ} → Descends facts → Goes facts md rest → 0 < length rest → group ++ lower ≡ rest
       → group ≡ first_group facts (scoregroups facts rest) → IsParted md rest group lower
   parted_by {md = md} {rest = rest} {group = group} {lower = lower} = parted_at_first md rest group lower
+
+  -- there is no seat where the first scoregroup has none
+  pub none_left : (xs : List ℕ) → length (first_group facts (scoregroups facts xs)) ≡ 0 → xs ≡ []
+  none_left [] none = refl
+  none_left (x ∷ xs) none =
+      let group = ap (λ groups. length (first_group facts groups)) (first_group_is facts x xs) in
+      absurd (let bad : ⊥ = omega (arith, none, group) in bad)
+
+  -- as many seats as the first scoregroup has are that group
+  pub front_taken : (xs : List ℕ) (n : ℕ) → n ≡ length (first_group facts (scoregroups facts xs)) → take n xs ≡ first_group facts (scoregroups facts xs)
+  front_taken [] n e = ap (λ k. take k []) e
+  front_taken (x ∷ xs) n e =
+      let k = front_with facts (score_at facts x) xs in
+      let group = first_group_taken facts x xs k refl in
+      ap (λ j. take j (x ∷ xs)) (e ∙ ap length (sym group)) ∙ taken_again (k + 1) (x ∷ xs) ∙ group
+
+  pub front_few : (xs : List ℕ) (n : ℕ) → n ≡ length (first_group facts (scoregroups facts xs)) → n ≤ length xs
+  front_few xs n e = omega (arith, e, ap length (front_taken xs n e), length-take n xs)
 
   pub rest_inside : (md rest : List ℕ) → Goes facts md rest → AreSeats facts rest
   rest_inside md rest goes = ranked_seats facts rest (ranked_back facts md rest goes.ranked)

@@ -3,10 +3,10 @@
 //
 // Whatever bracket comes next, its players and all lower ones can be paired out, and no two of those moved down may
 // meet. So each bracket has a candidate that can be chosen, and at the end of the walk at most one player is left over.
-ghost use Rattle.std.specs.Prelude.{◌≡◌, ◌+◌, ◌<◌, ◌≤◌, length, Some, IfErr};
+ghost use Rattle.std.specs.Prelude.{◌≡◌, ◌+◌, ◌<◌, ◌≤◌, ◌++◌, length, Some, IfErr};
 ghost use Rattle.std.specs.Result.{MatchResult};
 ghost use Rattle.dutch_order.specs.Prelude.{Spends};
-ghost use Rattle.dutch_bracket.specs.Prelude.{HasCandidate, FitsHere, scoregroups, shape_of};
+ghost use Rattle.dutch_bracket.specs.Prelude.{HasCandidate, FitsHere, first_group, scoregroups, shape_of};
 ghost use Rattle.dutch_pair.specs.declared.walk.Halt.TheVariants.{Fault};
 ghost use Rattle.dutch_pair.specs.Round.{everybody, brackets, paired_again};
 ghost use Rattle.dutch_pair.specs.Walk.{Goes};
@@ -127,28 +127,35 @@ fn shape_in(context: &Context<'_>, budget: &mut Budget) -> Result<Shape, Stopped
     }
 }
 
-/// What comes next for some moved down and the seats that are left, by rank: the bracket of the first scoregroup, or
-/// the end.
-fn first_group<'a>(field: &Field, number: u16, left: Seats, rest: &'a [u16]) -> Next<'a>
-    requires goes { Goes field.now left.items rest.now }
-    requires out { GoesOut field.now left.items rest.now }
-    requires small { number + length rest.now ≤ length field.now.seats + 1 }
+/// What comes next for some moved down and the seats that are left, by rank, which are split behind their first
+/// scoregroup: the bracket of that group, or the end.
+fn first_group<'a>(
+    field: &Field,
+    number: u16,
+    left: Seats,
+    parts: (&'a [u16], &'a [u16]),
+) -> Next<'a>
+    requires goes { Goes field.now left.items (parts.0.now ++ parts.1.now) }
+    requires out { GoesOut field.now left.items (parts.0.now ++ parts.1.now) }
+    requires small { number + length (parts.0.now ++ parts.1.now) ≤ length field.now.seats + 1 }
+    requires first { parts.0.now ≡ first_group field.now (scoregroups field.now (parts.0.now ++ parts.1.now)) }
     ensures stands { StandsAt field.now number result }
     ensures rest { round_from field.now result ≡ brackets field.now number left.items
-        (scoregroups field.now rest.now) }
+        (scoregroups field.now (parts.entry.0.now ++ parts.entry.1.now)) }
 {
     scores_do_not_ascend(field);
-    if rest.is_empty() {
+    let (group, lower) = parts;
+    if group.is_empty() {
         return Next::Bye(left);
     }
-    let (group, lower) = split_first_group(field, rest);
     let reached = bracket(number, group_kind(lower), &left, group);
     Next::Bracket { reached, lower }
 }
 
-/// What comes next behind a stage, which is settled above these lower seats.
-fn behind<'a>(field: &Field, stage: &Stage, lower: &'a [u16]) -> Next<'a>
+/// What comes next behind a stage, which is settled above these lower seats, of which so many are the next scoregroup.
+fn behind<'a>(field: &Field, stage: &Stage, lower: &'a [u16], group: usize) -> Next<'a>
     requires stands { StandsBefore field.now stage.now.reached.number stage.now.reached lower.now }
+    requires group { group ≡ length (first_group field.now (scoregroups field.now lower.now)) }
     requires settled { IsSettled field.now lower.now stage.now }
     ensures stands { StandsAt field.now (stage.now.reached.number + 1) result }
     ensures rest { round_by field.now stage.now.reached.kind stage.now.reached lower.now
@@ -163,7 +170,7 @@ fn behind<'a>(field: &Field, stage: &Stage, lower: &'a [u16]) -> Next<'a>
         return Next::Bracket { reached, lower };
     }
     match reached.kind() {
-        BracketKind::Ordinary => first_group(field, number, left, lower),
+        BracketKind::Ordinary => first_group(field, number, left, lower.split_at(group)),
         BracketKind::Penultimate => Next::Bracket {
             reached: bracket(number, BracketKind::Collapsed, &left, lower),
             lower: &lower[..0],
@@ -192,7 +199,7 @@ impl<'a> Walk<'a> {
                 field,
                 budget,
                 number: 1,
-                next: first_group(field, 1, Seats::new(), all),
+                next: first_group(field, 1, Seats::new(), split_first_group(field, all)),
             }),
             Ok(false) => Err(Halt::NoPairing),
             Err(Stopped) => Err(Halt::Undecided {
@@ -236,7 +243,7 @@ impl<'a> Walk<'a> {
                 used: self.budget.used,
             });
         };
-        self.next = behind(self.field, &stage, lower);
+        self.next = behind(self.field, &stage, lower, context.next().len());
         self.number += 1;
         self.budget.used = 0;
         Ok(Some(stage))
