@@ -1,8 +1,9 @@
 -- The candidates of a shape that can be chosen, one candidate after another.
 use Rattle.std.proofs.Common.{◌≡◌, ℕ, Bool, true, false, cond, List, [], ◌∷◌, filter, refl, ap, ◌∙◌, not, ◌||◌, ◌++◌}
-use Rattle.dutch_order.specs.Prelude.{Arrangement}
+use Rattle.dutch_order.specs.Prelude.{Arrangement, Passes}
 use Rattle.dutch_order.specs.declared.bracket.Shape.{Shape}
 use Rattle.dutch_sequence.proofs.Lists.{filter-all}
+use Rattle.dutch_sequence.proofs.Skipping.{passes-none, passes-more, passes-same}
 use Rattle.dutch_player.specs.Prelude.{Facts}
 use Rattle.dutch_bracket.specs.Prelude.{Reached, has_member, candidates_of, eligible, completable, downfloaters, is_penultimate}
 use Rattle.dutch_bracket.specs.Eligible.{can_be_chosen}
@@ -19,6 +20,17 @@ module _ (p : Arrangement → Bool) where
 
   pub first_fit : (c : Arrangement) (old new : List Arrangement) → old ≡ c ∷ new → p c ≡ true → filter p old ≡ c ∷ filter p new
   first_fit c old new e fit = ap (filter p) e ∙ ap (λ t. cond t (c ∷ filter p new) (filter p new)) fit
+
+  -- one more that fails the test is passed
+  pub passed_more : (c : Arrangement) (all old new : List Arrangement) → Passes (λ a. p a ≡ false) all old → old ≡ c ∷ new → p c ≡ false
+      → Passes (λ a. p a ≡ false) all new
+  passed_more c all old new passed e unfit =
+      passes-more (λ a. p a ≡ false) all old new passed (c ∷ [], e, (unfit, tt))
+
+  -- those that stand behind the ones passed
+  pub drawn_behind : (c : Arrangement) (all old new : List Arrangement) → Passes (λ a. p a ≡ false) all old → old ≡ c ∷ new
+      → Passes (λ a. p a ≡ false) all (c ∷ new)
+  drawn_behind c all old new passed e = passes-same (λ a. p a ≡ false) all old (c ∷ new) passed e
 
   pub has_none : (old : List Arrangement) → old ≡ [] → has_member (filter p old) ≡ false
   has_none old e = ap (λ all. has_member (filter p all)) e

@@ -1,7 +1,7 @@
 -- What is said of a bracket above its lower seats, by the one record that holds its field, the bracket and those seats: each word here is
 -- the definition of the same name over the three.
-use Rattle.std.specs.Prelude.{ℕ, Bool, List, Option}
-use Rattle.dutch_order.specs.Prelude.{Frame, Arrangement, Fits, Listing}
+use Rattle.std.specs.Prelude.{◌≡◌, ℕ, Bool, false, List, ◌∷◌, Option}
+use Rattle.dutch_order.specs.Prelude.{Frame, Arrangement, Candidate, Fits, Listing, Passes, down}
 use Rattle.dutch_order.specs.declared.bracket.Shape.{Shape}
 use Rattle.dutch_bracket.specs.declared.reached.ByNumber.{ByNumber}
 use Rattle.dutch_bracket.specs.Context.{Context}
@@ -45,3 +45,10 @@ ListsHere context listing = Lists context.facts context.reached listing
 -- the quality of a candidate in it [with Context]
 abbrev pub quality_here : Context → Arrangement → Quality
 quality_here context a = quality_of context.facts context.reached context.lower a
+
+-- of its candidates of a shape the first that can be chosen is drawn: a listing stands behind it, and all candidates before it cannot be
+-- chosen [C.4; own]
+pub record StandsBehindFirst (context : Context) (shape : Shape) (listing : Listing ByNumber) (drawn : Candidate) : Type 0 where
+  pub shape_is : listing.shape ≡ shape
+  pub passes : Passes (λ a. can_be_chosen_here context a ≡ false) (candidates_here context shape) (drawn.lists ∷ listing.coming)
+  pub down_is : drawn.down ≡ down (frame_here context) drawn.lists

@@ -20,7 +20,7 @@ pub use Rattle.dutch_bracket.specs.Stops.{Decides}
 pub use Rattle.dutch_bracket.specs.Reached.{IsAbove, IsOf, Reached, ends_round, frame_of, is_number}
 unfoldable pub use Rattle.dutch_bracket.specs.Reached.{number_may_be_left, numbers_meet}
 pub use Rattle.dutch_bracket.specs.Context.{Context, IsRead}
-pub use Rattle.dutch_bracket.specs.InContext.{FitsHere, ListsHere, can_be_chosen_here, candidates_here, eligible_here, frame_here, group_here, quality_here, shape_here}
+pub use Rattle.dutch_bracket.specs.InContext.{FitsHere, ListsHere, StandsBehindFirst, can_be_chosen_here, candidates_here, eligible_here, frame_here, group_here, quality_here, shape_here}
 pub use Rattle.dutch_bracket.specs.Shaped.{OfEachWithBeginning, candidates_in, eligible_in}
 pub use Rattle.dutch_bracket.specs.Choice.{best, best_with, first_unbeaten, is_unbeaten}
 pub use Rattle.dutch_bracket.specs.Brackets.{Choice, bracket, can_be_chosen, downfloaters, first_group, is_better_in, is_penultimate, onto_group, scoregroups}

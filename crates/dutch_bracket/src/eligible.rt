@@ -1,12 +1,12 @@
 // Which candidates of a bracket can be chosen (C.04.3 C.4), and the first of a shape. A search of few steps tells if
 // seats can be paired out, else a matching, else the whole search.
-ghost use Rattle.std.specs.Prelude.{◌≡◌, ◌+◌, ◌≤◌, ◌++◌, false, length, map, min};
+ghost use Rattle.std.specs.Prelude.{◌≡◌, ◌+◌, ◌≤◌, ◌++◌, true, false, length, map, min, IfOk};
 ghost use Rattle.dutch_sequence.specs.declared.numbers.TheConstants.{LIMIT};
 ghost use Rattle.dutch_order.specs.Prelude.{down, MatchDrawn, MatchFound, Spends};
 ghost use Rattle.dutch_bracket.specs.Seated.{seat_of};
 ghost use Rattle.dutch_bracket.specs.Shapes.{IsFirst, has_member};
 ghost use Rattle.dutch_bracket.specs.Brackets.{is_penultimate, completable};
-ghost use Rattle.dutch_bracket.specs.InContext.{ListsHere, can_be_chosen_here, frame_here};
+ghost use Rattle.dutch_bracket.specs.InContext.{ListsHere, StandsBehindFirst, can_be_chosen_here, frame_here};
 ghost use Rattle.dutch_bracket.specs.Shaped.{eligible_in};
 ghost use Rattle.dutch_bracket.specs.Stops.{Decides};
 
@@ -145,7 +145,7 @@ pub fn can_be_chosen(
 }
 
 /// Draws the first candidate of a shape that can be chosen. No says that there is none.
-#[tactic(auto, using(crate::proofs::EligibleLemmas::first_fit, crate::proofs::EligibleLemmas::passes_unfit, crate::proofs::EligibleLemmas::has_none))]
+#[tactic(auto, using(crate::proofs::EligibleLemmas::first_fit, crate::proofs::EligibleLemmas::passes_unfit, crate::proofs::EligibleLemmas::has_none, crate::proofs::EligibleLemmas::drawn_behind))]
 pub fn first_eligible(
     shaped: &ShapedBracket<'_>,
     lister: &mut Lister<'_, ByNumber<'_>>,
@@ -156,6 +156,8 @@ pub fn first_eligible(
         (IsFirst (eligible_in shaped.now) (frame_here shaped.now.context.now) lister.new.drawn)
         (has_member (eligible_in shaped.now) ≡ false)
         (budget.new.used ≡ budget.new.limit) }
+    ensures stands { IfOk result (λ yes. yes ≡ true
+        → StandsBehindFirst shaped.now.context.now shaped.now.shape lister.new.listing lister.new.drawn) }
     ensures lists { ListsHere shaped.now.context.now lister.new.listing }
     ensures spends { Spends budget.old budget.new }
 {

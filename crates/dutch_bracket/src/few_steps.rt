@@ -1,5 +1,5 @@
 // The greatest shape of a bracket by a listing of few steps (C.04.3 C.5, B.1), which tells nearly all shapes.
-ghost use Rattle.std.specs.Prelude.{◌≡◌};
+ghost use Rattle.std.specs.Prelude.{◌≡◌, IfOk, IfSome};
 ghost use Rattle.dutch_order.specs.Prelude.{MatchFound, Spends};
 ghost use Rattle.dutch_bracket.specs.Shapes.{IsFound};
 
@@ -20,6 +20,8 @@ pub fn decided_in_few_steps<R: Rule, S: Shapes<R>>(
         (λ found. IsFound (S.counting asked.now) (S.frame asked.now) found lister.new.drawn)
         (Unit {0})
         (budget.new.used ≡ budget.new.limit) }
+    ensures stands { IfOk result (λ told. IfSome told (λ found. IfSome found
+        (λ shape. S.stands asked.now shape lister.new.listing lister.new.drawn))) }
     ensures lists { S.lists asked.now lister.new.listing }
     ensures spends { Spends budget.old budget.new }
 {

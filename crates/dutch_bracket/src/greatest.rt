@@ -1,10 +1,10 @@
 // The greatest shape of a bracket (C.04.3 C.5, B.1): the most pairs that some arrangement has, and then the most
 // moved-down players in them; and the first of its arrangements, which is found with it. One search serves a bracket by
 // any rule, where each legal arrangement counts, and a bracket of the round, where those count that can be chosen.
-ghost use Rattle.std.specs.Prelude.{◌≡◌, ◌&&◌, List, Some, None, true, false, filter};
+ghost use Rattle.std.specs.Prelude.{◌≡◌, ◌&&◌, List, Some, None, true, false, filter, IfOk, IfSome};
 ghost use Rattle.dutch_order.specs.declared.bracket.Shape.{Shape};
-ghost use Rattle.dutch_order.specs.Prelude.{Arrangement, Fits, Frame, candidates, Listing, MatchDrawn, MatchFound};
-ghost use Rattle.dutch_order.specs.Prelude.{MatchStep, Spends};
+ghost use Rattle.dutch_order.specs.Prelude.{Arrangement, Candidate, Fits, Frame, candidates, Listing, MatchDrawn};
+ghost use Rattle.dutch_order.specs.Prelude.{MatchFound, MatchStep, Spends};
 ghost use Rattle.dutch_bracket.specs.Shapes.{IsFirst, fits, shapes_with, has_member, first_with, greatest_shape};
 
 use dutch_order::{Bracket, Budget, Candidate, Candidates, Rule, Shape, Stopped};
@@ -41,6 +41,9 @@ pub trait Shapes<R: Rule> {
     /// A listing is of this bracket.
     ghost lists: { Self → Listing R → Type 0 };
 
+    /// A listing stands behind the first arrangement of a shape that counts, which is drawn.
+    ghost stands: { Self → Shape → Listing R → Candidate → Type 0 };
+
     /// The bracket by scores.
     fn bracket(&self) -> &Bracket
         ensures { result.now ≡ frame self.now };
@@ -62,6 +65,7 @@ pub trait Shapes<R: Rule> {
         ensures answer { MatchDrawn result (IsFirst (counting self.now shape) (frame self.now) lister.new.drawn)
             (has_member (counting self.now shape) ≡ false)
             (budget.new.used ≡ budget.new.limit) }
+        ensures stands { IfOk result (λ yes. yes ≡ true → stands self.now shape lister.new.listing lister.new.drawn) }
         ensures lists { lists self.now lister.new.listing }
         ensures spends { Spends budget.old budget.new };
 }
@@ -82,6 +86,8 @@ impl<'a, R: Rule> Shapes<R> for Legal<'a, R> {
     ghost frame = { λ l. l.bracket.now };
 
     ghost lists = { λ l listing. (listing.frame ≡ l.bracket.now) × (listing.rule ≡ l.rule.now) };
+
+    ghost stands = { λ _ _ _ _. Unit {0} };
 
     fn bracket(&self) -> &Bracket {
         self.bracket
@@ -129,6 +135,8 @@ fn first_of<R: Rule, S: Shapes<R>>(
         × ((fits (S.frame asked.now) shape && has_member (S.counting asked.now shape)) ≡ true))
         ((fits (S.frame asked.now) shape && has_member (S.counting asked.now shape)) ≡ false)
         (budget.new.used ≡ budget.new.limit) }
+    ensures stands { IfOk result
+        (λ yes. yes ≡ true → S.stands asked.now shape lister.new.listing lister.new.drawn) }
     ensures lists { S.lists asked.now lister.new.listing }
     ensures spends { Spends budget.old budget.new }
 {
@@ -154,6 +162,8 @@ fn shape_with<R: Rule, S: Shapes<R>>(
         × IsFirst (S.counting asked.now shape) (S.frame asked.now) lister.new.drawn)
         (first_with (S.counting asked.now) (filter (fits (S.frame asked.now)) (shapes_with pairs)) ≡ None)
         (budget.new.used ≡ budget.new.limit) }
+    ensures stands { IfOk result (λ found. IfSome found
+        (λ shape. S.stands asked.now shape lister.new.listing lister.new.drawn)) }
     ensures lists { S.lists asked.now lister.new.listing }
     ensures spends { Spends budget.old budget.new }
 {
@@ -186,6 +196,8 @@ pub fn greatest_shape<R: Rule, S: Shapes<R>>(
         × IsFirst (S.counting asked.now shape) (S.frame asked.now) lister.new.drawn)
         (greatest_shape (S.counting asked.now) (S.frame asked.now) ≡ None)
         (budget.new.used ≡ budget.new.limit) }
+    ensures stands { IfOk result (λ found. IfSome found
+        (λ shape. S.stands asked.now shape lister.new.listing lister.new.drawn)) }
     ensures lists { S.lists asked.now lister.new.listing }
     ensures spends { Spends budget.old budget.new }
 {

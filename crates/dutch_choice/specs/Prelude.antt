@@ -3,6 +3,7 @@ pub use Rattle.dutch_choice.specs.ShapeCosts.{IsShapeFloor, IsTooCheap, alone_co
 pub use Rattle.dutch_choice.specs.Mates.{goes_first, has_mate, mate_at, mate_of, matched_shape, may_leave, unmated}
 pub use Rattle.dutch_choice.specs.AlwaysShapes.{IsAlwaysShape}
 pub use Rattle.dutch_choice.specs.GreatestMatchings.{HasGreatestMatching, IsBracketMatching, IsGreatestMatching, has_mdp, made_shape, pairs_here}
+pub use Rattle.dutch_choice.specs.Starts.{IsFoundShape, IsLent, StandsAt}
 pub use Rattle.dutch_choice.specs.Wishes.{ComesBefore, IsAsGoodBefore, IsBarred, NoneGrants, SomeGrants, granting, is_better_here, some_grants, with_mdps}
 unfoldable pub use Rattle.dutch_choice.specs.Wishes.{best_granting}
 pub use Rattle.dutch_choice.specs.Found.{HasItsQuality, IsBest}

@@ -2,13 +2,15 @@
 // finder.
 ghost use Rattle.std.specs.Prelude.{◌≡◌, IfOk};
 ghost use Rattle.dutch_order.specs.Prelude.{Spends};
-ghost use Rattle.dutch_bracket.specs.Prelude.{IsAbove, HasCandidate};
+ghost use Rattle.dutch_bracket.specs.Prelude.{IsAbove, HasCandidate, ListsHere};
 ghost use Rattle.dutch_choice.specs.Chosen.{IsChoice};
 
-use crate::finder::Finder;
-use crate::shape::shape_of;
+use crate::finder::{Asked, Finder};
+use crate::shape::found_shape;
+use dutch_bracket::ByNumber;
 use dutch_bracket::context::Context;
 use dutch_bracket::fault::PairFault;
+use dutch_bracket::greatest::Lister;
 use dutch_bracket::quality::Quality;
 use dutch_bracket::reached::Reached;
 use dutch_bracket::shaped::ShapedBracket;
@@ -29,20 +31,30 @@ pub enum Choice {
     Undecided,
 }
 
-/// The choice in a bracket that has a candidate.
+/// The choice in a bracket that has a candidate, by one lister for its shape and for the best candidate.
 #[tactic(auto, using(crate::proofs::BestLemmas::choice_is_best, crate::proofs::BestLemmas::shape_has_one))]
-pub fn choose_in<F: Finder>(context: &Context<'_>, budget: &mut Budget) -> Result<Choice, PairFault>
+fn chosen_by<F: Finder>(
+    context: &Context<'_>,
+    lister: &mut Lister<'_, ByNumber<'_>>,
+    budget: &mut Budget,
+) -> Result<Choice, PairFault>
     requires candidate { HasCandidate context.now.facts context.now.reached context.now.lower }
+    requires lists { ListsHere context.now lister.old.listing }
     ensures answer { IfOk result (IsChoice context.now (budget.new.used ≡ budget.new.limit)) }
     ensures spends { Spends budget.old budget.new }
 {
-    let shape = match shape_of(context, budget) {
-        Ok(Some(shape)) => shape,
+    let found = match found_shape(context, lister, budget) {
+        Ok(Some(found)) => found,
         Ok(None) => unreachable!(),
         Err(Stopped) => return Ok(Choice::Undecided),
     };
-    let shaped = ShapedBracket { context, shape };
-    match F::best_of(&shaped, None, budget)? {
+    let shape = found.shape;
+    let asked = Asked {
+        shaped: ShapedBracket { context, shape },
+        wish: None,
+        start: found.start,
+    };
+    match F::best_of(&asked, lister, budget)? {
         Step::Found(best) => Ok(Choice::Chosen {
             shape,
             candidate: best.candidate,
@@ -51,6 +63,18 @@ pub fn choose_in<F: Finder>(context: &Context<'_>, budget: &mut Budget) -> Resul
         Step::End => unreachable!(),
         Step::Undecided => Ok(Choice::Undecided),
     }
+}
+
+/// The choice in a bracket that has a candidate. (It makes the lister and does little else, as a lister is large.)
+#[inline(never)]
+pub fn choose_in<F: Finder>(context: &Context<'_>, budget: &mut Budget) -> Result<Choice, PairFault>
+    requires candidate { HasCandidate context.now.facts context.now.reached context.now.lower }
+    ensures answer { IfOk result (IsChoice context.now (budget.new.used ≡ budget.new.limit)) }
+    ensures spends { Spends budget.old budget.new }
+{
+    let rule = context.rule();
+    let mut lister = Lister::new(context.frame(), &rule);
+    chosen_by::<F>(context, &mut lister, budget)
 }
 
 /// The choice in a bracket of a field that has a candidate, above all lower seats by rank. In the penultimate bracket

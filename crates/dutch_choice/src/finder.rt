@@ -5,8 +5,12 @@
 ghost use Rattle.std.specs.Prelude.{◌≡◌, None, IfOk};
 ghost use Rattle.dutch_order.specs.Prelude.{MatchStep, Spends};
 ghost use Rattle.dutch_choice.specs.Found.{IsBest, best_wished};
+ghost use Rattle.dutch_choice.specs.Starts.{IsLent};
 
+use crate::start::Start;
+use dutch_bracket::ByNumber;
 use dutch_bracket::fault::PairFault;
+use dutch_bracket::greatest::Lister;
 use dutch_bracket::quality::Quality;
 use dutch_bracket::shaped::ShapedBracket;
 use dutch_bracket::wish::Wish;
@@ -19,18 +23,50 @@ pub struct Best {
     pub quality: Quality,
 }
 
+/// What a finder is asked for: the best candidate of a shape, of those that grant the wish if there is one. The lister
+/// that is lent with it stands so.
+#[derive(Clone, Copy)]
+pub struct Asked<'a> {
+    pub shaped: ShapedBracket<'a>,
+    pub wish: Option<Wish>,
+    pub start: Start,
+}
+
 /// Finds the best candidate of a shape.
 pub trait Finder {
     /// Of the candidates of a shape that can be chosen, and that grant the wish if there is one, the first that none of
     /// them is better than. `End` says that there is none.
     fn best_of(
-        shaped: &ShapedBracket<'_>,
-        wish: Option<Wish>,
+        asked: &Asked<'_>,
+        lister: &mut Lister<'_, ByNumber<'_>>,
         budget: &mut Budget,
     ) -> Result<Step<Best>, PairFault>
-        ensures answer { let context = shaped.now.context.now in IfOk result (λ step. MatchStep step
-            (IsBest context (best_wished context wish shaped.now.shape))
-            (best_wished context wish shaped.now.shape ≡ None)
-            (budget.new.used ≡ budget.new.limit)) }
+        requires lister { IsLent asked.now.shaped.context.now asked.now.shaped.shape asked.now.start lister.old }
+        ensures answer { let context = asked.now.shaped.context.now in
+            let best = best_wished context asked.now.wish asked.now.shaped.shape in IfOk result (λ step. MatchStep step
+            (IsBest context best) (best ≡ None) (budget.new.used ≡ budget.new.limit)) }
         ensures spends { Spends budget.old budget.new };
+}
+
+/// The best candidate of a shape by any finder, with a lister of its own. (Apart from its callers, as a lister is
+/// large.)
+#[inline(never)]
+pub fn best_by<F: Finder>(
+    shaped: &ShapedBracket<'_>,
+    wish: Option<Wish>,
+    budget: &mut Budget,
+) -> Result<Step<Best>, PairFault>
+    ensures answer { let context = shaped.now.context.now in
+        let best = best_wished context wish shaped.now.shape in IfOk result (λ step. MatchStep step
+        (IsBest context best) (best ≡ None) (budget.new.used ≡ budget.new.limit)) }
+    ensures spends { Spends budget.old budget.new }
+{
+    let rule = shaped.context.rule();
+    let mut lister = Lister::new(shaped.context.frame(), &rule);
+    let asked = Asked {
+        shaped: *shaped,
+        wish,
+        start: Start::Anew,
+    };
+    F::best_of(&asked, &mut lister, budget)
 }

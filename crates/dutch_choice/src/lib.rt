@@ -22,6 +22,7 @@ mod players;
 mod ruled_out;
 pub mod shape;
 pub mod shape_laws;
+pub mod start;
 
 pub use choice::{Choice, choose};
 pub use finder::Finder;

@@ -1,14 +1,16 @@
 // The shape of a bracket (C.04.3 C.5, B.1): the most pairs that some candidate has, and then the most moved-down
 // players in them.
-ghost use Rattle.std.specs.Prelude.{◌≡◌, Some, None, true, false, filter};
+ghost use Rattle.std.specs.Prelude.{◌≡◌, Some, None, true, false, filter, IfSome};
 ghost use Rattle.std.specs.Result.{MatchResult};
 ghost use Rattle.dutch_order.specs.Prelude.{MatchFound, Spends};
-ghost use Rattle.dutch_bracket.specs.Prelude.{FitsHere, ListsHere, eligible_here, first_with, fits, frame_here};
-ghost use Rattle.dutch_bracket.specs.Prelude.{shape_here, shapes_with};
+ghost use Rattle.dutch_bracket.specs.Prelude.{FitsHere, IsFound, ListsHere, StandsBehindFirst, eligible_here, first_with};
+ghost use Rattle.dutch_bracket.specs.Prelude.{fits, frame_here, shape_here, shapes_with};
 ghost use Rattle.dutch_choice.specs.ShapeCosts.{IsTooCheap, IsShapeFloor};
+ghost use Rattle.dutch_choice.specs.Starts.{IsFoundShape};
 
 use crate::certified::{ShapeFloor, steps_before, told_by_cost};
 use crate::players::Players;
+use crate::start::{FoundShape, Start};
 use dutch_bracket::ByNumber;
 use dutch_bracket::context::Context;
 use dutch_bracket::eligible::first_eligible;
@@ -35,13 +37,15 @@ impl<'a, 'b> ShapesAboveFloor<'a, 'b> {
 }
 
 impl<'a, 'b, 'c> Shapes<ByNumber<'c>> for ShapesAboveFloor<'a, 'b> {
-    ghost use Rattle.dutch_bracket.specs.Prelude.{ListsHere, eligible_here, frame_here};
+    ghost use Rattle.dutch_bracket.specs.Prelude.{ListsHere, StandsBehindFirst, eligible_here, frame_here};
 
     ghost counting = { λ b. eligible_here b.context.now };
 
     ghost frame = { λ b. frame_here b.context.now };
 
     ghost lists = { λ b. ListsHere b.context.now };
+
+    ghost stands = { λ b. StandsBehindFirst b.context.now };
 
     fn bracket(&self) -> &Bracket
         ensures { result.now ≡ frame_here self.now.context.now }
@@ -75,16 +79,38 @@ impl<'a, 'b, 'c> Shapes<ByNumber<'c>> for ShapesAboveFloor<'a, 'b> {
     }
 }
 
-/// The shape: by a listing of few steps, then by a matching of least cost, and where that does not tell it, by the
-/// whole listing above its floor.
+/// A shape that a listing has found: its first candidate is drawn.
 #[tactic(auto, unfolding(dutch_bracket::specs::Brackets::shape_of))]
-fn found_shape<'b>(
+fn drawn(
+    context: &Context<'_>,
+    found: Option<Shape>,
+    lister: &Lister<'_, ByNumber<'_>>,
+) -> Option<FoundShape>
+    requires found { IsFound (eligible_here context.now) (frame_here context.now) found lister.now.drawn }
+    requires stands { IfSome found
+        (λ shape. StandsBehindFirst context.now shape lister.now.listing lister.now.drawn) }
+    requires lists { ListsHere context.now lister.now.listing }
+    ensures { IsFoundShape context.now lister.now result }
+{
+    match found {
+        Some(shape) => Some(FoundShape {
+            shape,
+            start: Start::Drawn,
+        }),
+        None => None,
+    }
+}
+
+/// The shape: by a listing of few steps, then by a matching of least cost, and where that does not tell it, by the
+/// whole listing above its floor. A listing that finds it leaves its first candidate drawn.
+#[tactic(auto, unfolding(dutch_bracket::specs::Brackets::shape_of))]
+pub(crate) fn found_shape<'b>(
     context: &Context<'_>,
     lister: &mut Lister<'_, ByNumber<'b>>,
     budget: &mut Budget,
-) -> Result<Option<Shape>, Stopped>
+) -> Result<Option<FoundShape>, Stopped>
     requires lists { ListsHere context.now lister.old.listing }
-    ensures answer { MatchResult result (λ shape. shape_here context.now ≡ shape)
+    ensures answer { MatchResult result (IsFoundShape context.now lister.new)
         (λ _. budget.new.used ≡ budget.new.limit) }
     ensures spends { Spends budget.old budget.new }
 {
@@ -94,21 +120,24 @@ fn found_shape<'b>(
     };
     let players = Players::of(context);
     let few = steps_before(players.count());
-    if let Some(shape) = decided_in_few_steps(&shapes, lister, few, budget)? {
-        return Ok(shape);
+    if let Some(found) = decided_in_few_steps(&shapes, lister, few, budget)? {
+        return Ok(drawn(context, found, lister));
     }
     let told = told_by_cost(&players, budget)?;
     if let Some(shape) = told.shape {
-        return Ok(Some(shape));
+        return Ok(Some(FoundShape {
+            shape,
+            start: Start::Anew,
+        }));
     }
     shapes.floor = told.floor;
-    greatest_shape(&shapes, lister, budget)
+    let found = greatest_shape(&shapes, lister, budget)?;
+    Ok(drawn(context, found, lister))
 }
 
 /// The shape of a bracket of a field above all lower seats by rank: of the shapes that have a candidate, the one with
 /// the most pairs, and for them with the most moved-down players. The answer is none if no shape has one.
 #[inline(never)]
-#[tactic(auto, unfolding(dutch_bracket::specs::Brackets::shape_of))]
 pub fn shape_of(context: &Context<'_>, budget: &mut Budget) -> Result<Option<Shape>, Stopped>
     ensures answer { MatchFound result
         (λ shape. (shape_here context.now ≡ Some shape) × FitsHere context.now shape)
@@ -120,7 +149,7 @@ pub fn shape_of(context: &Context<'_>, budget: &mut Budget) -> Result<Option<Sha
     let mut lister = Lister::new(context.frame(), &rule);
     // One way out, as each one more clears the place of a lister more.
     match found_shape(context, &mut lister, budget) {
-        Ok(Some(shape)) => Ok(Some(shape)),
+        Ok(Some(found)) => Ok(Some(found.shape)),
         Ok(None) => Ok(None),
         Err(Stopped) => Err(Stopped),
     }

@@ -19,7 +19,7 @@ use dutch_bracket::quality::Quality;
 use dutch_bracket::shaped::ShapedBracket;
 use dutch_bracket::wish::Wish;
 use dutch_choice::barred::rules_out;
-use dutch_choice::finder::Finder;
+use dutch_choice::finder::{Finder, best_by};
 use dutch_order::{Bound, Budget, Candidate, Candidates, Exchange, Prefix, Shape, Step, Stopped};
 use dutch_player::Field;
 use std::alloc::Global;
@@ -222,7 +222,7 @@ fn look_for<F: Finder>(wished: &Wished<'_>, budget: &mut Budget) -> Result<Inste
         budget.old.limit) }
 {
     let wish = Some(wished.wish);
-    match F::best_of(&wished.shaped, wish, budget)? {
+    match best_by::<F>(&wished.shaped, wish, budget)? {
         Step::Found(best) => Ok(Instead::Best {
             candidate: best.candidate,
             quality: best.quality,

@@ -6,6 +6,7 @@ use Rattle.std.specs.Option.{MatchOption}
 use Rattle.std.proofs.lemmas.Bool.{true≢false, not-true, not-false, or_right}
 use Rattle.dutch_order.specs.Prelude.{Passes, Arrangement}
 use Rattle.dutch_order.specs.declared.bracket.Shape.{Shape}
+use Rattle.dutch_order.proofs.Passing.{passes-each}
 use Rattle.dutch_choice.specs.declared.finder.Best.{Best}
 use Rattle.dutch_bracket.specs.declared.wish.Wish.{Wish}
 use Rattle.dutch_bracket.specs.Prelude.{Context, can_be_chosen_here, candidates_here, eligible_here, quality_here, Quality, is_better, quality_in, candidates_of, eligible, first_unbeaten, best, best_with, is_wished}
@@ -163,6 +164,13 @@ module _ (context : Context) where
     pub skipped_same : (aim : Option Quality) (kept : Option Best) (before after : List Arrangement) → IsKept context kept
         → Passes (λ a. is_idle context wish aim kept a ≡ true) before after → best_yet context wish aim kept before ≡ best_yet context wish aim kept after
     skipped_same aim kept before after h (skipped, same, idle) = ap (best_yet context wish aim kept) same ∙ idle_front_passed aim kept skipped after h idle
+
+    -- so does what cannot be chosen
+    pub unfit_skipped : (aim : Option Quality) (before after : List Arrangement) → Passes (λ a. can_be_chosen_here context a ≡ false) before after
+        → best_yet context wish aim None before ≡ best_yet context wish aim None after
+    unfit_skipped aim before after passes =
+        skipped_same aim None before after tt
+        (passes-each (λ a. can_be_chosen_here context a ≡ false) (λ a. is_idle context wish aim None a ≡ true) before after (λ a unfit. unfit_is_idle _ _ _ unfit) passes)
 
   -- what is handed out in the end
   pub handed : (kept : Option Best) (all : Option Arrangement) → IsKept context kept → all ≡ kept_lists kept → MatchOption kept (all ≡ None) (IsBest context all)

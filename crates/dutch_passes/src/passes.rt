@@ -6,9 +6,10 @@ ghost use Rattle.std.specs.Option.{MatchOption};
 ghost use Rattle.std.specs.Result.{MatchResult};
 ghost use Rattle.dutch_order.specs.Prelude.{Spends};
 ghost use Rattle.dutch_choice.specs.Prelude.{IsBest};
+ghost use Rattle.dutch_choice.specs.declared.start.Start.TheVariants.{Anew};
 ghost use Rattle.dutch_passes.specs.Kept.{IsKept};
-ghost use Rattle.dutch_passes.specs.Passes.{IsChosenNext, IsEnd, IsHere, ListsFor, LooksFor, SeeksTheSame, near_of};
-ghost use Rattle.dutch_passes.specs.Passes.{wished_of};
+ghost use Rattle.dutch_passes.specs.Passes.{IsChosenNext, IsEnd, IsHere, IsLentFor, ListsFor, LooksFor, LooksThrough};
+ghost use Rattle.dutch_passes.specs.Passes.{SeeksTheSame, near_of, wished_of};
 
 use crate::guide::Guide;
 use crate::pass::{Pass, PassSoFar, loses};
@@ -18,8 +19,18 @@ use dutch_bracket::greatest::Lister;
 use dutch_bracket::reached::{BracketKind, ByNumber};
 use dutch_bracket::wish::is_wished;
 use dutch_choice::finder::Best;
+use dutch_choice::start::Start;
 use dutch_order::{Budget, Candidate, Stopped};
 use std::mem::take;
+
+/// What the passes over the candidates of a shape are made with: what tells the quality of candidates, and keeps the
+/// best one; and the lister that draws them, with where it stands.
+#[derive(Drop)]
+pub struct Search<'a, 'l, 'r, 'n, G: Guide> {
+    pub judge: Judge<'a, G>,
+    pub lister: &'l mut Lister<'r, ByNumber<'n>>,
+    pub start: Start,
+}
 
 /// Keeps a candidate in place of the one before it if it grants what is wished, does not lose and can be chosen. (It
 /// is put where that one stands, and not handed out: a candidate is large, and most are passed over.)
@@ -56,14 +67,46 @@ fn consider<G: Guide>(
     Ok(())
 }
 
-/// Keeps of the candidates that a pass seeks, and that can be chosen, the first that none is better than; none if there
-/// is no such candidate.
-fn best_near<'a, G: Guide>(
+/// Begins a pass: with the first candidate that can be chosen, if it stands drawn, or else with the listing anew.
+#[tactic(auto, using(crate::proofs::BeginLemmas::begun_anew))]
+fn begin<G: Guide>(
+    pass: &Pass<'_>,
+    search: &mut Search<'_, '_, '_, '_, G>,
+    budget: &mut Budget,
+) -> Result<(), Stopped>
+    requires lister { IsLentFor pass.now search.old.start search.old.lister.now }
+    requires look { LooksFor pass.now search.old.judge.look }
+    ensures answer { MatchResult result
+        (λ _. LooksThrough pass.now search.new.judge.kept search.new.lister.now.listing)
+        (λ _. budget.new.used ≡ budget.new.limit) }
+    ensures lists { ListsFor pass.now search.new.lister.now.listing }
+    ensures start { search.new.start ≡ Anew }
+    ensures look { LooksFor pass.now search.new.judge.look }
+    ensures guide { search.new.judge.guide ≡ search.old.judge.guide }
+    ensures spends { Spends budget.old budget.new }
+{
+    search.judge.kept = None;
+    match search.start {
+        Start::Drawn => {
+            search.start = Start::Anew;
+            consider(pass, &search.lister.drawn, &mut search.judge, budget)?;
+            Ok(())
+        }
+        Start::Anew => {
+            search.lister.listing.restart(pass.shaped.shape);
+            Ok(())
+        }
+    }
+}
+
+/// Goes on with a pass that looks through a listing, to the end of it.
+fn go_on<'a, G: Guide>(
     pass: &'a Pass<'a>,
     lister: &mut Lister<'_, ByNumber<'_>>,
     judge: &mut Judge<'_, G>,
     budget: &mut Budget,
 ) -> Result<(), Stopped>
+    requires looks { LooksThrough pass.now judge.old.kept lister.old.listing }
     requires lists { ListsFor pass.now lister.old.listing }
     requires look { LooksFor pass.now judge.old.look }
     requires guide { G.knows judge.old.guide pass.now.shaped.context.now pass.now.shaped.shape pass.now.wish }
@@ -76,8 +119,6 @@ fn best_near<'a, G: Guide>(
     ensures guide { G.knows judge.new.guide pass.now.shaped.context.now pass.now.shaped.shape pass.now.wish }
     ensures spends { Spends budget.old budget.new }
 {
-    lister.listing.restart(pass.shaped.shape);
-    judge.kept = None;
     while judge.guide.draw(
         PassSoFar {
             pass,
@@ -92,58 +133,79 @@ fn best_near<'a, G: Guide>(
     Ok(())
 }
 
+/// Keeps of the candidates that a pass seeks, and that can be chosen, the first that none is better than; none if there
+/// is no such candidate.
+#[tactic(auto, using(crate::proofs::BeginLemmas::lent_anew))]
+fn best_near<'a, G: Guide>(
+    pass: &'a Pass<'a>,
+    search: &mut Search<'_, '_, '_, '_, G>,
+    budget: &mut Budget,
+) -> Result<(), Stopped>
+    requires lister { IsLentFor pass.now search.old.start search.old.lister.now }
+    requires look { LooksFor pass.now search.old.judge.look }
+    requires guide { G.knows search.old.judge.guide pass.now.shaped.context.now pass.now.shaped.shape pass.now.wish }
+    ensures answer { MatchResult result
+        (λ _. MatchOption search.new.judge.kept (near_of pass.now ≡ None)
+        (IsBest pass.now.shaped.context.now (near_of pass.now)))
+        (λ _. budget.new.used ≡ budget.new.limit) }
+    ensures lister { IsLentFor pass.now search.new.start search.new.lister.now }
+    ensures look { LooksFor pass.now search.new.judge.look }
+    ensures guide { G.knows search.new.judge.guide pass.now.shaped.context.now pass.now.shaped.shape pass.now.wish }
+    ensures spends { Spends budget.old budget.new }
+{
+    begin(pass, search, budget)?;
+    go_on(pass, search.lister, &mut search.judge, budget)
+}
+
 /// Keeps what a pass with an aim chooses: the best of all. It keeps none if there is no aim, or if the pass finds none
 /// that can be chosen, which says nothing of the choice.
 fn best_by_aim<'a, G: Guide>(
     pass: &'a Pass<'a>,
-    lister: &mut Lister<'_, ByNumber<'_>>,
-    judge: &mut Judge<'_, G>,
+    search: &mut Search<'_, '_, '_, '_, G>,
     budget: &mut Budget,
 ) -> Result<(), Stopped>
-    requires lists { ListsFor pass.now lister.old.listing }
-    requires look { LooksFor pass.now judge.old.look }
-    requires guide { G.knows judge.old.guide pass.now.shaped.context.now pass.now.shaped.shape pass.now.wish }
+    requires lister { IsLentFor pass.now search.old.start search.old.lister.now }
+    requires look { LooksFor pass.now search.old.judge.look }
+    requires guide { G.knows search.old.judge.guide pass.now.shaped.context.now pass.now.shaped.shape pass.now.wish }
     ensures answer { MatchResult result
-        (λ _. IfSome judge.new.kept (IsBest pass.now.shaped.context.now (wished_of pass.now)))
+        (λ _. IfSome search.new.judge.kept (IsBest pass.now.shaped.context.now (wished_of pass.now)))
         (λ _. budget.new.used ≡ budget.new.limit) }
-    ensures lists { ListsFor pass.now lister.new.listing }
-    ensures look { LooksFor pass.now judge.new.look }
-    ensures guide { G.knows judge.new.guide pass.now.shaped.context.now pass.now.shaped.shape pass.now.wish }
+    ensures lister { IsLentFor pass.now search.new.start search.new.lister.now }
+    ensures look { LooksFor pass.now search.new.judge.look }
+    ensures guide { G.knows search.new.judge.guide pass.now.shaped.context.now pass.now.shaped.shape pass.now.wish }
     ensures spends { Spends budget.old budget.new }
 {
     if pass.aim.is_none() {
-        judge.kept = None;
+        search.judge.kept = None;
         return Ok(());
     }
-    best_near(pass, lister, judge, budget)
+    best_near(pass, search, budget)
 }
 
-/// Keeps what a pass with an aim ends with, or if that is nothing, the same pass without an aim. (It stands apart from
-/// its caller, since a lister is large.)
-#[inline(never)]
+/// Keeps what a pass with an aim ends with, or if that is nothing, the same pass without an aim.
 #[tactic(auto, using(crate::proofs::AimLemmas::without_aim))]
 fn best_in_passes<G: Guide>(
     pass: &mut Pass<'_>,
-    judge: &mut Judge<'_, G>,
+    search: &mut Search<'_, '_, '_, '_, G>,
     budget: &mut Budget,
 ) -> Result<(), Stopped>
-    requires look { LooksFor pass.old judge.old.look }
-    requires guide { G.knows judge.old.guide pass.old.shaped.context.now pass.old.shaped.shape pass.old.wish }
-    ensures answer { MatchResult result (λ _. IsEnd pass.old judge.new.kept)
+    requires lister { IsLentFor pass.old search.old.start search.old.lister.now }
+    requires look { LooksFor pass.old search.old.judge.look }
+    requires guide { G.knows search.old.judge.guide pass.old.shaped.context.now pass.old.shaped.shape pass.old.wish }
+    ensures answer { MatchResult result (λ _. IsEnd pass.old search.new.judge.kept)
         (λ _. budget.new.used ≡ budget.new.limit) }
-    ensures look { LooksFor pass.old judge.new.look }
-    ensures guide { G.knows judge.new.guide pass.old.shaped.context.now pass.old.shaped.shape pass.old.wish }
+    ensures lister { IsLentFor pass.old search.new.start search.new.lister.now }
+    ensures look { LooksFor pass.old search.new.judge.look }
+    ensures guide { G.knows search.new.judge.guide pass.old.shaped.context.now pass.old.shaped.shape pass.old.wish }
     ensures pass { SeeksTheSame pass.old pass.new }
     ensures spends { Spends budget.old budget.new }
 {
-    let rule = pass.shaped.context.rule();
-    let mut lister = Lister::new(pass.shaped.context.frame(), &rule);
-    best_by_aim(pass, &mut lister, judge, budget)?;
-    if judge.kept.is_some() {
+    best_by_aim(pass, search, budget)?;
+    if search.judge.kept.is_some() {
         return Ok(());
     }
     pass.aim = None;
-    best_near(pass, &mut lister, judge, budget)
+    best_near(pass, search, budget)
 }
 
 /// How many steps passes make before the pairs of the bracket are weighed: most brackets want no more.
@@ -167,21 +229,23 @@ fn tells_next<G: Guide>(pass: &Pass<'_>, guide: &G) -> bool {
 /// Keeps what the passes end with in so many steps. A no says that these do not suffice.
 fn best_within<G: Guide>(
     pass: &mut Pass<'_>,
-    judge: &mut Judge<'_, G>,
+    search: &mut Search<'_, '_, '_, '_, G>,
     steps: u64,
     budget: &mut Budget,
 ) -> Result<bool, Stopped>
-    requires look { LooksFor pass.old judge.old.look }
-    requires guide { G.knows judge.old.guide pass.old.shaped.context.now pass.old.shaped.shape pass.old.wish }
-    ensures answer { MatchResult result (λ ended. ended ≡ true → IsEnd pass.old judge.new.kept)
+    requires lister { IsLentFor pass.old search.old.start search.old.lister.now }
+    requires look { LooksFor pass.old search.old.judge.look }
+    requires guide { G.knows search.old.judge.guide pass.old.shaped.context.now pass.old.shaped.shape pass.old.wish }
+    ensures answer { MatchResult result (λ ended. ended ≡ true → IsEnd pass.old search.new.judge.kept)
         (λ _. budget.new.used ≡ budget.new.limit) }
-    ensures look { LooksFor pass.old judge.new.look }
-    ensures guide { G.knows judge.new.guide pass.old.shaped.context.now pass.old.shaped.shape pass.old.wish }
+    ensures lister { IsLentFor pass.old search.new.start search.new.lister.now }
+    ensures look { LooksFor pass.old search.new.judge.look }
+    ensures guide { G.knows search.new.judge.guide pass.old.shaped.context.now pass.old.shaped.shape pass.old.wish }
     ensures pass { SeeksTheSame pass.old pass.new }
     ensures spends { Spends budget.old budget.new }
 {
     let mut few = at_most(steps, budget);
-    let ended = best_in_passes(pass, judge, &mut few);
+    let ended = best_in_passes(pass, search, &mut few);
     budget.used = few.used;
     match ended {
         Ok(()) => Ok(true),
@@ -196,26 +260,28 @@ fn best_within<G: Guide>(
 #[inline(never)]
 fn best_by_weight<G: Guide>(
     pass: &mut Pass<'_>,
-    judge: &mut Judge<'_, G>,
+    search: &mut Search<'_, '_, '_, '_, G>,
     next: bool,
     budget: &mut Budget,
 ) -> Result<bool, Stopped>
-    requires look { LooksFor pass.old judge.old.look }
-    requires guide { G.knows judge.old.guide pass.old.shaped.context.now pass.old.shaped.shape pass.old.wish }
-    ensures answer { MatchResult result (λ ended. ended ≡ true → IsEnd pass.old judge.new.kept)
+    requires lister { IsLentFor pass.old search.old.start search.old.lister.now }
+    requires look { LooksFor pass.old search.old.judge.look }
+    requires guide { G.knows search.old.judge.guide pass.old.shaped.context.now pass.old.shaped.shape pass.old.wish }
+    ensures answer { MatchResult result (λ ended. ended ≡ true → IsEnd pass.old search.new.judge.kept)
         (λ _. budget.new.used ≡ budget.new.limit) }
-    ensures look { LooksFor pass.old judge.new.look }
-    ensures guide { G.knows judge.new.guide pass.old.shaped.context.now pass.old.shaped.shape pass.old.wish }
+    ensures lister { IsLentFor pass.old search.new.start search.new.lister.now }
+    ensures look { LooksFor pass.old search.new.judge.look }
+    ensures guide { G.knows search.new.judge.guide pass.old.shaped.context.now pass.old.shaped.shape pass.old.wish }
     ensures pass { SeeksTheSame pass.old pass.new }
     ensures spends { Spends budget.old budget.new }
 {
-    pass.aim = judge.guide.weigh(pass.wish, next, budget)?;
-    let steps = if tells_next(pass, &judge.guide) && !next {
+    pass.aim = search.judge.guide.weigh(pass.wish, next, budget)?;
+    let steps = if tells_next(pass, &search.judge.guide) && !next {
         few_steps(pass.shaped.context.len()).saturating_mul(4)
     } else {
         budget.limit - budget.used
     };
-    best_within(pass, judge, steps, budget)
+    best_within(pass, search, steps, budget)
 }
 
 /// Keeps what the passes end with: first in few steps, since most brackets want no more; then with floors by weight;
@@ -223,23 +289,24 @@ fn best_by_weight<G: Guide>(
 /// (Nothing here depends on the limit: with a higher one the same way goes on.)
 pub fn best_in_time<G: Guide>(
     pass: &mut Pass<'_>,
-    judge: &mut Judge<'_, G>,
+    search: &mut Search<'_, '_, '_, '_, G>,
     budget: &mut Budget,
 ) -> Result<(), Stopped>
-    requires look { LooksFor pass.old judge.old.look }
-    requires guide { G.knows judge.old.guide pass.old.shaped.context.now pass.old.shaped.shape pass.old.wish }
-    ensures answer { MatchResult result (λ _. IsEnd pass.old judge.new.kept)
+    requires lister { IsLentFor pass.old search.old.start search.old.lister.now }
+    requires look { LooksFor pass.old search.old.judge.look }
+    requires guide { G.knows search.old.judge.guide pass.old.shaped.context.now pass.old.shaped.shape pass.old.wish }
+    ensures answer { MatchResult result (λ _. IsEnd pass.old search.new.judge.kept)
         (λ _. budget.new.used ≡ budget.new.limit) }
     ensures spends { Spends budget.old budget.new }
 {
     let few = few_steps(pass.shaped.context.len());
-    if best_within(pass, judge, few, budget)? {
+    if best_within(pass, search, few, budget)? {
         return Ok(());
     }
-    if best_by_weight(pass, judge, false, budget)? {
+    if best_by_weight(pass, search, false, budget)? {
         return Ok(());
     }
-    if best_by_weight(pass, judge, true, budget)? {
+    if best_by_weight(pass, search, true, budget)? {
         return Ok(());
     }
     budget.used = budget.limit;

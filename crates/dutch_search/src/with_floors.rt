@@ -7,13 +7,13 @@ ghost use Rattle.dutch_floors.specs.Behind.{IsBasisFor};
 use crate::both::BothFloors;
 use dutch_bracket::eligible::at_most;
 use dutch_bracket::fault::PairFault;
-use dutch_bracket::reached::Seats;
+use dutch_bracket::greatest::Lister;
+use dutch_bracket::reached::{ByNumber, Seats};
 use dutch_bracket::shaped::ShapedBracket;
-use dutch_bracket::wish::Wish;
-use dutch_choice::finder::{Best, Finder};
+use dutch_choice::finder::{Asked, Best, Finder};
 use dutch_floors::floor::Floors;
 use dutch_order::{Budget, Step, Stopped};
-use dutch_passes::{Judge, Pass, Workroom, best_in_time, look_below};
+use dutch_passes::{Judge, Pass, Search, Workroom, best_in_time, look_below};
 
 /// In how many steps it is looked for what the next bracket can be at best: a step for each player of the bracket with
 /// each of the next scoregroup, and a listing.
@@ -47,32 +47,38 @@ pub struct WithFloors;
 
 impl Finder for WithFloors {
     fn best_of(
-        shaped: &ShapedBracket<'_>,
-        wish: Option<Wish>,
+        asked: &Asked<'_>,
+        lister: &mut Lister<'_, ByNumber<'_>>,
         budget: &mut Budget,
     ) -> Result<Step<Best>, PairFault> {
+        let shaped = asked.shaped;
         let look = look_below(shaped.context)?;
-        let Ok(counts) = floors_of(shaped, budget) else {
+        let Ok(counts) = floors_of(&shaped, budget) else {
             return Ok(Step::Undecided);
         };
         let mut pass = Pass {
-            shaped: *shaped,
-            wish,
+            shaped,
+            wish: asked.wish,
             aim: counts.aim(),
         };
-        let mut judge = Judge {
+        let judge = Judge {
             look,
             work: Workroom::default(),
             left: Seats::new(),
             kept: None,
             guide: BothFloors {
-                shaped: *shaped,
+                shaped,
                 counts,
                 weights: None,
             },
         };
-        match best_in_time(&mut pass, &mut judge, budget) {
-            Ok(()) => match judge.kept.take() {
+        let mut search = Search {
+            judge,
+            lister,
+            start: asked.start,
+        };
+        match best_in_time(&mut pass, &mut search, budget) {
+            Ok(()) => match search.judge.kept.take() {
                 Some(best) => Ok(Step::Found(best)),
                 None => Ok(Step::End),
             },

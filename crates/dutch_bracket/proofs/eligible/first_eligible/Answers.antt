@@ -1,10 +1,11 @@
 -- One candidate more that cannot be chosen, one that can, or the end of all candidates.
-use Rattle.std.proofs.Common.{◌≡◌, ap, refl, ◌∙◌, filter}
+use Rattle.std.proofs.Common.{rules, ◌≡◌, sym, ap, refl, ◌∙◌, filter}
 use Rattle.dutch_bracket.specs.declared.reached.ByNumber.{ByNumber}
-use Rattle.dutch_bracket.specs.Prelude.{candidates_of}
+use Rattle.dutch_bracket.specs.Prelude.{can_be_chosen_here, candidates_in, candidates_of}
 use Rattle.dutch_bracket.specs.Eligible.{can_be_chosen}
 use Rattle.dutch_bracket.proofs.FlatBrackets.{listed_as}
-use Rattle.dutch_bracket.proofs.EligibleLemmas.{eligible_is}
+use Rattle.dutch_bracket.proofs.EligibleLemmas.{eligible_is, passed_more}
+use Rattle.dutch_sequence.proofs.Skipping.{passes-none}
 use Rattle.dutch_sequence.proofs.Spending.{spends-none}
 use Rattle.dutch_bracket.proofs.eligible.first_eligible.Goals as goal
 
@@ -23,6 +24,8 @@ loop-left-init c =
     c.restart.ensures.coming c.requires.lists.field c.requires.lists.bracket c.requires.lists.frame refl in
     record {
       same = eligible_is facts reached lower shape ∙ ap (filter (can_be_chosen facts reached lower)) listed;
+      passed = passes-none _ _ _ listed;
+      shape = c.restart.ensures.shape;
       lists = record {
         frame = c.restart.ensures.frame ∙ c.requires.lists.frame;
         field = ap (λ (rule : ByNumber). rule.field.now) c.restart.ensures.rule ∙ c.requires.lists.field;
@@ -30,3 +33,14 @@ loop-left-init c =
       };
       spends = spends-none _;
     }
+
+pub loop-left-preserved : goal.loop-left-preserved
+loop-left-preserved c = record {
+  same = search rules;
+  passed = passed_more (can_be_chosen_here c.args.shaped.now.context.now) c.put_next-drawn.new.candidate.lists (candidates_in c.args.shaped.now) c.loop-left.lister.listing.coming
+      c.put_next-drawn.new.self.coming c.loop-left.invariant.passed (search rules)
+      (sym c.in_ok-can_be_chosen.ensures.answer ∙ c.if-branch.false);
+  shape = c.put_next-drawn.ensures.shape ∙ c.loop-left.invariant.shape;
+  lists = search rules;
+  spends = search rules;
+}
