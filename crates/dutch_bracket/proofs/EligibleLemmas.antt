@@ -3,7 +3,7 @@ use Rattle.std.proofs.Common.{◌≡◌, ℕ, Bool, true, false, cond, List, [],
 use Rattle.dutch_order.specs.Prelude.{Arrangement, Passes}
 use Rattle.dutch_order.specs.declared.bracket.Shape.{Shape}
 use Rattle.dutch_sequence.proofs.Lists.{filter-all}
-use Rattle.dutch_sequence.proofs.Skipping.{passes-none, passes-more, passes-same}
+use Rattle.dutch_sequence.proofs.Skipping.{passes-more, passes-same}
 use Rattle.dutch_player.specs.Prelude.{Facts}
 use Rattle.dutch_bracket.specs.Prelude.{Reached, has_member, candidates_of, eligible, completable, downfloaters, is_penultimate}
 use Rattle.dutch_bracket.specs.Eligible.{can_be_chosen}

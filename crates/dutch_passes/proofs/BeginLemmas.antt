@@ -11,7 +11,7 @@ use Rattle.dutch_choice.specs.declared.start.Start.{Start}
 use Rattle.dutch_choice.specs.declared.start.Start.TheVariants.{Anew}
 use Rattle.dutch_choice.specs.Prelude.{StandsAt}
 use Rattle.dutch_passes.specs.declared.pass.Pass.{Pass}
-use Rattle.dutch_passes.specs.Prelude.{IsChosenNext, IsHere, IsKept, IsLentFor, ListsFor, LooksThrough, aim_in, best_near, best_of_pass, near_of}
+use Rattle.dutch_passes.specs.Prelude.{IsChosenNext, IsHere, IsKept, IsLentFor, ListsFor, LooksThrough, aim_in, best_near, best_of_pass}
 use Rattle.dutch_passes.proofs.AimLemmas.{unfit_skipped}
 use Rattle.dutch_passes.proofs.SkippedLemmas.{left_was_there}
 
