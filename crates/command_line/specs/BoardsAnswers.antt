@@ -1,6 +1,6 @@
 -- What `boards` answers: the boards of a round as they stand in the report.
 use Rattle.std.specs.Prelude.{ℕ, Bool, true, false, ◌==◌, ◌||◌, nat_lt, if◌then◌else◌, List, Result, Ok, Err, unwrap_or}
-use Rattle.played_boards.specs.Prelude.{boards_of}
+use Rattle.tables.specs.Prelude.{boards_of}
 use Rattle.replies.specs.Prelude.{Answer, done, played_boards_text, refusal, round_not_reached}
 use Rattle.requests.specs.declared.options.BoardsOptions.{BoardsOptions}
 use Rattle.trf16.specs.Prelude.{Sheet, rounds_played}

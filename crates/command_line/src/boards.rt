@@ -5,11 +5,11 @@ ghost use Rattle.command_line.specs.BoardsAnswers.{boards_answer, boards_at, rou
 ghost use Rattle.replies.specs.Prelude.{answer_of, done};
 
 use crate::pair::tell_ranks;
-use played_boards::boards_of;
 use replies::refusal::{refused, round_not_reached};
 use replies::{Reply, wall};
 use requests::BoardsOptions;
 use std::alloc::{AllocError, Global};
+use tables::boards_of;
 use trf16::{Fault, Report};
 
 /// What `boards` says of the bytes of a report in which the pairing-allocated bye gives `bye` half points.

@@ -2,7 +2,7 @@
 use Rattle.std.proofs.Common.{◌≡◌, ◌∙◌, ◌≤◌, ◌<◌, ◌+◌, ℕ, Bool, List, [], ◌∷◌, Option, ◌++◌, ap, append-nil, append_assoc, refl, sym, length, drop, get_or}
 use Rattle.std.specs.Prelude.{slice_index_or, codes, None}
 use Rattle.std.proofs.lemmas.List.{drop_all, drop_more}
-use Rattle.tiebreak.specs.declared.key.Key.{Key}
+use Rattle.tables.specs.declared.key.Key.{Key}
 use Rattle.replies.specs.Prelude.{value_text, values_text, LabelFacts, gap, labels_text, padded, values_labels}
 
 no_values : (keys : List Key) → values_text keys [] ≡ []

@@ -3,8 +3,8 @@ use Rattle.std.specs.Prelude.{ℕ, List, ◌++◌, codes}
 use Rattle.std.specs.Fmt.{decimal}
 use Rattle.dutch_player.specs.declared.fault.FieldFault.{FieldFault}
 use Rattle.dutch_player.specs.declared.fault.FieldFault.TheVariants.{Unfinished, Unsupported, RoundsUnknown, RoundsOver, OutOfMemory as FieldMemory}
-use Rattle.tiebreak.specs.declared.fault.TieFault.{TieFault}
-use Rattle.tiebreak.specs.declared.fault.TieFault.TheVariants.{Unfinished as TieUnfinished, Unsupported as TieUnsupported, OutOfMemory as TieMemory}
+use Rattle.tables.specs.declared.fault.TieFault.{TieFault}
+use Rattle.tables.specs.declared.fault.TieFault.TheVariants.{Unfinished as TieUnfinished, Unsupported as TieUnsupported, OutOfMemory as TieMemory}
 use Rattle.trf16.specs.declared.fault.Excess.{Excess}
 use Rattle.trf16.specs.declared.fault.Excess.TheVariants.{Bytes, Players, Rounds}
 use Rattle.trf16.specs.declared.fault.Fault.{Fault}

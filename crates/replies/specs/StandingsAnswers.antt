@@ -1,8 +1,8 @@
 -- What `standings` answers: the lines of the players, with or without names.
 use Rattle.std.specs.Prelude.{ℕ, Bool, true, false, if◌then◌else◌, List, Result, Ok, Err}
-use Rattle.tiebreak.specs.Prelude.{RowFacts, standings_of}
-use Rattle.tiebreak.specs.declared.fault.TieFault.{TieFault}
-use Rattle.tiebreak.specs.declared.key.Key.{Key}
+use Rattle.tables.specs.Prelude.{RowFacts, standings_of}
+use Rattle.tables.specs.declared.fault.TieFault.{TieFault}
+use Rattle.tables.specs.declared.key.Key.{Key}
 use Rattle.trf16.specs.Prelude.{Sheet, rounds_played}
 use Rattle.replies.specs.StandingsTexts.{rows_text}
 use Rattle.replies.specs.Statuses.{Answer, done, tie_refusal}

@@ -1,9 +1,9 @@
 -- The lines of the standings.
 use Rattle.std.specs.Prelude.{ℕ, ◌+◌, ◌/◌, ◌%◌, ◌==◌, if◌then◌else◌, List, [], ◌∷◌, ◌++◌, Option, Some, None, codes}
 use Rattle.std.specs.Fmt.{decimal}
-use Rattle.tiebreak.specs.Prelude.{RowFacts}
-use Rattle.tiebreak.specs.declared.key.Key.{Key}
-use Rattle.tiebreak.specs.declared.key.Key.TheVariants.{Direct, Buchholz, SonnebornBerger}
+use Rattle.tables.specs.Prelude.{RowFacts}
+use Rattle.tables.specs.declared.key.Key.{Key}
+use Rattle.tables.specs.declared.key.Key.TheVariants.{Direct, Buchholz, SonnebornBerger}
 use Rattle.trf16.specs.Prelude.{Sheet}
 use Rattle.replies.specs.GameTexts.{games_text}
 use Rattle.replies.specs.Texts.{halves_text}

@@ -2,8 +2,8 @@
 use Rattle.std.specs.Prelude.{ℕ, Bool, true, false, List, [], ◌++◌, codes}
 use Rattle.dutch_player.specs.declared.fault.FieldFault.{FieldFault}
 use Rattle.dutch_player.specs.declared.fault.FieldFault.TheVariants.{OutOfMemory as FieldMemory}
-use Rattle.tiebreak.specs.declared.fault.TieFault.{TieFault}
-use Rattle.tiebreak.specs.declared.fault.TieFault.TheVariants.{OutOfMemory as TieMemory}
+use Rattle.tables.specs.declared.fault.TieFault.{TieFault}
+use Rattle.tables.specs.declared.fault.TieFault.TheVariants.{OutOfMemory as TieMemory}
 use Rattle.trf16.specs.declared.fault.Fault.{Fault}
 use Rattle.trf16.specs.declared.fault.Fault.TheVariants.{OutOfMemory}
 use Rattle.replies.specs.RefusalTexts.{fault_text, field_text, memory_text, tie_text, unread_text}

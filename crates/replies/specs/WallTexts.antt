@@ -1,8 +1,8 @@
 -- The boards and the standings for the wall: with names, in columns.
 use Rattle.std.specs.Prelude.{ℕ, ◌+◌, ◌-◌, true, ◌==◌, if◌then◌else◌, List, [], ◌∷◌, ◌++◌, length, Option, codes}
 use Rattle.std.specs.Fmt.{decimal}
-use Rattle.tiebreak.specs.Prelude.{RowFacts}
-use Rattle.tiebreak.specs.declared.key.Key.{Key}
+use Rattle.tables.specs.Prelude.{RowFacts}
+use Rattle.tables.specs.declared.key.Key.{Key}
 use Rattle.trf16.specs.declared.cell.Cell.{Cell}
 use Rattle.trf16.specs.declared.cell.Cell.TheVariants.{Game, Forfeit}
 use Rattle.trf16.specs.Prelude.{cell_in, name_in, outcome_letter, Sheet, points_upto, rounds_played}

@@ -9,11 +9,10 @@ ghost use Rattle.replies.specs.Statuses.{done};
 use crate::refusal::cannot_be_renumbered;
 use crate::reply::{Reply, Status};
 use crate::views::{not_seen, read_before, read_unsummed_before};
-use renumbering::{first_unread, renumbered_text};
 use requests::FormatOptions;
 use std::alloc::{AllocError, Global};
 use trf16::{Counted, Failed, Report};
-use trf16_writer::{summed, write};
+use trf16_writer::{first_unread, renumbered_text, summed, write};
 
 /// What `format` says of the bytes of a report in which the pairing-allocated bye gives `bye` half points.
 pub fn format(

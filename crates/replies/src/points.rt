@@ -4,7 +4,7 @@ ghost use Rattle.replies.specs.StandingsTexts.{quarter_text, quarters_text, valu
 ghost use Rattle.replies.specs.Texts.{halves_text};
 
 use std::fmt;
-use tiebreak::Key;
+use tables::Key;
 
 /// Half points, shown as points with one decimal.
 #[derive(Drop)]

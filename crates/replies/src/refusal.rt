@@ -11,7 +11,7 @@ use crate::reply::{Reply, Status};
 use crate::{refusal_texts, texts};
 use dutch_player::FieldFault;
 use std::alloc::{AllocError, Global};
-use tiebreak::TieFault;
+use tables::TieFault;
 use trf16::Fault;
 
 /// Why a report is refused, unless memory was.

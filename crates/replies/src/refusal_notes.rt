@@ -2,7 +2,7 @@
 ghost use Rattle.std.specs.Prelude.{◌≡◌, ◌≢◌, ◌≤◌, ◌++◌, [], IfOk, Err, Ok, codes, string_bytes};
 ghost use Rattle.std.specs.Option.{option_map_or};
 ghost use Rattle.trf16.specs.Prelude.{verdict_unsummed};
-ghost use Rattle.report_notes.specs.RefusalNotes.{alone_in_bytes, are_lines_read, fits_in_bytes};
+ghost use Rattle.report_notes.specs.RefusalNotes.{are_lines_read, fits_in_bytes};
 ghost use Rattle.replies.specs.RefusalNoteTexts.{bytes_text, columns_text, held_text, line_in_bytes, line_note};
 ghost use Rattle.replies.specs.RefusalNoteTexts.{found, kind_or, order_text, points_note, refusal_note, sums_text};
 ghost use Rattle.replies.specs.RefusalNoteTexts.{unfinished_text, with_note};

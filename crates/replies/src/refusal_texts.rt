@@ -5,7 +5,7 @@ ghost use Rattle.replies.specs.RefusalTexts.{excess_text, fault_text, field_text
 
 use dutch_player::FieldFault;
 use std::alloc::{AllocError, Global};
-use tiebreak::TieFault;
+use tables::TieFault;
 use trf16::{Excess, Fault};
 
 /// Why a report is refused.

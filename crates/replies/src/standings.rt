@@ -1,5 +1,5 @@
 // The command `standings`: the players by score and by the keys that break ties.
-ghost use Rattle.std.specs.Prelude.{◌≡◌, ◌++◌, ◌≤◌, ◌<◌, IfOk, Ok, OnOk, codes, length, string_bytes};
+ghost use Rattle.std.specs.Prelude.{◌≡◌, ◌++◌, ◌≤◌, ◌<◌, IfOk, Ok, OnOk, codes, string_bytes};
 ghost use Rattle.trf16.specs.Prelude.{verdict};
 ghost use Rattle.replies.specs.Replies.{answer_of};
 ghost use Rattle.replies.specs.StandingsAnswers.{rounds_shown, standings_answer, table_answer};
@@ -14,7 +14,7 @@ use crate::views::{not_seen, read_before};
 use crate::wall;
 use requests::StandingsOptions;
 use std::alloc::{AllocError, Global};
-use tiebreak::{Key, Row, TieFault};
+use tables::{Key, Row, TieFault};
 use trf16::Report;
 
 /// What `standings` says of the bytes of a report in which the pairing-allocated bye gives `bye` half points.
@@ -42,7 +42,7 @@ fn of_report(
 ) -> Result<Reply, AllocError>
     ensures { IfOk result (λ reply. answer_of reply ≡ standings_answer options.now (Ok report.now)) }
 {
-    match tiebreak::table(alloc, report, options.keys.as_slice()) {
+    match tables::table(alloc, report, options.keys.as_slice()) {
         Ok(table) => of_rows(alloc, options, report, table.rows()),
         Err(TieFault::OutOfMemory) => Err(AllocError),
         Err(fault) => has_no_standings(alloc, fault),

@@ -1,6 +1,6 @@
 // Tables: lines of labels that stand in columns, each of them as wide as the widest of its labels.
-ghost use Rattle.std.specs.Prelude.{◌≡◌, ◌++◌, ◌∷◌, [], IfOk, OnOk, replicate, slice_index_or, string_bytes};
-ghost use Rattle.replies.specs.Tables.{gap, labels_text, left, padded, padded_by, right, table_text, widest};
+ghost use Rattle.std.specs.Prelude.{◌≡◌, ◌++◌, ◌∷◌, [], IfOk, OnOk, slice_index_or, string_bytes};
+ghost use Rattle.replies.specs.Tables.{gap, labels_text, left, padded, right, table_text, widest};
 ghost use Rattle.replies.specs.Tables.{width, width_in, widths};
 ghost use Rattle.replies.specs.WallTexts.{shown};
 ghost use Rattle.trf16.specs.Prelude.{blanks};

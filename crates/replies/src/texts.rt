@@ -1,6 +1,5 @@
 // The texts of the program, apart from clap's and from why a report is refused.
-ghost use Rattle.std.specs.Prelude.{◌≡◌, ◌++◌, IfOk, codes, string_bytes};
-ghost use Rattle.std.specs.Fmt.{decimal};
+ghost use Rattle.std.specs.Prelude.{◌≡◌, ◌++◌, IfOk, string_bytes};
 ghost use Rattle.replies.specs.Texts.{not_of_bracket_text, not_reached_text};
 ghost use Rattle.replies.specs.Texts.{question_text, round_not_reached_text, undecided_text, undecided_words, word_text};
 

@@ -1,5 +1,5 @@
 // The boards and the standings for the wall: with names, in columns.
-ghost use Rattle.std.specs.Prelude.{◌≡◌, ◌++◌, ◌∷◌, ◌-◌, ◌<◌, [], IfOk, OnOk, length};
+ghost use Rattle.std.specs.Prelude.{◌≡◌, ◌++◌, ◌∷◌, ◌-◌, ◌<◌, [], IfOk, OnOk};
 ghost use Rattle.std.specs.Fmt.{decimal};
 ghost use Rattle.replies.specs.Replies.{answer_of};
 ghost use Rattle.replies.specs.Statuses.{done};
@@ -17,7 +17,7 @@ use crate::reply::{Reply, Status};
 use crate::table::{TableLine, table};
 use requests::StandingsOptions;
 use std::alloc::{AllocError, Global};
-use tiebreak::{Key, Row};
+use tables::{Key, Row};
 use trf16::{Cell, GameOutcome, Report};
 
 /// The start ranks of white and of black at a board; black 0 is the bye.

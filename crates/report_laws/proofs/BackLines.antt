@@ -22,10 +22,12 @@ use Rattle.trf16.proofs.BackLemmas.{lower_is, alone, no_other, IsOfOthers, test_
 use Rattle.trf16.proofs.ColumnLemmas.{joined-append, joined-columns}
 use Rattle.trf16.proofs.LineSteps.{line_keeps, line_adds}
 use Rattle.trf16.proofs.StepLemmas.{same_ok}
-use Rattle.trf16_writer.proofs.WrittenCells.{ascii-digits}
-use Rattle.trf16_writer.proofs.WrittenReport.{first_onto, onto_from}
-use Rattle.trf16_writer.proofs.WrittenRounds.{ascii-words, number_is}
-use Rattle.trf16_writer.proofs.WrittenText.{is_inside, are_inside, are_utf8, has_mark, lines-line, line-no_mark, utf8_ascii}
+use Rattle.trf16_laws.proofs.WrittenCells.{ascii-digits}
+use Rattle.trf16_writer.proofs.AcceptedReport.{first_onto}
+use Rattle.trf16_laws.proofs.WrittenReport.{onto_from}
+use Rattle.trf16_writer.proofs.ReadStarts.{number_is}
+use Rattle.trf16_laws.proofs.WrittenRounds.{ascii-words}
+use Rattle.trf16_laws.proofs.WrittenText.{is_inside, are_inside, are_utf8, has_mark, lines-line, line-no_mark, utf8_ascii}
 
 -- ---- a report that carries other lines
 

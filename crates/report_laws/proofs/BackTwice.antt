@@ -7,7 +7,7 @@ use Rattle.trf16.specs.Prelude.{without_last, Entry, Sheet, cell_at, half_points
 use Rattle.trf16.specs.declared.cell.Cell.{Cell}
 use Rattle.trf16.specs.declared.cell.Cell.TheVariants.{Blank}
 use Rattle.trf16.proofs.BackLemmas.{line_back-twice}
-use Rattle.trf16_writer.proofs.PairedRound.{with_cell-here, with_cell-there}
+use Rattle.trf16_laws.proofs.PairedRound.{with_cell-here, with_cell-there}
 use Rattle.report_laws.proofs.CellLemmas.{AreAlike, all-alike, look_alike, taken-alike, rest_alike}
 use Rattle.report_laws.proofs.FieldLemmas.{points-alike}
 use Rattle.report_laws.proofs.CellsBack.{back-there, start-back}

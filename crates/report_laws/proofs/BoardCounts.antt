@@ -7,8 +7,8 @@ use Rattle.std.proofs.lemmas.List.Sums.{sum_by-cons}
 use Rattle.std.proofs.lemmas.Bool.Decides.{nat_tests}
 use Rattle.trf16.specs.Prelude.{Entry, Sheet, known, starts_of, ranked_by}
 use Rattle.trf16.proofs.RankLemmas.{ranked_moves}
-use Rattle.played_boards.specs.declared.board.RankedBoard.{RankedBoard}
-use Rattle.played_boards.specs.Prelude.{board_at, boards_of, boards_unordered, goes_before}
+use Rattle.tables.specs.declared.board.RankedBoard.{RankedBoard}
+use Rattle.tables.specs.Prelude.{board_at, boards_of, boards_unordered, board_goes_before}
 
 -- whether there is a board, and it passes a test
 abbrev pub passes : (ℕ × ℕ → Bool) → Option RankedBoard → Bool
@@ -73,9 +73,9 @@ count-known start (e ∷ es) d k = step (is_start start) e es ∙ by (is_start s
 count-boards : (sheet : Sheet) (round : ℕ) (p : ℕ × ℕ → Bool)
     → count_by p (boards_of sheet round) ≡ count_by (λ (e : Entry). passes p (board_at sheet round e.start)) sheet.players
 count-boards sheet round p =
-    count-map p (ranked_by goes_before (boards_unordered sheet round))
-    ∙ sum_by-IsPermutation (λ (r : RankedBoard). cond (p r.board) 1 0) (boards_unordered sheet round) (ranked_by goes_before (boards_unordered sheet round))
-    (ranked_moves goes_before (boards_unordered sheet round))
+    count-map p (ranked_by board_goes_before (boards_unordered sheet round))
+    ∙ sum_by-IsPermutation (λ (r : RankedBoard). cond (p r.board) 1 0) (boards_unordered sheet round) (ranked_by board_goes_before (boards_unordered sheet round))
+    (ranked_moves board_goes_before (boards_unordered sheet round))
     ∙ count-made p (λ (e : Entry). board_at sheet round e.start) sheet.players
 
 -- one board passes a test that one known player's board alone passes

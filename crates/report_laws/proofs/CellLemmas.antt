@@ -10,7 +10,7 @@ use Rattle.std.proofs.lemmas.List.Sums.{sum_by-cons}
 use Rattle.trf16.specs.Prelude.{is_paired, last_paired, is_unfinished, first_unfinished}
 use Rattle.trf16.specs.declared.cell.Cell.{Cell}
 use Rattle.trf16.specs.declared.cell.Cell.TheVariants.{Blank, Bye, Game, Forfeit, Unfinished}
-use Rattle.trf16_writer.proofs.PairedRound.{not_paired}
+use Rattle.trf16_laws.proofs.PairedRound.{not_paired}
 
 -- the cell of each round passes the same look
 abbrev pub LookAlike : {Y : Type 0} → (Cell → Y) → List Cell → List Cell → Type 0

@@ -8,7 +8,7 @@ use Rattle.trf16.specs.Prelude.{without_last, cell_at, is_paired, is_blank_cell,
 use Rattle.trf16.specs.declared.cell.Cell.{Cell}
 use Rattle.trf16.specs.declared.cell.Cell.TheVariants.{Blank, Bye, Game, Forfeit, Unfinished}
 use Rattle.trf16.specs.declared.cell.Bye.TheVariants.{Half, Full, Allocated, Zero}
-use Rattle.trf16_writer.proofs.PairedRound.{with_cell-here, with_cell-there}
+use Rattle.trf16_laws.proofs.PairedRound.{with_cell-here, with_cell-there}
 use Rattle.report_laws.proofs.CellLemmas.{StartAlike, EndsUnpaired}
 
 blank : (cell : Cell) → is_blank_cell cell ≡ true → cell ≡ Blank

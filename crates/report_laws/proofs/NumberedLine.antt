@@ -19,11 +19,11 @@ use Rattle.trf16.specs.declared.fault.Fault.TheVariants.{BadExtension}
 use Rattle.trf16.proofs.AnsweringLemmas.{not_of_kind}
 use Rattle.trf16.proofs.FieldLemmas.{words-blank}
 use Rattle.trf16.proofs.StepLemmas.{same_ok}
-use Rattle.trf16_writer.proofs.WrittenCells.{list_all-append, plain-digits}
+use Rattle.trf16_laws.proofs.WrittenCells.{list_all-append, plain-digits}
 use Rattle.trf16.proofs.WrittenColumns.{is_plain, each, joined-each, columns-ascii, ascii-plain}
-use Rattle.trf16_writer.proofs.WrittenFields.{inside-plain}
-use Rattle.trf16_writer.proofs.WrittenNumbers.{words-digits, digits-decimal, length-decimal, number_of-decimal}
-use Rattle.trf16_writer.proofs.WrittenText.{is_inside, has_mark, line-no_mark, utf8_ascii}
+use Rattle.trf16_laws.proofs.WrittenFields.{inside-plain}
+use Rattle.trf16_laws.proofs.WrittenNumbers.{words-digits, digits-decimal, length-decimal, number_of-decimal}
+use Rattle.trf16_laws.proofs.WrittenText.{is_inside, has_mark, line-no_mark, utf8_ascii}
 use Rattle.report_laws.proofs.BackLines.{ascii_line}
 
 -- ---- numbers behind blanks

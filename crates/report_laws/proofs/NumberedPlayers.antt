@@ -18,13 +18,13 @@ use Rattle.trf16.specs.declared.fault.Fault.{Fault}
 use Rattle.trf16.specs.declared.fault.Fault.TheVariants.{Points}
 use Rattle.trf16.specs.declared.limits.TheConstants.{MOST_PLAYERS}
 use Rattle.trf16_writer.proofs.BoardLemmas.{eq-self}
-use Rattle.trf16_writer.proofs.MeetingLemmas.{PairFits, cell_is}
-use Rattle.trf16_writer.proofs.PairedRound.{fits-none}
+use Rattle.trf16_laws.proofs.MeetingLemmas.{PairFits, cell_is}
+use Rattle.trf16_laws.proofs.PairedRound.{fits-none}
 use Rattle.trf16.proofs.StepLemmas.{then_ok}
-use Rattle.trf16_writer.proofs.WrittenCells.{is_sound}
-use Rattle.trf16_writer.proofs.WrittenFields.{are_small}
-use Rattle.trf16_writer.proofs.WrittenPlayers.{IsSoundEntry}
-use Rattle.trf16_writer.proofs.WrittenReport.{are_all_small, are_all_sound}
+use Rattle.trf16_laws.proofs.WrittenCells.{is_sound}
+use Rattle.trf16_laws.proofs.WrittenFields.{are_small}
+use Rattle.trf16_laws.proofs.WrittenPlayers.{IsSoundEntry}
+use Rattle.trf16_laws.proofs.WrittenReport.{are_all_small, are_all_sound}
 use Rattle.report_laws.proofs.NewStarts.{new_within, new_once, new_most}
 use Rattle.report_laws.proofs.NumberedLine.{same_kind}
 

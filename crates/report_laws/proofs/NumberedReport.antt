@@ -15,10 +15,11 @@ use Rattle.trf16.specs.declared.limits.TheConstants.{MOST_PLAYERS, MOST_BYTES}
 use Rattle.trf16_writer.proofs.BoardLemmas.{eq-self}
 use Rattle.trf16.proofs.LineSteps.{turned, line_keeps, line_adds}
 use Rattle.trf16.proofs.StepLemmas.{same_ok}
-use Rattle.trf16_writer.proofs.WrittenFields.{are_small}
-use Rattle.trf16_writer.proofs.WrittenPlayers.{IsSoundEntry, player_is, was_player, written_player}
-use Rattle.trf16_writer.proofs.WrittenReport.{line_from, first_onto, onto_from, all_small, were_sound, accepted, sized_is, IsLaidOut, verdict_from, kept_bye}
-use Rattle.trf16_writer.proofs.WrittenText.{is_inside, are_inside, are_utf8, has_mark, lines-line, lines-inside, utf8_lines, no_mark, without_marks-no_mark}
+use Rattle.trf16_laws.proofs.WrittenFields.{are_small}
+use Rattle.trf16_laws.proofs.WrittenPlayers.{IsSoundEntry, player_is, was_player, written_player}
+use Rattle.trf16_writer.proofs.AcceptedReport.{first_onto, accepted, sized_is, IsLaidOut}
+use Rattle.trf16_laws.proofs.WrittenReport.{line_from, onto_from, all_small, were_sound, verdict_from, kept_bye}
+use Rattle.trf16_laws.proofs.WrittenText.{is_inside, are_inside, are_utf8, has_mark, lines-line, lines-inside, utf8_lines, no_mark, without_marks-no_mark}
 use Rattle.report_laws.proofs.BackLines.{carrying, all_carrying, line-carrying}
 use Rattle.report_laws.proofs.NumberedLine.{is_read}
 use Rattle.report_laws.proofs.NumberedPlayers.{TellsApart, tells_apart, each_has, has_start, known_new, players_new}

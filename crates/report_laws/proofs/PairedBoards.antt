@@ -23,7 +23,7 @@ use Rattle.trf16.specs.declared.limits.TheConstants.{MOST_ROUNDS}
 use Rattle.trf16.specs.Outcomes.{◌>>=◌}
 use Rattle.trf16.specs.Prelude.{CanBePaired, Entry, HasOwnStarts, Sheet, absent, cell_by, cells_of, cells_with, entry_with, half_points, named_by, points_upto, rounds_played, starts_of, with_cell, with_round}
 use Rattle.trf16_writer.proofs.BoardLemmas.{eq-self, eq-sym}
-use Rattle.trf16_writer.proofs.PairedRound.{named_black, named_head, named_tail}
+use Rattle.trf16_laws.proofs.PairedRound.{named_black, named_head, named_tail}
 use Rattle.trf16.proofs.RankLemmas.{ranked_moves}
 use Rattle.dutch_player.specs.declared.fault.FieldFault.{FieldFault}
 use Rattle.dutch_player.specs.Prelude.{Facts, SeatFacts, colour_of_higher, colours, initial_of, no_seat, ranked, seat_at, seats_of, start_ranks, total_for, with_colour}
@@ -39,9 +39,9 @@ use Rattle.dutch_pair.proofs.BoardOrder.{boards_in_order}
 use Rattle.dutch_pair.proofs.NamedBoards.{pairs_of_seats}
 use Rattle.dutch_pair.proofs.NextRound.{can_be_next}
 use Rattle.dutch_pair.proofs.WholeRounds.{one_bye}
-use Rattle.played_boards.specs.declared.board.RankedBoard.{RankedBoard}
-use Rattle.played_boards.specs.Prelude.{boards_of, goes_before, ranks_above, score_before}
-use Rattle.played_boards.specs.Boards.{board_of_bye, board_of_two}
+use Rattle.tables.specs.declared.board.RankedBoard.{RankedBoard}
+use Rattle.tables.specs.Prelude.{boards_of, board_goes_before, ranks_above, score_before}
+use Rattle.tables.specs.Boards.{board_of_bye, board_of_two}
 use Rattle.report_laws.proofs.HostLemmas.{above_other}
 use Rattle.report_laws.proofs.BoardOrders.{Ahead, IsStrict}
 use Rattle.report_laws.proofs.PutBoards.{apart_from, both_apart, one_before, rank, rest_distinct, round_boards}
@@ -163,12 +163,12 @@ record Goes (r : RankedBoard) (score both start : ℕ) : Type 0 where
   by_start : r.start ≡ start
 
 -- two boards of two players each
-before-pair : (p q : RankedBoard) (a b c d e f : ℕ) → Goes p a b c → Goes q d e f → goes_before p q ≡ (nat_lt d a || ((a == d) && (nat_lt e b || ((b == e) && nat_lt c f))))
+before-pair : (p q : RankedBoard) (a b c d e f : ℕ) → Goes p a b c → Goes q d e f → board_goes_before p q ≡ (nat_lt d a || ((a == d) && (nat_lt e b || ((b == e) && nat_lt c f))))
 before-pair p q a b c d e f g h =
     rw (g.pair, h.pair, g.by_score, h.by_score, g.by_both, h.by_both, g.by_start, h.by_start) (agree a b c d e f)
 
 -- a bye goes behind
-before-bye : (p q : RankedBoard) → p.has_bye ≡ false → q.has_bye ≡ true → goes_before p q ≡ true
+before-bye : (p q : RankedBoard) → p.has_bye ≡ false → q.has_bye ≡ true → board_goes_before p q ≡ true
 before-bye p q e e' = rw (e, e') refl
 
 -- ---- the boards of a round that is paired
@@ -282,7 +282,7 @@ module _ (sheet : Sheet) (facts : Facts) (pairing : Pairing) (own : HasOwnStarts
 
   -- both orders agree
   orders_agree : (p q : ℕ × ℕ) → IsPair facts p → IsPair facts q → (p.0 ≡ p.1 → ⊥) → (q.0 ≡ q.1 → ⊥)
-      → goes_before (rank put next (board_of facts p)) (rank put next (board_of facts q)) ≡ is_before facts p q
+      → board_goes_before (rank put next (board_of facts p)) (rank put next (board_of facts q)) ≡ is_before facts p q
   unfolding is_before goes_before_by_sum
   orders_agree p q seats seats' differ differ' =
       before-pair (rank put next (board_of facts p)) (rank put next (board_of facts q)) (score_at facts (higher facts p)) (both_scores facts p) (start_of (higher facts p))
@@ -351,7 +351,7 @@ module _ (sheet : Sheet) (facts : Facts) (pairing : Pairing) (own : HasOwnStarts
   abbrev byes : List (ℕ × ℕ)
   byes = map (bye_of facts) pairing.bye
 
-  ahead_byes : (r : RankedBoard) → r.has_bye ≡ false → (bye : List ℕ) → Ahead goes_before r (map (rank put next) (map (bye_of facts) bye))
+  ahead_byes : (r : RankedBoard) → r.has_bye ≡ false → (bye : List ℕ) → Ahead board_goes_before r (map (rank put next) (map (bye_of facts) bye))
   ahead_byes r pair [] = tt
   ahead_byes r pair (seat ∷ bye) = (before-bye r (rank put next (bye_of facts seat)) pair (bye_goes seat), ahead_byes r pair bye)
 
@@ -359,7 +359,7 @@ module _ (sheet : Sheet) (facts : Facts) (pairing : Pairing) (own : HasOwnStarts
   ahead_pairs : (p : ℕ × ℕ) (rest : List (ℕ × ℕ)) → IsPair facts p → (p.0 ≡ p.1 → ⊥) → AllByRecursion (IsPair facts) rest → NoneBefore facts p rest
       → IsDistinct nat_eq (named_by (map (board_of facts) rest ++ byes))
       → ((n : ℕ) → 0 < n → list_any (nat_eq n) (named_by (map (board_of facts) rest ++ byes)) ≡ true → start_of (higher facts p) ≡ n → ⊥)
-      → Ahead goes_before (rank put next (board_of facts p)) (map (rank put next) (map (board_of facts) rest ++ byes))
+      → Ahead board_goes_before (rank put next (board_of facts p)) (map (rank put next) (map (board_of facts) rest ++ byes))
   ahead_pairs p [] seats differ all none distinct others = ahead_byes (rank put next (board_of facts p)) (board_goes p seats differ).pair pairing.bye
   ahead_pairs p (q ∷ rest) seats differ all none distinct others =
       let behind = map (board_of facts) rest ++ byes in
@@ -377,10 +377,10 @@ module _ (sheet : Sheet) (facts : Facts) (pairing : Pairing) (own : HasOwnStarts
       )
 
   strict_pairs : (pairs : List (ℕ × ℕ)) → AllByRecursion (IsPair facts) pairs → AreInOrder facts pairs → length pairing.bye ≤ 1
-      → IsDistinct nat_eq (named_by (map (board_of facts) pairs ++ byes)) → IsStrict goes_before (map (rank put next) (map (board_of facts) pairs ++ byes))
+      → IsDistinct nat_eq (named_by (map (board_of facts) pairs ++ byes)) → IsStrict board_goes_before (map (rank put next) (map (board_of facts) pairs ++ byes))
   strict_pairs [] all order few distinct = by pairing.bye few
     where
-      by : (bye : List ℕ) → length bye ≤ 1 → IsStrict goes_before (map (rank put next) (map (bye_of facts) bye))
+      by : (bye : List ℕ) → length bye ≤ 1 → IsStrict board_goes_before (map (rank put next) (map (bye_of facts) bye))
       by [] few = tt
       by (seat ∷ []) few = (tt, tt)
       by (seat ∷ other ∷ more) few = absurd (omega (arith, few))

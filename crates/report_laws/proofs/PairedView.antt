@@ -17,7 +17,7 @@ use Rattle.trf16.specs.declared.cell.Cell.TheVariants.{Blank, Bye, Game, Forfeit
 use Rattle.trf16.specs.declared.kind.LineKind.TheVariants.{Xxa, Xxs, Rank}
 use Rattle.trf16.proofs.BackLemmas.{HasLinesBack, some_back, nobody_absent, first_of-back, others_both}
 use Rattle.trf16_writer.proofs.BoardLemmas.{eq-self, eq-sym, all_in}
-use Rattle.trf16_writer.proofs.PairedRound.{given, with_cell-here, named_head, named_black, named_tail, cells-there, played_again}
+use Rattle.trf16_laws.proofs.PairedRound.{given, with_cell-here, named_head, named_black, named_tail, cells-there, played_again}
 use Rattle.trf16_writer.proofs.RoundLemmas.{starts-with}
 use Rattle.dutch_player.specs.Prelude.{seats_of}
 use Rattle.report_laws.specs.Boards.{NameAllPresent}

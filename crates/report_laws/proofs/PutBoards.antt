@@ -22,12 +22,12 @@ use Rattle.trf16.specs.declared.cell.Cell.TheVariants.{Blank, Bye, Game, Forfeit
 use Rattle.trf16.specs.declared.cell.Colour.TheVariants.{White, Black}
 use Rattle.trf16.specs.Prelude.{CanBePaired, Entry, HasOwnStarts, Sheet, cell_by, cell_in, cell_on, cells_of, colour_in_cell, cells_with, entry_with, is_paired, known, last_paired, last_paired_of, named_by, ranked_by, rounds_played, starts_of, with_round}
 use Rattle.trf16_writer.proofs.BoardLemmas.{all_in, eq-self, eq-sym}
-use Rattle.trf16_writer.proofs.PairedRound.{cells-here, named_black, named_head, named_tail, not_paired}
+use Rattle.trf16_laws.proofs.PairedRound.{cells-here, named_black, named_head, named_tail, not_paired}
 use Rattle.trf16.proofs.RankLemmas.{ranked_moves, ranked_ranks}
 use Rattle.trf16_writer.proofs.RoundLemmas.{starts-with}
-use Rattle.played_boards.specs.declared.board.RankedBoard.{RankedBoard}
-use Rattle.played_boards.specs.Prelude.{board_at, board_by, boards_of, boards_unordered, colour_by, colour_in, goes_before, place_cmp, ranks_above, score_before, seated}
-use Rattle.played_boards.specs.Boards.{board_of_bye, board_of_two}
+use Rattle.tables.specs.declared.board.RankedBoard.{RankedBoard}
+use Rattle.tables.specs.Prelude.{board_at, board_by, boards_of, boards_unordered, colour_by, colour_in, board_goes_before, place_cmp, ranks_above, score_before, seated}
+use Rattle.tables.specs.Boards.{board_of_bye, board_of_two}
 use Rattle.report_laws.proofs.HostLemmas.{above_other, first-above}
 use Rattle.report_laws.proofs.BoardOrders.{In, IsStrict, in-made, in-map, in-ranked, made-in, map-in, ranked-in, same_list, strict_from}
 
@@ -62,7 +62,7 @@ start_equal a b e =
     nat_equal a.start b.start (then_equal (nat_cmp b.both_scores a.both_scores) (nat_cmp a.start b.start) sums)
 
 -- of two boards with other start ranks one goes before the other
-pub one_before : (a b : RankedBoard) → goes_before b a ≡ false → same_start a b ≡ false → goes_before a b ≡ true
+pub one_before : (a b : RankedBoard) → board_goes_before b a ≡ false → same_start a b ≡ false → board_goes_before a b ≡ true
 one_before a b behind other = by (place_cmp b a) (place_cmp a b) behind (place_total.antisymm a b) (start_equal a b)
   where
     by : (o p : Ordering) → is_lt o ≡ false → p ≡ ordering_reverse o → (p ≡ Equal → same_start a b ≡ true) → is_lt p ≡ true
@@ -484,23 +484,23 @@ module _ (sheet : Sheet) (boards : List (ℕ × ℕ)) (own : HasOwnStarts sheet)
       subst (IsDistinct nat_eq) (sym (starts-with (entry_with sheet.bye boards last) (λ entry. refl) sheet.players)) own.different
 
   abbrev in_order : List RankedBoard
-  in_order = ranked_by goes_before (boards_unordered put round)
+  in_order = ranked_by board_goes_before (boards_unordered put round)
 
   boards_apart : IsDistinct same_start in_order
   boards_apart =
-      IsDistinct-IsPermutation same_start flips (boards_unordered put round) in_order (ranked_moves goes_before (boards_unordered put round))
+      IsDistinct-IsPermutation same_start flips (boards_unordered put round) in_order (ranked_moves board_goes_before (boards_unordered put round))
       (made_distinct made (λ entry r e. start-by put round entry.start (cell_in put entry.start round) r e) put.players starts_apart)
 
-  is_order : IsStrictWeakOrder goes_before
+  is_order : IsStrictWeakOrder board_goes_before
   is_order = ranks_by place_total (λ (r : RankedBoard). r)
 
-  strict : IsStrict goes_before in_order
-  strict = strict_from goes_before same_start one_before in_order (ranked_ranks goes_before is_order (boards_unordered put round)) boards_apart
+  strict : IsStrict board_goes_before in_order
+  strict = strict_from board_goes_before same_start one_before in_order (ranked_ranks board_goes_before is_order (boards_unordered put round)) boards_apart
 
   -- boards that stand in their order
-  pub round_boards : IsStrict goes_before (map (rank put round) boards) → boards_of put round ≡ boards
+  pub round_boards : IsStrict board_goes_before (map (rank put round) boards) → boards_of put round ≡ boards
   round_boards given =
       let same : in_order ≡ map (rank put round) boards =
-      same_list goes_before is_order in_order (map (rank put round) boards) strict given (λ r m. back r (in-ranked goes_before (boards_unordered put round) r m))
-      (λ r m. ranked-in goes_before (boards_unordered put round) r (into r m)) in
+      same_list board_goes_before is_order in_order (map (rank put round) boards) strict given (λ r m. back r (in-ranked board_goes_before (boards_unordered put round) r m))
+      (λ r m. ranked-in board_goes_before (boards_unordered put round) r (into r m)) in
       ap (map (λ (r : RankedBoard). r.board)) same ∙ map-same (rank put round) boards rank_board

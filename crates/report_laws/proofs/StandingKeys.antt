@@ -4,8 +4,8 @@ use Rattle.std.specs.Prelude.{All}
 use Rattle.std.proofs.lemmas.List.Elements.{All-map}
 use Rattle.std.proofs.lemmas.List.Sorted.{All-permutation}
 use Rattle.trf16.specs.Prelude.{Sheet}
-use Rattle.tiebreak.specs.declared.key.Key.{Key}
-use Rattle.tiebreak.specs.Prelude.{RowFacts, value_of, goes_before, ranked, row_of, with_value, with_key, with_keys, judged, standings_of, HasEachKey}
+use Rattle.tables.specs.declared.key.Key.{Key}
+use Rattle.tables.specs.Prelude.{RowFacts, value_of, row_goes_before, ranked, row_of, with_value, with_key, with_keys, judged, standings_of, HasEachKey}
 use Rattle.trf16.proofs.RankLemmas.{ranked_moves}
 use Rattle.report_laws.proofs.StandingRows.{rows-given}
 
@@ -32,7 +32,7 @@ have-none sheet = All-map (λ (row : RowFacts). length row.values ≡ 0) (row_of
 have-all : (sheet : Sheet) (keys : List Key) → Have (length keys) (ranked (with_keys sheet keys (map (row_of sheet) sheet.players)))
 have-all sheet keys =
     let rows = with_keys sheet keys (map (row_of sheet) sheet.players) in
-    All-permutation (λ (row : RowFacts). length row.values ≡ length keys) rows (ranked rows) (ranked_moves goes_before rows)
+    All-permutation (λ (row : RowFacts). length row.values ≡ length keys) rows (ranked rows) (ranked_moves row_goes_before rows)
     (have-keys sheet keys (map (row_of sheet) sheet.players) 0 (length keys) (omega arith) (have-none sheet))
 
 pub has_each_key : (sheet : Sheet) (keys : List Key) → HasEachKey sheet keys

@@ -5,8 +5,8 @@ use Rattle.std.specs.Cmp.{IsEquivalence}
 use Rattle.std.specs.Cmp.Lexicographic.{options_equiv}
 use Rattle.std.proofs.lemmas.Cmp.{nat_eq_equiv, lists_equiv, on_equiv, and_equiv}
 use Rattle.trf16.specs.Prelude.{Sheet}
-use Rattle.tiebreak.specs.declared.key.Key.TheVariants.{Direct}
-use Rattle.tiebreak.specs.Prelude.{RowFacts, is_level, group_of, have_all_met, points_among, direct_in, value_of}
+use Rattle.tables.specs.declared.key.Key.TheVariants.{Direct}
+use Rattle.tables.specs.Prelude.{RowFacts, is_level, group_of, have_all_met, points_among, direct_in, value_of}
 
 level_equiv : IsEquivalence is_level
 level_equiv = and_equiv (on_equiv (λ (r : RowFacts). r.score) nat_eq_equiv) (on_equiv (λ (r : RowFacts). r.values) (lists_equiv (options_equiv nat_eq_equiv)))

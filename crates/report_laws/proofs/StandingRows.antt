@@ -3,9 +3,9 @@ use Rattle.std.proofs.Common.{◌≡◌, ℕ, List, [], ◌∷◌, map, Option, 
 use Rattle.std.specs.Prelude.{IsPermutation}
 use Rattle.std.proofs.lemmas.List.Sorted.{IsPermutation-map}
 use Rattle.trf16.specs.Prelude.{Entry, Sheet}
-use Rattle.tiebreak.specs.declared.key.Key.{Key}
-use Rattle.tiebreak.specs.declared.fault.TieFault.{TieFault}
-use Rattle.tiebreak.specs.Prelude.{RowFacts, value_of, goes_before, ranked, row_of, with_value, with_key, with_keys, judged, standings_of, HasEachOnce}
+use Rattle.tables.specs.declared.key.Key.{Key}
+use Rattle.tables.specs.declared.fault.TieFault.{TieFault}
+use Rattle.tables.specs.Prelude.{RowFacts, value_of, row_goes_before, ranked, row_of, with_value, with_key, with_keys, judged, standings_of, HasEachOnce}
 use Rattle.trf16.proofs.RankLemmas.{ranked_moves}
 use Rattle.trf16.specs.Outcomes.{◌>>=◌}
 
@@ -25,7 +25,7 @@ starts-row_of sheet [] = refl
 starts-row_of sheet (entry ∷ rest) = ap (λ others. entry.start ∷ others) (starts-row_of sheet rest)
 
 starts-ranked : (all : List RowFacts) → IsPermutation (starts all) (starts (ranked all))
-starts-ranked all = IsPermutation-map (λ row. row.start) all (ranked all) (ranked_moves goes_before all)
+starts-ranked all = IsPermutation-map (λ row. row.start) all (ranked all) (ranked_moves row_goes_before all)
 
 starts-all : (sheet : Sheet) (keys : List Key) → IsPermutation (map (λ entry. entry.start) sheet.players) (starts (ranked (with_keys sheet keys (map (row_of sheet) sheet.players))))
 starts-all sheet keys =

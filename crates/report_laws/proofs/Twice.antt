@@ -16,8 +16,8 @@ use Rattle.trf16.specs.Prelude.{columns, lines, without_marks, has_too_many_roun
 use Rattle.trf16.specs.declared.cell.Cell.{Cell}
 use Rattle.trf16.specs.declared.cell.Cell.TheVariants.{Blank, Bye, Game, Forfeit, Unfinished}
 use Rattle.trf16.specs.declared.limits.TheConstants.{MOST_PLAYERS}
-use Rattle.trf16_writer.proofs.WrittenNumbers.{number_of-decimal}
-use Rattle.trf16_writer.proofs.WrittenReport.{accepted, sized_is}
+use Rattle.trf16_laws.proofs.WrittenNumbers.{number_of-decimal}
+use Rattle.trf16_writer.proofs.AcceptedReport.{accepted, sized_is}
 use Rattle.report_laws.proofs.NewStarts.{has_player, player_known, new_lt, new_is, new_none, all_of}
 use Rattle.report_laws.proofs.RenumberedLine.{word_for, new_words, kind_same, words_named}
 use Rattle.report_laws.proofs.UnderMap.{IsMap, player_under}

@@ -10,7 +10,7 @@ use Rattle.trf16.specs.Prelude.{columns, words_of, number_of, is_word, is_kind, 
 use Rattle.trf16.specs.declared.cell.Bye.TheVariants.{Half, Full, Allocated, Zero}
 use Rattle.trf16.specs.declared.cell.Cell.{Cell}
 use Rattle.trf16.specs.declared.cell.Cell.TheVariants.{Blank, Bye, Game, Forfeit, Unfinished}
-use Rattle.trf16_writer.proofs.WrittenNumbers.{number_of-decimal}
+use Rattle.trf16_laws.proofs.WrittenNumbers.{number_of-decimal}
 use Rattle.report_laws.proofs.NewStarts.{has_player}
 use Rattle.report_laws.proofs.RenumberedLine.{word_for, new_words, kind_same, words_named}
 

@@ -18,13 +18,14 @@ use Rattle.trf16.specs.declared.fault.Fault.{Fault}
 use Rattle.trf16.specs.declared.fault.Fault.TheVariants.{Points}
 use Rattle.trf16.specs.declared.limits.TheConstants.{MOST_ROUNDS, MOST_BYTES}
 use Rattle.trf16_writer.proofs.BoardLemmas.{eq-self}
-use Rattle.trf16_writer.proofs.MeetingLemmas.{cell_of-fit}
-use Rattle.trf16_writer.proofs.PairedRound.{fits-none, fits-same, cells_fit-from, no_opponent, all-with, length-with}
+use Rattle.trf16_laws.proofs.MeetingLemmas.{cell_of-fit}
+use Rattle.trf16_laws.proofs.PairedRound.{fits-none, fits-same, cells_fit-from, no_opponent, all-with, length-with}
 use Rattle.trf16.proofs.StepLemmas.{then_ok}
-use Rattle.trf16_writer.proofs.WrittenCells.{is_sound}
-use Rattle.trf16_writer.proofs.WrittenFields.{all_cut, length_cut, without_last-twice}
-use Rattle.trf16_writer.proofs.WrittenReport.{IsLaidOut, IsLaidOutOf, Turns, known-turned, are_all_sound, were_sound, accepted, laid_again, sized_is, round_trip}
-use Rattle.trf16_writer.proofs.WrittenText.{are_utf8, no_mark, without_marks-no_mark, lines-inside, utf8_lines}
+use Rattle.trf16_laws.proofs.WrittenCells.{is_sound}
+use Rattle.trf16_laws.proofs.WrittenFields.{all_cut, length_cut, without_last-twice}
+use Rattle.trf16_writer.proofs.AcceptedReport.{IsLaidOut, IsLaidOutOf, accepted, sized_is}
+use Rattle.trf16_laws.proofs.WrittenReport.{Turns, known-turned, are_all_sound, were_sound, laid_again, round_trip}
+use Rattle.trf16_laws.proofs.WrittenText.{are_utf8, no_mark, without_marks-no_mark, lines-inside, utf8_lines}
 use Rattle.report_laws.proofs.CellLemmas.{StartAlike}
 use Rattle.report_laws.proofs.FieldLemmas.{cells-alike, points-alike}
 use Rattle.report_laws.proofs.CellsBack.{back-there, start-back, ends-back}

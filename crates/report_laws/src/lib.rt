@@ -1,11 +1,13 @@
-//! Laws on the present players of a report, on the report as it stood before a round, on the boards of a round, and on
-//! the report with new start ranks: what holds of the definitions, beyond what one call promises.
+//! Laws on the present players of a report, on the report as it stood before a round, on the boards of a round, on the
+//! report with new start ranks, and on what looks like a mistake in a report: what holds of the definitions, beyond
+//! what one call promises.
 //!
 //! Each law is a function with an empty body, and its contract is the law. No other crate uses them. They tie the
 //! definitions of `trf16` on earlier rounds to those of the crates above it, which `trf16` itself cannot name. Those on
-//! players and on start ranks stand here so that nothing waits for their proofs.
+//! players, on start ranks and on mistakes stand here so that nothing waits for their proofs.
 #![tactic(auto)]
 
+pub mod notes;
 pub mod paired;
 pub mod players;
 pub mod renumbered;

@@ -5,7 +5,7 @@ ghost use Rattle.trf16.specs.declared.cell.Colour.{Colour};
 ghost use Rattle.trf16.specs.declared.limits.TheConstants.{MOST_ROUNDS};
 ghost use Rattle.dutch_player.specs.Prelude.{Facts, facts_of};
 ghost use Rattle.dutch_pair.specs.Prelude.{Pairing, boards, round};
-ghost use Rattle.played_boards.specs.Prelude.{EachOnOne, boards_of};
+ghost use Rattle.tables.specs.Prelude.{EachOnOne, boards_of};
 
 /// In an accepted report each two players who name each other in a round stand on exactly one board of it, whoever has
 /// the pairing-allocated bye stands on exactly one, and nobody else stands on any.

@@ -1,10 +1,10 @@
 // Laws of all standings.
 ghost use Rattle.std.specs.Prelude.{◌≡◌, true, is_some, List};
 ghost use Rattle.trf16.specs.Prelude.{Sheet};
-ghost use Rattle.tiebreak.specs.declared.key.Key.{Key};
-ghost use Rattle.tiebreak.specs.declared.key.Key.TheVariants.{Direct};
-ghost use Rattle.tiebreak.specs.Keys.{RowFacts, is_level, value_of};
-ghost use Rattle.tiebreak.specs.Laws.{HasEachOnce, HasEachKey};
+ghost use Rattle.tables.specs.declared.key.Key.{Key};
+ghost use Rattle.tables.specs.declared.key.Key.TheVariants.{Direct};
+ghost use Rattle.tables.specs.Keys.{RowFacts, is_level, value_of};
+ghost use Rattle.tables.specs.Laws.{HasEachOnce, HasEachKey};
 
 /// The rows are those of all players, each once.
 pub fn each_player_has_one_row()

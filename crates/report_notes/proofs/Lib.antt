@@ -1,4 +1,1 @@
 pub mod RoundLemmas
-mod AloneLemmas
-mod PairedRounds
-mod NotedResults

@@ -8,4 +8,3 @@ pub mod Notes
 pub mod NoteOf
 pub mod Places
 pub mod RefusalNotes
-pub mod Laws

@@ -9,7 +9,6 @@ use Rattle.report_notes.specs.Noted.{Noted, NoPlayer, PlayedLast, UnknownKind, B
 use Rattle.report_notes.specs.PlayerRounds.{of_rounds_behind, round_notes}
 use Rattle.report_notes.specs.Ratings.{rated_above}
 use Rattle.report_notes.specs.Rounds.{report_rounds_notes, total_notes}
-use Rattle.report_notes.specs.declared.note.RoundNote.{RoundNote}
 use Rattle.report_notes.specs.declared.ratings.RatedAbove.{RatedAbove}
 
 -- a kind is known: it is read, it refuses a command, or it is one of TRF16's that are carried

@@ -1,5 +1,5 @@
 -- Ratings, and a late entry's rating that stands above that of a player with a smaller start rank.
-use Rattle.std.specs.Prelude.{ℕ, Bool, false, ◌&&◌, ◌==◌, nat_lt, if◌then◌else◌, List, length, map, filter, min, Option, None, option_map, option_and_then}
+use Rattle.std.specs.Prelude.{ℕ, Bool, false, ◌&&◌, ◌==◌, nat_lt, if◌then◌else◌, length, map, filter, min, Option, None, option_map, option_and_then}
 use Rattle.std.specs.List.{reduce}
 use Rattle.std.specs.Option.{option_map_or}
 use Rattle.trf16.specs.Prelude.{text, columns, words, number_in, positive, Entry, Sheet, rounds_played}

@@ -1,5 +1,5 @@
 -- What of the rounds of a report looks like a mistake, whoever plays in them.
-use Rattle.std.specs.Prelude.{ℕ, Bool, true, false, not, nat_lt, List, [], ◌∷◌, ◌++◌, filter, length, Option, option_map, is_some}
+use Rattle.std.specs.Prelude.{ℕ, Bool, not, nat_lt, List, [], ◌∷◌, filter, length, Option, option_map, is_some}
 use Rattle.std.specs.Bool.{then_some}
 use Rattle.std.specs.List.{list_any}
 use Rattle.trf16.specs.Prelude.{Entry, Sheet, cell_at, opponent_in_cell}

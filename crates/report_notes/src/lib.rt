@@ -19,7 +19,6 @@ mod fields;
 mod first_kind;
 mod games;
 mod kinds;
-pub mod laws;
 mod line;
 mod names;
 mod note;
@@ -40,8 +39,7 @@ pub use first_kind::first_kind_note;
 pub use note::{Note, RoundNote};
 pub use place::Place;
 pub use refusal::{
-    Columns, Sums, are_lines_read, columns_of, has_characters, held, line_alone_has_bytes, line_in,
-    line_of, sums_of,
+    Columns, Sums, are_lines_read, columns_of, has_characters, held, line_in, line_of, sums_of,
 };
 pub use two_cells::{cell_held, opponent_held};
 pub use walk::next_note;

@@ -1,5 +1,5 @@
 // The start ranks that a line `XXZ` or `XXP` names.
-ghost use Rattle.std.specs.Prelude.{◌≡◌, ◌∷◌, ◌<◌, [], MatchOption, IfSome, length};
+ghost use Rattle.std.specs.Prelude.{◌≡◌, ◌∷◌, ◌<◌, [], MatchOption};
 ghost use Rattle.trf16.specs.Prelude.{words};
 ghost use Rattle.report_notes.specs.Notes.{absent_notes, are_all, names_one, strangers};
 ghost use Rattle.report_notes.specs.NoteOf.{noted};

@@ -1,13 +1,11 @@
 // What stands where a report is refused: what the columns hold that a refusal is about, and the sums that a points
 // field was compared with.
-ghost use Rattle.std.specs.Prelude.{◌≡◌, ℕ, ◌≤◌, List, ◌∷◌, [], Err, not, true, false};
-ghost use Rattle.std.specs.List.{list_all};
+ghost use Rattle.std.specs.Prelude.{◌≡◌, ◌≤◌, Err};
 ghost use Rattle.std.specs.Str.{is_utf8};
-ghost use Rattle.trf16.specs.Prelude.{columns, ends_line, lines, text, without_marks, entry_of};
+ghost use Rattle.trf16.specs.Prelude.{columns, text, without_marks, entry_of};
 ghost use Rattle.trf16.specs.declared.limits.TheConstants.{LAST_COLUMN};
-ghost use Rattle.report_notes.specs.RefusalNotes.{alone_in_bytes, are_lines_read, columns_around, columns_of, held};
-ghost use Rattle.report_notes.specs.RefusalNotes.{number_columns};
-ghost use Rattle.report_notes.specs.RefusalNotes.{line_in, line_of, sums_among, sums_of};
+ghost use Rattle.report_notes.specs.RefusalNotes.{are_lines_read, columns_around, columns_of, held, line_in, line_of};
+ghost use Rattle.report_notes.specs.RefusalNotes.{number_columns, sums_among, sums_of};
 
 use crate::fields::start_in;
 use std::str;
@@ -187,11 +185,3 @@ pub fn sums_of(report: &Report<'_>, start: u16) -> Option<Sums>
 {
     player_sums(report, report.player(start)?)
 }
-
-/// A line alone, as the text that shows whether the line fits in bytes: it is not read as UTF-8, so its columns are
-/// bytes, and its lines are that line and one of a single byte, which is of no kind.
-pub fn line_alone_has_bytes()
-    ensures columns { (line : List ℕ) → is_utf8 (without_marks (alone_in_bytes line)) ≡ false }
-    ensures lines { (line : List ℕ) → list_all (λ b. not (ends_line b)) line ≡ true
-        → lines (alone_in_bytes line) ≡ line ∷ (0xFF ∷ []) ∷ [] }
-{}

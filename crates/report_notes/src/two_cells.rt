@@ -1,6 +1,6 @@
 // The cells of two players in a round, as a refused text holds them.
 ghost use Rattle.std.specs.Prelude.{◌≡◌, ◌≤◌, ◌&&◌, ◌==◌};
-ghost use Rattle.trf16.specs.Prelude.{columns, is_player, lines, without_marks};
+ghost use Rattle.trf16.specs.Prelude.{columns, is_player, lines};
 ghost use Rattle.trf16.specs.declared.limits.TheConstants.{MOST_ROUNDS};
 ghost use Rattle.report_notes.specs.Games.{start_in};
 ghost use Rattle.report_notes.specs.RefusalNotes.{cell_held, line_with, opponent_held, player_columns};

@@ -6,8 +6,8 @@ use Rattle.std.proofs.lemmas.Bool.{and_from, and_parts, and_right, not-false, no
 use Rattle.std.proofs.lemmas.Bool.Decides.{nat_tests}
 use Rattle.std.proofs.lemmas.List.Folds.{list_any-append}
 use Rattle.requests.specs.Prelude.{with_key, with_name, are_different, if_listed, is_same, key_named, keys_in, keys_named, names}
-use Rattle.tiebreak.specs.declared.key.Key.{Key}
-use Rattle.tiebreak.specs.declared.key.Key.TheVariants.{Direct, Buchholz, SonnebornBerger}
+use Rattle.tables.specs.declared.key.Key.{Key}
+use Rattle.tables.specs.declared.key.Key.TheVariants.{Direct, Buchholz, SonnebornBerger}
 
 -- keys and those that names stand for behind them, one by one
 unfoldable pub keys_onto : List Key → List (List ℕ) → Option (List Key)

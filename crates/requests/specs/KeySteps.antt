@@ -3,7 +3,7 @@ use Rattle.std.specs.Prelude.{ℕ, not, ◌||◌, nat_lt, if◌then◌else◌, L
 use Rattle.std.specs.List.{list_any}
 use Rattle.std.specs.Option.{option_map_or}
 use Rattle.requests.specs.Keys.{is_same, key_named, names}
-use Rattle.tiebreak.specs.declared.key.Key.{Key}
+use Rattle.tables.specs.declared.key.Key.{Key}
 
 -- keys and one more behind them, which is none of them; there are three at most
 abbrev pub with_key : List Key → Key → Option (List Key)

@@ -2,8 +2,8 @@
 use Rattle.std.specs.Prelude.{ℕ, Bool, true, false, not, ◌&&◌, ◌==◌, nat_le, if◌then◌else◌, List, [], ◌∷◌, length, Option, Some, None, option_and_then, option_map, codes}
 use Rattle.std.specs.List.{list_any, slice_split}
 use Rattle.std.specs.Str.{bytes_eq}
-use Rattle.tiebreak.specs.declared.key.Key.{Key}
-use Rattle.tiebreak.specs.declared.key.Key.TheVariants.{Direct, Buchholz, SonnebornBerger}
+use Rattle.tables.specs.declared.key.Key.{Key}
+use Rattle.tables.specs.declared.key.Key.TheVariants.{Direct, Buchholz, SonnebornBerger}
 
 -- whether two keys are one
 abbrev pub is_same : Key → Key → Bool

@@ -9,7 +9,7 @@ use Rattle.clap.specs.declared.parser.matches.ArgMatches.{ArgMatches}
 use Rattle.trf16.specs.declared.cell.Colour.{Colour}
 use Rattle.trf16.specs.declared.cell.Colour.TheVariants.{White, Black}
 use Rattle.requests.specs.Keys.{keys_in, usual_keys}
-use Rattle.tiebreak.specs.declared.key.Key.{Key}
+use Rattle.tables.specs.declared.key.Key.{Key}
 use Rattle.requests.specs.declared.options.WordFault.{WordFault}
 use Rattle.requests.specs.declared.options.WordFault.TheVariants.{BadColour, BadKeys, BadCursor, NamesAndReport, InsteadAlone}
 use Rattle.requests.specs.declared.options.BoardsOptions.{BoardsOptions}

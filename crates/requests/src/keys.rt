@@ -5,7 +5,7 @@ ghost use Rattle.requests.specs.KeySteps.{names_left, with_key, with_name};
 ghost use Rattle.requests.specs.Keys.{is_same, key_named, keys_in, names, usual_keys};
 
 use std::marker::Model;
-use tiebreak::Key;
+use tables::Key;
 
 // How many keys there are.
 const MOST: usize = 3;
@@ -19,7 +19,7 @@ pub struct Keys {
 
 impl Model for Keys {
     ghost use Rattle.std.specs.Prelude.{◌≤◌, List, take};
-    ghost use Rattle.tiebreak.specs.declared.key.Key.{Key};
+    ghost use Rattle.tables.specs.declared.key.Key.{Key};
 
     ghost Value = { List Key };
 

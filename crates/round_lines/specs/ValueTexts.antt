@@ -1,5 +1,5 @@
 -- The values of a quality's items as texts, beside those of another one (C.04.3 C.6 to C.19).
-use Rattle.std.specs.Prelude.{ℕ, ◌==◌, if◌then◌else◌, List, [], ◌∷◌, ◌++◌, Option, Some, None, codes}
+use Rattle.std.specs.Prelude.{ℕ, ◌==◌, if◌then◌else◌, List, ◌++◌, Option, Some, None, codes}
 use Rattle.std.specs.Fmt.{decimal}
 use Rattle.dutch_order.specs.Prelude.{Arrangement, cursor_text}
 use Rattle.dutch_bracket.specs.Prelude.{Quality, first_difference}

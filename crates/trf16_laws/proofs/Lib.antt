@@ -1,3 +1,12 @@
+pub mod MeetingLemmas
+pub mod WrittenNumbers
+pub mod WrittenCells
+pub mod WrittenRounds
+pub mod WrittenText
+pub mod WrittenFields
+pub mod WrittenPlayers
+pub mod WrittenReport
+pub mod PairedRound
 pub mod Characters
 pub mod SummedReport
 pub mod PointForms

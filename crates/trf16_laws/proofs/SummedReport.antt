@@ -13,9 +13,10 @@ use Rattle.trf16.specs.declared.cell.Cell.{Cell}
 use Rattle.trf16.specs.declared.fault.Fault.{Fault}
 use Rattle.trf16.specs.declared.fault.Fault.TheVariants.{Points}
 use Rattle.trf16_writer.proofs.BoardLemmas.{eq-self}
-use Rattle.trf16_writer.proofs.PairedRound.{fits-same}
+use Rattle.trf16_laws.proofs.PairedRound.{fits-same}
 use Rattle.trf16.proofs.StepLemmas.{then_ok}
-use Rattle.trf16_writer.proofs.WrittenReport.{IsLaidOutOf, Turns, laid_again, rule_met}
+use Rattle.trf16_writer.proofs.AcceptedReport.{IsLaidOutOf, rule_met}
+use Rattle.trf16_laws.proofs.WrittenReport.{Turns, laid_again}
 use Rattle.trf16.specs.declared.limits.TheConstants.{MOST_BYTES}
 
 abbrev fits : Result (Unit {0}) Fault

@@ -1,14 +1,8 @@
-pub mod MeetingLemmas
-pub mod WrittenNumbers
-pub mod WrittenCells
-pub mod WrittenRounds
-pub mod WrittenText
-pub mod WrittenFields
-pub mod WrittenPlayers
-pub mod WrittenReport
+pub mod AcceptedReport
+pub mod ReadStarts
 pub mod WritingLemmas
 pub mod RoundLemmas
-pub mod PairedRound
 pub mod BoardLemmas
 pub mod StartRanks
 pub mod BeforeRoundLemmas
+pub mod TableLemmas

@@ -1,6 +1,6 @@
 // Pairing the next round of a report: who meets whom in it, and the points so far.
-ghost use Rattle.std.specs.Prelude.{◌≡◌, ◌+◌, ◌<◌, ◌≤◌, ◌&&◌, ◌↔◌, ◌∷◌, [], nat_eq, IfOk, IfSome, IsTrue, length, map};
-ghost use Rattle.std.specs.Prelude.{option_copied, option_map, sum_by, take};
+ghost use Rattle.std.specs.Prelude.{◌≡◌, ◌+◌, ◌<◌, ◌≤◌, ◌&&◌, ◌↔◌, ◌∷◌, [], nat_eq, IfOk, IsTrue, length};
+ghost use Rattle.std.specs.Prelude.{option_map, sum_by, take};
 ghost use Rattle.std.specs.List.{list_any};
 ghost use Rattle.trf16.specs.Sheet.{entry_of, half_points, rounds_played};
 ghost use Rattle.trf16_writer.specs.Steps.{is_free, are_free};

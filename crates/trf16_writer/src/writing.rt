@@ -24,6 +24,7 @@ fn put_blanks<W: Sink>(w: &mut W, count: usize) -> Result<(), Failed>
 }
 
 // A text at the right of four columns.
+#[tactic(auto, using(trf16::proofs::OutputLemmas::put_both, trf16::proofs::OutputLemmas::put_neither))]
 fn put_right<W: Sink>(w: &mut W, text: &[u8]) -> Result<(), Failed>
     ensures { Puts (right_in_four text.now) (use_of W.held W.failures w.old w.new) result }
 {
@@ -171,6 +172,7 @@ fn put_player<W: Sink>(w: &mut W, utf8: bool, player: &Player<'_>) -> Result<(),
 }
 
 // A line that is carried, with its end.
+#[tactic(auto, using(trf16::proofs::OutputLemmas::put_both, trf16::proofs::OutputLemmas::put_neither))]
 fn put_line<W: Sink>(w: &mut W, line: &[u8]) -> Result<(), Failed>
     ensures { Puts (line.now ++ (10 ∷ [])) (use_of W.held W.failures w.old w.new) result }
 {
@@ -180,7 +182,11 @@ fn put_line<W: Sink>(w: &mut W, line: &[u8]) -> Result<(), Failed>
 
 /// Puts the line of a player in TRF16's columns, with LF behind it; a column is a character if the report is UTF-8,
 /// otherwise a byte.
-pub fn put_player_line<W: Sink>(w: &mut W, utf8: bool, player: &Player<'_>) -> Result<(), Failed>
+pub(crate) fn put_player_line<W: Sink>(
+    w: &mut W,
+    utf8: bool,
+    player: &Player<'_>,
+) -> Result<(), Failed>
     ensures { Puts (player_text utf8 (entry_of player.now) ++ (10 ∷ [])) (use_of W.held W.failures w.old w.new) result }
 {
     put_player(w, utf8, player)?;

@@ -1,6 +1,6 @@
 use Rattle.std.proofs.Common.{string_bytes}
 use Rattle.replies.proofs.TableLemmas.{values_more}
-use Rattle.tiebreak.specs.declared.key.Key.TheVariants.{Direct}
+use Rattle.tables.specs.declared.key.Key.TheVariants.{Direct}
 use Rattle.replies.proofs.standings.put_values.Goals as goal
 
 pub loop-i-preserved : goal.loop-i-preserved

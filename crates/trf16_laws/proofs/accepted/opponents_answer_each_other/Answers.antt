@@ -1,4 +1,4 @@
-use Rattle.trf16_writer.proofs.MeetingLemmas.{answered}
+use Rattle.trf16_laws.proofs.MeetingLemmas.{answered}
 use Rattle.trf16_laws.proofs.accepted.opponents_answer_each_other.Goals as goal
 
 pub returns : goal.returns

@@ -1,4 +1,4 @@
-use Rattle.trf16_writer.proofs.MeetingLemmas.{have_points}
+use Rattle.trf16_laws.proofs.MeetingLemmas.{have_points}
 use Rattle.trf16_laws.proofs.accepted.points_are_sums.Goals as goal
 
 pub returns : goal.returns

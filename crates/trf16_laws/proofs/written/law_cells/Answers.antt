@@ -1,4 +1,4 @@
-use Rattle.trf16_writer.proofs.WrittenPlayers.{cell_size, cell_again}
+use Rattle.trf16_laws.proofs.WrittenPlayers.{cell_size, cell_again}
 use Rattle.trf16_laws.proofs.written.law_cells.Goals as goal
 
 pub returns : goal.returns

@@ -1,4 +1,4 @@
-use Rattle.trf16_writer.proofs.WrittenText.{lines-line}
+use Rattle.trf16_laws.proofs.WrittenText.{lines-line}
 use Rattle.trf16_laws.proofs.written.law_lines.Goals as goal
 
 pub returns : goal.returns

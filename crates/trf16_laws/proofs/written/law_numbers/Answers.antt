@@ -1,4 +1,4 @@
-use Rattle.trf16_writer.proofs.WrittenNumbers.{numbers}
+use Rattle.trf16_laws.proofs.WrittenNumbers.{numbers}
 use Rattle.trf16_laws.proofs.written.law_numbers.Goals as goal
 
 pub returns : goal.returns

@@ -1,4 +1,4 @@
-use Rattle.trf16_writer.proofs.WrittenNumbers.{points}
+use Rattle.trf16_laws.proofs.WrittenNumbers.{points}
 use Rattle.trf16_laws.proofs.written.law_points.Goals as goal
 
 pub returns : goal.returns

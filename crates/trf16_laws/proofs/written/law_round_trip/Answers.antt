@@ -1,4 +1,4 @@
-use Rattle.trf16_writer.proofs.WrittenReport.{round_trip}
+use Rattle.trf16_laws.proofs.WrittenReport.{round_trip}
 use Rattle.trf16_laws.proofs.written.law_round_trip.Goals as goal
 
 pub returns : goal.returns

@@ -1,4 +1,4 @@
-use Rattle.std.proofs.Common.{◌≡◌, ◌∙◌, ◌++◌, ap, map, sym}
+use Rattle.std.proofs.Common.{map, sym}
 use Rattle.report_notes.specs.Noted.{InRound}
 use Rattle.report_notes.specs.PlayerRounds.{round_notes}
 use Rattle.report_notes.proofs.RoundLemmas.{one_further}

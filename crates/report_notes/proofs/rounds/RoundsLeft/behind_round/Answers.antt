@@ -1,7 +1,5 @@
-use Rattle.std.proofs.Common.{◌≡◌, ◌∙◌, ◌++◌, ap, sym}
-use Rattle.std.specs.Prelude.{false, None}
-use Rattle.trf16.specs.Prelude.{rounds_played}
-use Rattle.report_notes.specs.Rounds.{report_round_notes, report_rounds_notes}
+use Rattle.std.proofs.Common.{sym}
+use Rattle.report_notes.specs.Rounds.{report_round_notes}
 use Rattle.report_notes.proofs.RoundLemmas.{one_further}
 use Rattle.report_notes.proofs.rounds.RoundsLeft.behind_round.Goals as goal
 

@@ -1,8 +1,0 @@
-use Rattle.std.proofs.Common.{◌≡◌, ◌++◌, map}
-use Rattle.trf16.specs.Prelude.{entry_of, renumbered_entry}
-use Rattle.renumbering.specs.Tables.{new_in}
-use Rattle.renumbering.proofs.player.renumbered_players.Given as goal
-
-abbrev pub invariant-loop-player : goal.invariant-loop-player
-invariant-loop-player l =
-    map entry_of l.players.items ++ map (renumbered_entry (new_in l.new)) (map entry_of l.player-iterator) ≡ map (renumbered_entry (new_in l.new)) l.report.players

@@ -1,5 +1,0 @@
-use Rattle.report_notes.proofs.NotedResults.{each_is_noted}
-use Rattle.report_notes.proofs.laws.each_round_without_result_is_noted.Goals as goal
-
-pub returns : goal.returns
-returns c = each_is_noted

@@ -1,0 +1,22 @@
+// The reports that have no standings.
+ghost use Rattle.std.specs.Prelude.{◌≡◌, ◌≢◌, IfErr};
+ghost use Rattle.tables.specs.declared.fault.TieFault.TheVariants.{OutOfMemory};
+ghost use Rattle.tables.specs.Standings.{judged};
+
+use crate::fault::TieFault;
+use trf16::{LineKind, Report};
+
+/// Refuses a game without a result, and other points for games.
+#[tactic(auto, unfolding(crate::specs::Standings::judged))]
+pub(crate) fn judged(report: &Report<'_>) -> Result<(), TieFault>
+    ensures value { result ≡ judged report.now }
+    ensures no_memory { IfErr result (λ fault. fault ≢ OutOfMemory) }
+{
+    if let Some((player, round)) = report.unfinished() {
+        return Err(TieFault::Unfinished { player, round });
+    }
+    if let Some(line) = report.unsupported(&[LineKind::Xxs]) {
+        return Err(TieFault::Unsupported { line });
+    }
+    Ok(())
+}

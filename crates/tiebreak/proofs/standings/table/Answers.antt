@@ -1,5 +1,0 @@
-use Rattle.tiebreak.proofs.OrderLemmas.{ranked_IsRanked}
-use Rattle.tiebreak.proofs.standings.table.Goals as goal
-
-pub invariant_of-result : goal.invariant_of-result
-invariant_of-result c = ranked_IsRanked c.in_ok-rows.rows.items c.in_ok-rows-2.rows.items c.in_ok-rows-2.ensures

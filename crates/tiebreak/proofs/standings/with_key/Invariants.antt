@@ -1,6 +1,0 @@
-use Rattle.std.proofs.Common.{◌≡◌, map, take}
-use Rattle.tiebreak.specs.Prelude.{value_of, with_value}
-use Rattle.tiebreak.proofs.standings.with_key.Given as goal
-
-abbrev pub invariant-loop-row : goal.invariant-loop-row
-invariant-loop-row l = l.longer.items ≡ map (λ row. with_value row (value_of l.report l.rows l.key row)) (take l.row-index l.rows)
