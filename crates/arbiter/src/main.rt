@@ -8,6 +8,7 @@ ghost use Rattle.std.specs.IoError.{error_kind};
 mod pipe;
 
 use command_line::{Status, run};
+use dutch_search::WithFloors;
 use pipe::{Noting, Silenced};
 use std::cell::Cell;
 use std::io::ErrorKind;
@@ -35,7 +36,7 @@ fn run_on(rt: &HostRuntime) -> io::Result<Status> {
     let is_gone = Cell::new(false);
     let mut out = Counted::new(Noting::new(rt.stdout(), &is_gone));
     let mut err = Counted::new(Silenced::new(rt.stderr(), &is_gone));
-    Ok(run(alloc, words.as_slice(), &mut reader, &mut out, &mut err))
+    Ok(run::<WithFloors, _, _, _>(alloc, words.as_slice(), &mut reader, &mut out, &mut err))
 }
 
 // The words could not be had: they are no text, or memory was refused.

@@ -3,6 +3,7 @@ ghost use Rattle.std.specs.Prelude.{◌≡◌, ◌<◌, ◌↔◌, IsTrue, IfSom
 
 use crate::folder::Folder;
 use command_line::{Status, run};
+use dutch_search::WithFloors;
 use std::alloc::{AllocError, Global};
 use std::io;
 use trf16::Counted;
@@ -50,7 +51,7 @@ impl Case {
         let mut reader = Counted::new(self.report.as_slice());
         let mut output = Counted::new(Vec::new(alloc));
         let mut complaint = Counted::new(Vec::new(alloc));
-        let status = run(
+        let status = run::<WithFloors, _, _, _>(
             alloc,
             words.as_slice(),
             &mut reader,

@@ -8,10 +8,10 @@ ghost use Rattle.command_line.specs.Known.{CanBeListed};
 ghost use Rattle.round_lines.specs.Listings.{ending_text};
 ghost use Rattle.replies.specs.Prelude.{answer_of, not_of_bracket, not_reached, seen_before};
 
+use dutch_choice::finder::Finder;
 use dutch_order::{Budget, Candidates, Cursor, Rule, Shape};
 use dutch_pair::{BracketAt, Reached, bracket_at};
 use dutch_player::{Field, FieldFault};
-use dutch_search::WithFloors;
 use replies::refusal::{cannot_be_paired, no_pairing, undecided};
 use replies::views::{not_seen, read_before};
 use replies::{Reply, Status, texts};
@@ -22,7 +22,7 @@ use std::alloc::{AllocError, Global};
 use trf16::Report;
 
 /// What `candidates` says of the bytes of a report in which the pairing-allocated bye gives `bye` half points.
-pub fn candidates(
+pub fn candidates<F: Finder>(
     alloc: Global,
     options: &CandidatesOptions<'_>,
     bytes: &[u8],
@@ -33,13 +33,13 @@ pub fn candidates(
         (seen_before options.now.round (verdict bytes.now bye)) (answer_of reply)) }
 {
     match read_before(alloc, bytes, bye, options.round)? {
-        Ok(report) => of_report(alloc, options, &report),
+        Ok(report) => of_report::<F>(alloc, options, &report),
         Err(why) => not_seen(alloc, why),
     }
 }
 
 // The same of an accepted report.
-fn of_report(
+fn of_report<F: Finder>(
     alloc: Global,
     options: &CandidatesOptions<'_>,
     report: &Report<'_>,
@@ -47,7 +47,7 @@ fn of_report(
     ensures { IfOk result (λ reply. AnswersCandidates options.now (Ok report.now) (answer_of reply)) }
 {
     match Field::new(alloc, report, options.rounds, options.initial) {
-        Ok(field) => of_field(alloc, options, &field),
+        Ok(field) => of_field::<F>(alloc, options, &field),
         Err(FieldFault::OutOfMemory) => Err(AllocError),
         Err(fault) => cannot_be_paired(alloc, fault),
     }
@@ -55,14 +55,14 @@ fn of_report(
 
 // The same of those whom the next round is paired from.
 #[tactic(auto, using(crate::proofs::CandidateLemmas::told, crate::proofs::CandidateLemmas::can_be_listed))]
-fn of_field(
+fn of_field<F: Finder>(
     alloc: Global,
     options: &CandidatesOptions<'_>,
     field: &Field,
 ) -> Result<Reply, AllocError>
     ensures { IfOk result (λ reply. InField options.now (Ok field.now) (answer_of reply)) }
 {
-    let found = bracket_at::<WithFloors>(alloc, field, options.steps, options.bracket)?;
+    let found = bracket_at::<F>(alloc, field, options.steps, options.bracket)?;
     tell(alloc, options, field, &found)
 }
 

@@ -10,9 +10,9 @@ ghost use Rattle.replies.specs.Prelude.{answer_of, question_fault, seen_before};
 
 use crate::instead::{AskedInSteps, Paired, instead};
 use crate::not_paired::{no_pairing_because, undecided};
+use dutch_choice::finder::Finder;
 use dutch_pair::{AllStages, stages};
 use dutch_player::{Field, FieldFault};
-use dutch_search::WithFloors;
 use replies::refusal::{cannot_be_asked, cannot_be_paired};
 use replies::views::{not_seen, read_before};
 use replies::{Reply, Status, question_fault};
@@ -25,7 +25,7 @@ use std::alloc::{AllocError, Global};
 use trf16::Report;
 
 /// What `explain` says of the bytes of a report in which the pairing-allocated bye gives `bye` half points.
-pub fn explain(
+pub fn explain<F: Finder>(
     alloc: Global,
     options: ExplainOptions,
     bytes: &[u8],
@@ -36,13 +36,13 @@ pub fn explain(
         (λ reply. AnswersExplain options (seen_before options.round (verdict bytes.now bye)) (answer_of reply)) }
 {
     match read_before(alloc, bytes, bye, options.round)? {
-        Ok(report) => of_report(alloc, options, &report),
+        Ok(report) => of_report::<F>(alloc, options, &report),
         Err(why) => not_seen(alloc, why),
     }
 }
 
 // The same of an accepted report.
-fn of_report(
+fn of_report<F: Finder>(
     alloc: Global,
     options: ExplainOptions,
     report: &Report<'_>,
@@ -56,7 +56,7 @@ fn of_report(
                 field: &field,
                 wording: options.wording,
             };
-            of_field(alloc, options, &telling)
+            of_field::<F>(alloc, options, &telling)
         }
         Err(FieldFault::OutOfMemory) => Err(AllocError),
         Err(fault) => cannot_be_paired(alloc, fault),
@@ -64,7 +64,7 @@ fn of_report(
 }
 
 // The same of those whom the next round is paired from.
-fn of_field(
+fn of_field<F: Finder>(
     alloc: Global,
     options: ExplainOptions,
     telling: &Telling<'_>,
@@ -74,26 +74,26 @@ fn of_field(
 {
     match question_fault(telling.report, options.question) {
         Some(fault) => cannot_be_asked(alloc, fault),
-        None => of_round(alloc, options, telling),
+        None => of_round::<F>(alloc, options, telling),
     }
 }
 
 // The same if nothing is wrong with the question.
-fn of_round(
+fn of_round<F: Finder>(
     alloc: Global,
     options: ExplainOptions,
     telling: &Telling<'_>,
 ) -> Result<Reply, AllocError>
     ensures { IfOk result (λ reply. IsExplained options telling.now (answer_of reply)) }
 {
-    match stages::<WithFloors>(alloc, telling.field, options.steps)? {
+    match stages::<F>(alloc, telling.field, options.steps)? {
         AllStages::Paired { stages, bye } => {
             let round = Paired {
                 telling,
                 stages: &stages,
                 bye: &bye,
             };
-            tell_paired(alloc, options, &round)
+            tell_paired::<F>(alloc, options, &round)
         }
         AllStages::NoPairing => {
             no_pairing_because(alloc, telling, options.question, options.steps)
@@ -103,7 +103,7 @@ fn of_round(
 }
 
 // The same of a round that is paired.
-fn tell_paired(
+fn tell_paired<F: Finder>(
     alloc: Global,
     options: ExplainOptions,
     round: &Paired<'_>,
@@ -123,14 +123,14 @@ fn tell_paired(
         Some(number) => {
             let asked = Asked { player, number };
             let steps = options.steps;
-            with_instead(alloc, text, round, AskedInSteps { asked, steps })
+            with_instead::<F>(alloc, text, round, AskedInSteps { asked, steps })
         }
         None => Ok(Reply::bytes(Status::Done, text.into_bytes())),
     }
 }
 
 // A text, and behind it why the player does not meet another one.
-fn with_instead(
+fn with_instead<F: Finder>(
     alloc: Global,
     text: Page,
     round: &Paired<'_>,
@@ -141,7 +141,7 @@ fn with_instead(
     ensures { IfOk result (λ reply. IsToldBehind round.now asking.steps asking.asked.player asking.asked.number
         (answer_of reply)) }
 {
-    instead(alloc, round, asking)?.behind(text.into_bytes())
+    instead::<F>(alloc, round, asking)?.behind(text.into_bytes())
 }
 
 // Puts what is told of a player: their line and their brackets, or that they are absent.

@@ -13,9 +13,9 @@ ghost use Rattle.round_lines.specs.Obstacles.{obstacle_text};
 ghost use Rattle.replies.specs.Prelude.{answer_of, done};
 
 use crate::not_paired::undecided;
+use dutch_choice::finder::Finder;
 use dutch_pair::{Instead, Stage, Wish, best_instead};
 use dutch_player::Field;
-use dutch_search::WithFloors;
 use replies::{Reply, Status};
 use round_lines::page::Page;
 use round_lines::telling::Telling;
@@ -64,7 +64,11 @@ pub struct AskedInSteps {
 ///
 /// # Errors
 /// Memory was refused.
-pub fn instead(alloc: Global, round: &Paired<'_>, asking: AskedInSteps) -> Result<Reply, AllocError>
+pub fn instead<F: Finder>(
+    alloc: Global,
+    round: &Paired<'_>,
+    asking: AskedInSteps,
+) -> Result<Reply, AllocError>
     requires { AllByRecursion (IsStage round.now.telling.facts) round.now.stages }
     ensures { IfOk result (λ reply. AnswersInstead round.now asking.asked.player asking.asked.number
         asking.steps (answer_of reply)) }
@@ -76,11 +80,11 @@ pub fn instead(alloc: Global, round: &Paired<'_>, asking: AskedInSteps) -> Resul
     let Some(rival) = rival_of(telling.field, asked.number) else {
         return stands_against(alloc, telling, asked, Obstacle::Absent);
     };
-    of_meeting(alloc, round, Meeting { player, rival }, asking)
+    of_meeting::<F>(alloc, round, Meeting { player, rival }, asking)
 }
 
 // The same where both are present.
-fn of_meeting(
+fn of_meeting<F: Finder>(
     alloc: Global,
     round: &Paired<'_>,
     meeting: Meeting,
@@ -96,7 +100,7 @@ fn of_meeting(
         return stands_against(alloc, telling, asking.asked, obstacle);
     }
     match decided_in(telling.field, round.stages, meeting) {
-        Some(decided) => by_wish(alloc, telling, decided, asking),
+        Some(decided) => by_wish::<F>(alloc, telling, decided, asking),
         None => Ok(Reply::made(Status::Done, String::new(alloc))),
     }
 }
@@ -236,7 +240,7 @@ fn decided_in<'a>(field: &Field, stages: &'a [Stage], meeting: Meeting) -> Optio
 
 // What is answered to a wish in a bracket: that what is chosen there grants it, or what a search for a candidate that
 // does finds.
-fn by_wish(
+fn by_wish<F: Finder>(
     alloc: Global,
     telling: &Telling<'_>,
     decided: (&Stage, Wish),
@@ -252,12 +256,12 @@ fn by_wish(
         put_granted(&mut text, telling, asking.asked)?;
         return Ok(Reply::bytes(Status::Done, text.into_bytes()));
     }
-    by_search(alloc, telling, decided, asking)
+    by_search::<F>(alloc, telling, decided, asking)
 }
 
 // What a search for a candidate that grants a wish in a bracket finds.
 #[tactic(auto, using(crate::proofs::InsteadLemmas::searched))]
-fn by_search(
+fn by_search<F: Finder>(
     alloc: Global,
     telling: &Telling<'_>,
     decided: (&Stage, Wish),
@@ -268,7 +272,7 @@ fn by_search(
         decided.entry.0.now decided.entry.1 (answer_of reply)) }
 {
     let (stage, wish) = decided;
-    let found = best_instead::<WithFloors>(alloc, telling.field, stage, wish, asking.steps)?;
+    let found = best_instead::<F>(alloc, telling.field, stage, wish, asking.steps)?;
     tell(alloc, telling, asking.asked, (stage, &found))
 }
 

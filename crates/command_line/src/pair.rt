@@ -7,11 +7,11 @@ ghost use Rattle.command_line.specs.PairAnswers.{board_text, boards_text};
 ghost use Rattle.command_line.specs.Known.{CanBeTold, HasFewRounds};
 ghost use Rattle.replies.specs.Prelude.{answer_of, done, seen_before};
 
+use dutch_choice::finder::Finder;
 use dutch_pair::boards::Board;
 use dutch_pair::laws::boards_can_be_the_next_round;
 use dutch_pair::{Outcome, pair_round};
 use dutch_player::{Field, FieldFault};
-use dutch_search::WithFloors;
 use replies::format::rewritten;
 use replies::refusal::{cannot_be_paired, no_pairing, undecided};
 use replies::views::{not_seen, read_before};
@@ -22,7 +22,7 @@ use trf16::Report;
 use trf16_writer::with_round;
 
 /// What `pair` says of the bytes of a report in which the pairing-allocated bye gives `bye` half points.
-pub fn pair(
+pub fn pair<F: Finder>(
     alloc: Global,
     options: PairOptions,
     bytes: &[u8],
@@ -34,19 +34,23 @@ pub fn pair(
         (λ reply. AnswersPair options (seen_before options.round (verdict bytes.now bye)) (answer_of reply)) }
 {
     match read_before(alloc, bytes, bye, options.round)? {
-        Ok(report) => of_report(alloc, options, &report),
+        Ok(report) => of_report::<F>(alloc, options, &report),
         Err(why) => not_seen(alloc, why),
     }
 }
 
 // The same of an accepted report, or of one as it stood before a round.
-fn of_report(alloc: Global, options: PairOptions, report: &Report<'_>) -> Result<Reply, AllocError>
+fn of_report<F: Finder>(
+    alloc: Global,
+    options: PairOptions,
+    report: &Report<'_>,
+) -> Result<Reply, AllocError>
     requires few { HasFewRounds options }
     requires own { HasOwnStarts report.now }
     ensures { IfOk result (λ reply. AnswersPair options (Ok report.now) (answer_of reply)) }
 {
     match Field::new(alloc, report, options.rounds, options.initial) {
-        Ok(field) => of_field(alloc, options, report, &field),
+        Ok(field) => of_field::<F>(alloc, options, report, &field),
         Err(FieldFault::OutOfMemory) => Err(AllocError),
         Err(fault) => cannot_be_paired(alloc, fault),
     }
@@ -54,7 +58,7 @@ fn of_report(alloc: Global, options: PairOptions, report: &Report<'_>) -> Result
 
 // The same of those whom the next round is paired from.
 #[tactic(auto, using(crate::proofs::PairLemmas::can_be_told))]
-fn of_field(
+fn of_field<F: Finder>(
     alloc: Global,
     options: PairOptions,
     report: &Report<'_>,
@@ -67,7 +71,7 @@ fn of_field(
 {
     // So `tell` may put them into the report.
     boards_can_be_the_next_round();
-    let outcome = pair_round::<WithFloors>(alloc, field, options.steps)?;
+    let outcome = pair_round::<F>(alloc, field, options.steps)?;
     tell(alloc, options, report, &outcome)
 }
 

@@ -11,6 +11,7 @@ use crate::boards::boards;
 use crate::candidates::candidates;
 use crate::explain::explain;
 use crate::pair::pair;
+use dutch_choice::finder::Finder;
 use replies::check::check;
 use replies::format::format;
 use replies::standings::standings;
@@ -23,7 +24,9 @@ use trf16::{Sink, Source};
 /// gives, and answers with the status of the program's end.
 ///
 /// The words are read before the source. If they are refused or ask for help, nothing is read.
-pub fn run<'a, R: Source, O: Sink, E: Sink>(
+///
+/// A round is paired with the help of a finder; the answers are the same by any.
+pub fn run<'a, F: Finder, R: Source, O: Sink, E: Sink>(
     alloc: Global,
     words: &'a [&'a str],
     reader: &mut R,
@@ -35,29 +38,29 @@ pub fn run<'a, R: Source, O: Sink, E: Sink>(
         (use_of O.held O.failures out.old out.new)
         (use_of E.held E.failures err.old err.new) result }
 {
-    reply(alloc, words, reader).write(out, err)
+    reply::<F, R>(alloc, words, reader).write(out, err)
 }
 
 // What is answered to the words, as they are meant, and to what the source gives.
-fn reply<'a, R: Source>(alloc: Global, words: &'a [&'a str], reader: &mut R) -> Reply
+fn reply<'a, F: Finder, R: Source>(alloc: Global, words: &'a [&'a str], reader: &mut R) -> Reply
     ensures answers { IsAnswer (meant (map (λ word. word.now) words.now))
         (reading_of R.left R.failures R.calls reader.old reader.new) (answer_of result) }
     ensures bounded { R.calls reader.new ≤ R.calls reader.old + most_read }
 {
     match meant(alloc, words) {
-        Ok(all) => reply_to(alloc, all.as_slice(), reader),
+        Ok(all) => reply_to::<F, R>(alloc, all.as_slice(), reader),
         Err(AllocError) => out_of_memory(),
     }
 }
 
 // What is answered to the words and to what the source gives.
-fn reply_to<'a, R: Source>(alloc: Global, words: &'a [&'a str], reader: &mut R) -> Reply
+fn reply_to<'a, F: Finder, R: Source>(alloc: Global, words: &'a [&'a str], reader: &mut R) -> Reply
     ensures answers { IsAnswer (map (λ word. word.now) words.now)
         (reading_of R.left R.failures R.calls reader.old reader.new) (answer_of result) }
     ensures bounded { R.calls reader.new ≤ R.calls reader.old + most_read }
 {
     match read_words(alloc, words) {
-        Ok(Meaning::Command(task)) => reply_to_task(alloc, task, reader),
+        Ok(Meaning::Command(task)) => reply_to_task::<F, R>(alloc, task, reader),
         Ok(Meaning::Help(text)) => Reply::made(Status::Done, text),
         Ok(Meaning::Mistake(text)) => Reply::made(Status::BadWords, text),
         Ok(Meaning::Refused(fault)) => Reply::fixed(Status::BadWords, texts::bad_words(fault)),
@@ -67,7 +70,7 @@ fn reply_to<'a, R: Source>(alloc: Global, words: &'a [&'a str], reader: &mut R) 
 
 // What is answered to a task, over what the source gives.
 #[tactic(auto, using(crate::proofs::RunLemmas::answered))]
-fn reply_to_task<R: Source>(alloc: Global, task: Task<'_>, reader: &mut R) -> Reply
+fn reply_to_task<F: Finder, R: Source>(alloc: Global, task: Task<'_>, reader: &mut R) -> Reply
     requires rounds { CanBeAnswered task.request }
     requires worth { task.bye ≤ 2 }
     ensures replies { IsReplyTo task.entry
@@ -75,7 +78,7 @@ fn reply_to_task<R: Source>(alloc: Global, task: Task<'_>, reader: &mut R) -> Re
     ensures bounded { R.calls reader.new ≤ R.calls reader.old + most_read }
 {
     match read_input(alloc, reader) {
-        Ok(input) => match answer(alloc, task, input.as_slice()) {
+        Ok(input) => match answer::<F>(alloc, task, input.as_slice()) {
             Ok(reply) => reply,
             Err(AllocError) => out_of_memory(),
         },
@@ -85,7 +88,7 @@ fn reply_to_task<R: Source>(alloc: Global, task: Task<'_>, reader: &mut R) -> Re
 }
 
 // The answer of a command to the bytes of its input.
-fn answer(alloc: Global, task: Task<'_>, input: &[u8]) -> Result<Reply, AllocError>
+fn answer<F: Finder>(alloc: Global, task: Task<'_>, input: &[u8]) -> Result<Reply, AllocError>
     requires rounds { CanBeAnswered task.request }
     requires worth { task.bye ≤ 2 }
     ensures { IfOk result (λ reply. Answers task.entry input.now (answer_of reply)) }
@@ -95,10 +98,10 @@ fn answer(alloc: Global, task: Task<'_>, input: &[u8]) -> Result<Reply, AllocErr
         Request::Check(options) => check(alloc, options, input, bye),
         Request::Format(options) => format(alloc, options, input, bye),
         Request::Boards(options) => boards(alloc, options, input, bye),
-        Request::Candidates(options) => candidates(alloc, &options, input, bye),
-        Request::Explain(options) => explain(alloc, options, input, bye),
+        Request::Candidates(options) => candidates::<F>(alloc, &options, input, bye),
+        Request::Explain(options) => explain::<F>(alloc, options, input, bye),
         Request::Standings(options) => standings(alloc, &options, input, bye),
-        Request::Pair(options) => pair(alloc, options, input, bye),
+        Request::Pair(options) => pair::<F>(alloc, options, input, bye),
     }
 }
 

@@ -1,5 +1,6 @@
 // Runs over memory: small reports with the answers that must come, and devices that fail or give little at a time.
 use command_line::{Status, run};
+use dutch_search::WithFloors;
 use std::alloc::{AllocError, Global};
 use std::io;
 use std::io::{ErrorKind, Read, Write};
@@ -99,7 +100,7 @@ pub(crate) fn run_on<'a, R: Read + Drop>(
     let held = Vec::new(alloc);
     let room = err_room;
     let mut err = Counted::new(Small { held, room });
-    let status = run(alloc, words, &mut reader, &mut out, &mut err);
+    let status = run::<WithFloors, _, _, _>(alloc, words, &mut reader, &mut out, &mut err);
     Ended {
         status,
         out: out.into_inner().held,

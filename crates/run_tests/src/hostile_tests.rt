@@ -3,6 +3,7 @@
 use crate::command_tests::{Breaking, Dripping, check, has_refused, run_on};
 use crate::rows::{line, newcomers, report};
 use command_line::{Status, run};
+use dutch_search::WithFloors;
 use std::alloc::{AllocError, Global};
 use std::io;
 use std::io::{ErrorKind, Read, Write};
@@ -118,7 +119,7 @@ fn run_into<'a>(
     let mut reader = Counted::new(players.as_bytes());
     let mut out = with_room(alloc, room, fails);
     let mut err = with_room(alloc, 0, true);
-    let status = run(alloc, words, &mut reader, &mut out, &mut err);
+    let status = run::<WithFloors, _, _, _>(alloc, words, &mut reader, &mut out, &mut err);
     Ok((status, out.into_inner().held))
 }
 

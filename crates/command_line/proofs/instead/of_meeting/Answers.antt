@@ -5,7 +5,7 @@ use Rattle.command_line.proofs.InsteadLemmas.{against_told}
 use Rattle.command_line.proofs.instead.of_meeting.Goals as goal
 
 pub returns-in-Some : goal.returns-in-Some
-returns-in-Some c =
+returns-in-Some g c =
     against_told c.round.inside.telling.now c.args.round.now.telling c.args.asking.steps c.args.asking.asked.player c.args.asking.asked.number
     (obstacle_of c.args.round.now c.args.meeting.player c.args.meeting.rival) c.in-Some.obstacle
     (decided_in c.args.round.now.stages c.args.meeting.player c.args.meeting.rival) c.stands_against.result

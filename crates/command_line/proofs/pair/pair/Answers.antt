@@ -4,4 +4,4 @@ use Rattle.command_line.proofs.PairLemmas.{seen_own}
 use Rattle.command_line.proofs.pair.pair.Goals as goal
 
 pub of_report-requires-clause-own : goal.of_report-requires-clause-own
-of_report-requires-clause-own c = seen_own c.args.bytes.now c.args.bye c.args.options.round c.in-Ok.report (sym c.in-Ok.is ∙ c.in_ok-report.ensures)
+of_report-requires-clause-own g c = seen_own c.args.bytes.now c.args.bye c.args.options.round c.in-Ok.report (sym c.in-Ok.is ∙ c.in_ok-report.ensures)
