@@ -9,6 +9,7 @@ pub mod MatchingShapes
 pub mod GreatestMatchings
 pub mod BestGranting
 pub mod AllPaired
+pub mod ExchangeClasses
 pub mod RuledOutLemmas
 pub mod BestLemmas
 pub mod ChoiceLemmas

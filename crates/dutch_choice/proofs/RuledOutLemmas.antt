@@ -189,3 +189,24 @@ pub ruled_out : (frame : Frame) (shape : Shape) (wish : Wish) (b : Beginning) (a
 ruled_out frame shape (Pair p q) b a within fewer m begins out =
     false_from_ne_true (grants (Pair p q) a) (pair_out frame shape p q b a within fewer m begins out)
 ruled_out frame shape (LeftOver p) b a within fewer m begins out = over_out p b a begins out
+
+-- two residents of whom S1R has both or neither do not meet
+pub halves_out : (frame : Frame) (shape : Shape) (p q : ℕ) (a : Arrangement) → frame.mdps ≤ length frame.scores → IsIn a (arrangements frame shape) → frame.mdps < p → frame.mdps < q
+    → has_one_of p q a.s1r ≡ false → grants (Pair p q) a ≡ false
+halves_out frame shape p q a within m above above' together =
+    let lists = lists-in frame shape a within m in
+    false_from_ne_true (grants (Pair p q) a) (λ granted.
+      let found = found_in (are_these p q) (pairs_by_number a) granted in
+      let are = are_so p q found.0 found.2 in
+      let high : frame.mdps < found.0.0 = high_first frame shape a within lists p q found.0 found.1 are above above' in
+      let first = first_high frame shape a within lists found.0 found.1 high in
+      parted frame shape a within lists p q found.0 found.1 are a.s1r a.s1r refl first.0 first.1 (ap not together))
+
+pub both_in : (p q : ℕ) (s1r : List ℕ) → IsIn p s1r → IsIn q s1r → has_one_of p q s1r ≡ false
+both_in p q s1r one other =
+    let h = in-member p s1r one in let g = in-member q s1r other in grind arith
+
+pub both_out : (p q : ℕ) (s1r : List ℕ) → (IsIn p s1r → ⊥) → (IsIn q s1r → ⊥) → has_one_of p q s1r ≡ false
+both_out p q s1r one other =
+    let h : is_member p s1r ≡ false = false_from_ne_true (is_member p s1r) (λ t. one (member-in p s1r t)) in
+    let g : is_member q s1r ≡ false = false_from_ne_true (is_member q s1r) (λ t. other (member-in q s1r t)) in grind arith

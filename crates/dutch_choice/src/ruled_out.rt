@@ -1,15 +1,15 @@
 // Which beginnings rule a wish out (C.04.3 B.3), by the pairs that they have, and by their first halves: of two who
 // meet, one is in S1 or in S1R, and the other is not. So behind halves that keep the two apart no permutation is looked
 // at.
-ghost use Rattle.std.specs.Prelude.{◌≡◌, nat_le};
+ghost use Rattle.std.specs.Prelude.{◌≡◌, ℕ, List, false, nat_le, true};
 ghost use Rattle.std.specs.List.{list_any, zip};
-ghost use Rattle.dutch_order.specs.Prelude.{pairs_by_number};
+ghost use Rattle.dutch_order.specs.Prelude.{IsExchange, IsIn, pairs_by_number};
 ghost use Rattle.dutch_bracket.specs.Prelude.{parts};
 ghost use Rattle.dutch_choice.specs.RuledOut.{has_one_of, s1_bars, s1r_bars, halves_bar, rules_out};
 
 use dutch_bracket::fixed_lists::{FixedLists, fixed_lists};
 use dutch_bracket::wish::{Wish, leave_over, parts};
-use dutch_order::{Filling, Prefix};
+use dutch_order::{Exchange, Filling, Prefix};
 
 fn part_in(p: u16, q: u16, firsts: &[u16], seconds: &[u16]) -> bool
     ensures { result ≡ list_any (parts p q) (zip firsts.now seconds.now) }
@@ -73,4 +73,38 @@ pub(crate) fn is_ruled_out(wish: Wish, mdps: usize, prefix: &Prefix<'_>) -> bool
         Wish::Pair(p, q) => have_others(p, q, &lists) || halves_bar(mdps, p, q, prefix),
         Wish::LeftOver(p) => !leave_over(p, &lists),
     }
+}
+
+/// Yes only if a number is in each S1R of a class: the sum of one without it is too great (C.04.3 D.2).
+#[tactic(auto, using(crate::proofs::ExchangeClasses::always_in))]
+fn is_always_in(number: u16, exchange: &Exchange<'_>) -> bool
+    ensures { result ≡ true → (s1r : List ℕ) → IsExchange exchange.now s1r → IsIn number s1r }
+{
+    match exchange.others().split_first() {
+        Some((first, _)) => {
+            exchange.original().contains(&number)
+                && exchange.difference() < usize::from(first.saturating_sub(number))
+        }
+        None => false,
+    }
+}
+
+/// Yes only if a number is in no S1R of a class: the sum of one with it is too great.
+#[tactic(auto, using(crate::proofs::ExchangeClasses::never_in))]
+fn is_never_in(number: u16, exchange: &Exchange<'_>) -> bool
+    ensures { result ≡ true → (s1r : List ℕ) → IsExchange exchange.now s1r → IsIn number s1r → ⊥ }
+{
+    match exchange.original().split_last() {
+        Some((last, _)) => exchange.difference() < usize::from(number.saturating_sub(*last)),
+        None => false,
+    }
+}
+
+/// Yes only if each S1R of a class has both of two numbers, or none has one of them.
+#[tactic(auto, using(crate::proofs::RuledOutLemmas::both_in, crate::proofs::RuledOutLemmas::both_out))]
+pub(crate) fn keeps_together(p: u16, q: u16, exchange: &Exchange<'_>) -> bool
+    ensures { result ≡ true → (s1r : List ℕ) → IsExchange exchange.now s1r → has_one_of p q s1r ≡ false }
+{
+    (is_always_in(p, exchange) && is_always_in(q, exchange))
+        || (is_never_in(p, exchange) && is_never_in(q, exchange))
 }

@@ -338,7 +338,9 @@ impl<'a> Floors<'a> {
         if !self.is_known(prefix, &lists) {
             return false;
         }
-        notes.known.go_to(self.shaped.context, &lists);
+        notes
+            .known
+            .go_to(self.shaped.context, &lists, &mut notes.lonely);
         let more = self.more_by(asked, &lists, notes);
         let sums = self.sums_with(&notes.known, more);
         self.fill_first(self.s1(prefix), &lists, room);

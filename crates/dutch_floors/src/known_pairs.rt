@@ -12,6 +12,7 @@ ghost use Rattle.dutch_floors.specs.Behind.{Basis};
 ghost use Rattle.dutch_floors.specs.KnownPairs.{AreFew, AreKnown, AreSums, by_seat, minus, number_pairs, plus};
 
 use crate::colour_floor::{Want, Wants, in_pair, missed_by};
+use crate::lonely::LonelyRoom;
 use arrayvec::ArrayVec;
 use dutch_bracket::colours_missed::{Miss, count_in, has_topscorer};
 use dutch_bracket::context::Context;
@@ -169,7 +170,7 @@ fn common(pairs: &[Pair], lists: &FixedLists<'_>) -> usize
 
 impl KnownPairs {
     /// Forgets all pairs.
-    pub fn clear(&mut self)
+    pub(crate) fn clear(&mut self)
         ensures known { (basis : Basis) → AreKnown basis self.new }
         ensures pairs { self.new.pairs.items ≡ [] }
     {
@@ -208,8 +209,13 @@ impl KnownPairs {
         }
     }
 
-    /// Goes on to the pairs of lists.
-    pub(crate) fn go_to(&mut self, context: &Context<'_>, lists: &FixedLists<'_>)
+    /// Goes on to the pairs of lists, and tells where lonely players are looked for who is paired and who is not.
+    pub(crate) fn go_to(
+        &mut self,
+        context: &Context<'_>,
+        lists: &FixedLists<'_>,
+        lonely: &mut LonelyRoom,
+    )
         requires few { HasFewPairs lists.now }
         requires known { AreSums context.now.facts
             (by_seat context.now.reached.seats self.old.pairs.items) self.old.sums }
@@ -218,9 +224,12 @@ impl KnownPairs {
         ensures pairs { self.new.pairs.items ≡ number_pairs lists.now }
     {
         let first = common(&self.pairs, lists);
+        lonely.take_back(&self.pairs[first..]);
         self.take_back(context, first);
         for place in first..lists.s2.len() + lists.s2r.len() {
-            self.push(context, pair_at(lists, place));
+            let pair = pair_at(lists, place);
+            self.push(context, pair);
+            lonely.pair_up(pair);
         }
     }
 }

@@ -8,43 +8,129 @@ ghost use Rattle.dutch_bracket.specs.Prelude.{has_bit, suits, waiting, pool, lon
 use dutch_bracket::bit_table::{WORD, has_bit, set_bit};
 use dutch_bracket::context::Context;
 use dutch_bracket::fixed_lists::FixedLists;
+use dutch_bracket::seated::Pair;
 use dutch_order::{LIMIT, Numbers, Shape};
 
 /// A mark for each number of a bracket.
 type Marks = [u64; LIMIT / WORD + 1];
 
-/// Who suited each number last, or 0.
-type Suitors = [u16; LIMIT + 1];
+/// Who leans on whom: each free player on the one who suited them last. Nothing is promised of it: it says where it is
+/// worth while to look for lonely players.
+#[derive(Drop)]
+struct Leaning {
+    // whom each number leans on, or 0
+    suitors: [u16; LIMIT + 1],
+    // how many lean on each number
+    counts: [u16; LIMIT + 1],
+}
+
+impl Leaning {
+    /// Nobody leans on anybody.
+    fn new() -> Leaning {
+        Leaning {
+            suitors: [0; LIMIT + 1],
+            counts: [0; LIMIT + 1],
+        }
+    }
+
+    /// Whom a number leans on, or 0.
+    fn suitor(&self, number: u16) -> u16 {
+        match self.suitors.get(usize::from(number)) {
+            Some(suitor) => *suitor,
+            None => 0,
+        }
+    }
+
+    /// Yes if somebody may lean on a number.
+    fn is_leaned_on(&self, number: u16) -> bool {
+        match self.counts.get(usize::from(number)) {
+            Some(count) => *count > 0,
+            None => true,
+        }
+    }
+
+    /// A number leans on another one from now on.
+    fn lean(&mut self, number: u16, suitor: u16) {
+        let before = usize::from(self.suitor(number));
+        if before < self.counts.len() {
+            self.counts[before] = self.counts[before].saturating_sub(1);
+        }
+        if usize::from(suitor) < self.counts.len() {
+            self.counts[usize::from(suitor)] = self.counts[usize::from(suitor)].saturating_add(1);
+        }
+        if usize::from(number) < self.suitors.len() {
+            self.suitors[usize::from(number)] = suitor;
+        }
+    }
+}
 
 /// Where lonely players are looked for.
 #[derive(Drop)]
 pub(crate) struct LonelyRoom {
     // those with whom S1R can still be paired
     pool: Numbers,
-    suitors: Suitors,
+    leaning: Leaning,
+    // by number: they are in a pair
+    paired: [bool; LIMIT + 1],
+    // it was seen that nobody is lonely, and nobody who is free leans on a player who was paired since
+    is_clear: bool,
 }
 
 impl Default for LonelyRoom {
     fn default() -> LonelyRoom {
         LonelyRoom {
             pool: Numbers::new(),
-            suitors: [0; LIMIT + 1],
+            leaning: Leaning::new(),
+            paired: [false; LIMIT + 1],
+            is_clear: false,
         }
     }
 }
 
-/// Who suited a number last, or 0.
-fn suitor_of(suitors: &Suitors, number: u16) -> u16 {
-    match suitors.get(usize::from(number)) {
-        Some(suitor) => *suitor,
-        None => 0,
+impl LonelyRoom {
+    /// Forgets all that was seen. Nobody is paired.
+    pub(crate) fn clear(&mut self) {
+        self.leaning = Leaning::new();
+        self.paired = [false; LIMIT + 1];
+        self.is_clear = false;
     }
-}
 
-/// Notes who suits a number.
-fn note_suitor(suitors: &mut Suitors, number: u16, suitor: u16) {
-    if usize::from(number) < suitors.len() {
-        suitors[usize::from(number)] = suitor;
+    fn set_paired(&mut self, pair: Pair, is_paired: bool) {
+        for number in [pair.0, pair.1] {
+            if usize::from(number) < self.paired.len() {
+                self.paired[usize::from(number)] = is_paired;
+            }
+        }
+    }
+
+    /// Whom a number leans on is free.
+    fn has_free_suitor(&self, number: u16) -> bool {
+        let suitor = self.leaning.suitor(number);
+        suitor > 0
+            && match self.paired.get(usize::from(suitor)) {
+                Some(is_paired) => !*is_paired,
+                None => false,
+            }
+    }
+
+    /// Two are paired: who leans on them may be lonely now.
+    pub(crate) fn pair_up(&mut self, pair: Pair) {
+        self.set_paired(pair, true);
+        self.is_clear = self.is_clear
+            && !self.leaning.is_leaned_on(pair.0)
+            && !self.leaning.is_leaned_on(pair.1);
+    }
+
+    /// Pairs are taken back: whether their players are lonely is clear where those on whom they lean are free.
+    pub(crate) fn take_back(&mut self, pairs: &[Pair]) {
+        for pair in pairs {
+            self.set_paired(*pair, false);
+        }
+        for pair in pairs {
+            self.is_clear = self.is_clear
+                && self.has_free_suitor(pair.0)
+                && self.has_free_suitor(pair.1);
+        }
     }
 }
 
@@ -121,18 +207,20 @@ impl<'m> Marked<'m> {
 }
 
 /// A no says that nobody of a pool suits one who waits. (Whoever suited them last suits them still. If that were not so,
-/// the floor would be lower than it can be, and not wrong.)
-fn is_suited(context: &Context<'_>, x: u16, pool: &Marked<'_>, suitors: &mut Suitors) -> bool
+/// the floor would be lower than it can be, and not wrong. It is looked from the end, as these are paired last.)
+fn is_suited(context: &Context<'_>, x: u16, pool: &Marked<'_>, leaning: &mut Leaning) -> bool
     ensures { result ≡ false
         → list_any (suits context.now.facts context.now.reached x) pool.now.numbers.now ≡ false }
 {
-    if pool.has(suitor_of(suitors, x)) {
+    if pool.has(leaning.suitor(x)) {
         return true;
     }
     let numbers = pool.numbers;
-    for other in numbers {
-        if context.suits(x, *other) {
-            note_suitor(suitors, x, *other);
+    let mut left = numbers.len();
+    while left > 0 {
+        left -= 1;
+        if context.suits(x, numbers[left]) {
+            leaning.lean(x, numbers[left]);
             return true;
         }
     }
@@ -140,17 +228,19 @@ fn is_suited(context: &Context<'_>, x: u16, pool: &Marked<'_>, suitors: &mut Sui
 }
 
 /// A no says that one of a pool suits nobody who waits.
-fn suits_one(context: &Context<'_>, y: u16, waiting: &Marked<'_>, suitors: &mut Suitors) -> bool
+fn suits_one(context: &Context<'_>, y: u16, waiting: &Marked<'_>, leaning: &mut Leaning) -> bool
     ensures { result ≡ false
         → list_any (λ x. suits context.now.facts context.now.reached x y) waiting.now.numbers.now ≡ false }
 {
-    if waiting.has(suitor_of(suitors, y)) {
+    if waiting.has(leaning.suitor(y)) {
         return true;
     }
     let numbers = waiting.numbers;
-    for other in numbers {
-        if context.suits(*other, y) {
-            note_suitor(suitors, y, *other);
+    let mut left = numbers.len();
+    while left > 0 {
+        left -= 1;
+        if context.suits(numbers[left], y) {
+            leaning.lean(y, numbers[left]);
             return true;
         }
     }
@@ -162,7 +252,7 @@ fn lonely_first(
     context: &Context<'_>,
     waiting: &[u16],
     pool: &Marked<'_>,
-    suitors: &mut Suitors,
+    leaning: &mut Leaning,
 ) -> usize
     ensures value { result ≤ length (filter
         (λ x. not (list_any (suits context.now.facts context.now.reached x) pool.now.numbers.now)) waiting.now) }
@@ -170,7 +260,7 @@ fn lonely_first(
 {
     let mut count = 0;
     for x in waiting {
-        if !is_suited(context, *x, pool, suitors) {
+        if !is_suited(context, *x, pool, leaning) {
             count += 1;
         }
     }
@@ -182,7 +272,7 @@ fn lonely_second(
     context: &Context<'_>,
     waiting: &Marked<'_>,
     pool: &[u16],
-    suitors: &mut Suitors,
+    leaning: &mut Leaning,
 ) -> usize
     ensures value { result ≤ length (filter
         (λ y. not (list_any (λ x. suits context.now.facts context.now.reached x y) waiting.now.numbers.now)) pool.now) }
@@ -190,7 +280,7 @@ fn lonely_second(
 {
     let mut count = 0;
     for y in pool {
-        if !suits_one(context, *y, waiting, suitors) {
+        if !suits_one(context, *y, waiting, leaning) {
             count += 1;
         }
     }
@@ -216,10 +306,14 @@ pub(crate) fn lonely(
     ensures value { result ≤ lonely context.now.facts context.now.reached shape lists.now }
     ensures few { result ≤ LIMIT }
 {
+    if room.is_clear {
+        return 0;
+    }
     put_pool(context, lists, &mut room.pool);
     let (waiting, pool) = (waiting(lists), room.pool.as_slice());
-    let first = lonely_first(context, waiting, &Marked::new(pool), &mut room.suitors);
-    let second = lonely_second(context, &Marked::new(waiting), pool, &mut room.suitors);
+    let first = lonely_first(context, waiting, &Marked::new(pool), &mut room.leaning);
+    let second = lonely_second(context, &Marked::new(waiting), pool, &mut room.leaning);
+    room.is_clear = first + second == 0;
     more_lonely(first, second, context.residents_down(shape))
 }
 

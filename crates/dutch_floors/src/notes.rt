@@ -1,4 +1,7 @@
 // What floors are asked, and what they note from one question to the next.
+ghost use Rattle.dutch_floors.specs.Behind.{Basis};
+ghost use Rattle.dutch_floors.specs.KnownPairs.{AreKnown};
+
 use crate::known_pairs::KnownPairs;
 use crate::lonely::LonelyRoom;
 use dutch_order::Prefix;
@@ -19,4 +22,14 @@ pub struct FloorQuestion<'q, 'p> {
 pub struct FloorNotes {
     pub known: KnownPairs,
     pub(crate) lonely: LonelyRoom,
+}
+
+impl FloorNotes {
+    /// Forgets all pairs, and who leans on whom.
+    pub fn clear(&mut self)
+        ensures { (basis : Basis) → AreKnown basis self.new.known }
+    {
+        self.known.clear();
+        self.lonely.clear();
+    }
 }

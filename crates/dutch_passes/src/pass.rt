@@ -1,14 +1,15 @@
 // One pass over the candidates of a shape (C.04.3 B.8): what it seeks, and the best candidate that it has found so far.
 ghost use Rattle.std.specs.Prelude.{◌≡◌, true, false};
-ghost use Rattle.dutch_bracket.specs.Prelude.{OfEachWithBeginning, is_wished, quality_in};
+ghost use Rattle.dutch_order.specs.Prelude.{Arrangement, IsExchange, IsIn};
+ghost use Rattle.dutch_bracket.specs.Prelude.{OfEachWithBeginning, candidates_in, is_wished, quality_in};
 ghost use Rattle.dutch_passes.specs.Aims.{aim_in, loses};
 
 use dutch_bracket::quality::Quality;
 use dutch_bracket::shaped::ShapedBracket;
 use dutch_bracket::wish::Wish;
-use dutch_choice::barred::rules_out;
+use dutch_choice::barred::{rules_out, rules_out_with};
 use dutch_choice::finder::Best;
-use dutch_order::Prefix;
+use dutch_order::{Exchange, Prefix};
 
 /// One pass over the candidates of a shape, in a bracket above all lower seats by rank. With an aim it seeks those
 /// alone that the aim is not better than, and with a wish those alone that grant it.
@@ -50,6 +51,17 @@ pub fn is_barred(pass: &Pass<'_>, prefix: &Prefix<'_>) -> bool
 {
     match pass.wish {
         Some(wish) => rules_out(&pass.shaped, wish, prefix),
+        None => false,
+    }
+}
+
+/// Yes if such an S1R rules out what is wished, so that the pass may skip all that have one. A no says nothing.
+pub fn is_barred_with(pass: &Pass<'_>, exchange: &Exchange<'_>) -> bool
+    ensures { result ≡ true → (a : Arrangement) → IsIn a (candidates_in pass.now.shaped)
+        → IsExchange exchange.now a.s1r → is_wished pass.now.wish a ≡ false }
+{
+    match pass.wish {
+        Some(wish) => rules_out_with(&pass.shaped, wish, exchange),
         None => false,
     }
 }

@@ -10,7 +10,7 @@ use dutch_weights::weight_floor::WeightFloors;
 pub(crate) const TURN_PAIRS: usize = 16;
 
 /// The pairs of brackets with more players are not weighed.
-const MOST_WEIGHED: usize = 400;
+const MOST_WEIGHED: usize = 512;
 
 /// Floors by counts, and floors by weight, where they were asked for.
 #[derive(Drop)]

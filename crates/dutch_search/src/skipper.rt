@@ -17,7 +17,7 @@ use dual::Wide;
 use dutch_bracket::quality::Quality;
 use dutch_floors::notes::FloorQuestion;
 use dutch_order::{Bound, Exchange, Prefix};
-use dutch_passes::{Workroom, is_barred, loses};
+use dutch_passes::{Workroom, is_barred, is_barred_with, loses};
 
 impl<'a, 'k> Skipper<'a, 'k> {
     /// Fills a quality that no candidate with a beginning is better than. No says that none is known.
@@ -197,7 +197,7 @@ impl<'a, 'k> Bound for Skipper<'a, 'k> {
     ghost Holds = { λ s work. AreKnown s.counts.now work.notes.floors.known };
 
     fn start(&self, work: &mut Workroom<WalkNotes>) {
-        work.notes.floors.known.clear();
+        work.notes.floors.clear();
     }
 
     #[tactic(auto, using(dutch_passes::proofs::AimLemmas::unwished_is_idle, dutch_passes::proofs::AimLemmas::loser_is_idle, dutch_passes::proofs::AimLemmas::loser_if_open_is_idle), unfolding(dutch_bracket::specs::Brackets::candidates_of))]
@@ -215,13 +215,16 @@ impl<'a, 'k> Bound for Skipper<'a, 'k> {
         self.loses_by_weight(prefix) || self.loses_by_counts(prefix, work)
     }
 
-    #[tactic(auto, using(dutch_passes::proofs::AimLemmas::loser_if_open_is_idle), unfolding(dutch_bracket::specs::Brackets::candidates_of))]
+    #[tactic(auto, using(dutch_passes::proofs::AimLemmas::unwished_is_idle, dutch_passes::proofs::AimLemmas::loser_if_open_is_idle), unfolding(dutch_bracket::specs::Brackets::candidates_of))]
     fn cannot_win_with(
         &self,
         prefix: &Prefix<'_>,
         exchange: &Exchange<'_>,
         _work: &mut Workroom<WalkNotes>,
     ) -> bool {
+        if is_barred_with(self.so_far.pass, exchange) {
+            return true;
+        }
         if self.so_far.pass.aim.is_none() && self.so_far.kept.is_none() {
             return false;
         }
