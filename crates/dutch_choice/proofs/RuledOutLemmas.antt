@@ -196,11 +196,11 @@ pub halves_out : (frame : Frame) (shape : Shape) (p q : ℕ) (a : Arrangement) �
 halves_out frame shape p q a within m above above' together =
     let lists = lists-in frame shape a within m in
     false_from_ne_true (grants (Pair p q) a) (λ granted.
-      let found = found_in (are_these p q) (pairs_by_number a) granted in
-      let are = are_so p q found.0 found.2 in
-      let high : frame.mdps < found.0.0 = high_first frame shape a within lists p q found.0 found.1 are above above' in
-      let first = first_high frame shape a within lists found.0 found.1 high in
-      parted frame shape a within lists p q found.0 found.1 are a.s1r a.s1r refl first.0 first.1 (ap not together))
+    let found = found_in (are_these p q) (pairs_by_number a) granted in
+    let are = are_so p q found.0 found.2 in
+    let high : frame.mdps < found.0.0 = high_first frame shape a within lists p q found.0 found.1 are above above' in
+    let first = first_high frame shape a within lists found.0 found.1 high in
+    parted frame shape a within lists p q found.0 found.1 are a.s1r a.s1r refl first.0 first.1 (ap not together))
 
 pub both_in : (p q : ℕ) (s1r : List ℕ) → IsIn p s1r → IsIn q s1r → has_one_of p q s1r ≡ false
 both_in p q s1r one other =

@@ -82,8 +82,8 @@ fn is_always_in(number: u16, exchange: &Exchange<'_>) -> bool
 {
     match exchange.others().split_first() {
         Some((first, _)) => {
-            exchange.original().contains(&number)
-                && exchange.difference() < usize::from(first.saturating_sub(number))
+            exchange.difference() < usize::from(first.saturating_sub(number))
+                && exchange.original().contains(&number)
         }
         None => false,
     }

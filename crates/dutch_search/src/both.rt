@@ -9,8 +9,15 @@ use dutch_weights::weight_floor::WeightFloors;
 /// A turn is shorter by one part more for each so many pairs of the shape.
 pub(crate) const TURN_PAIRS: usize = 16;
 
+/// In a large bracket a turn is longer so many times, as many steps as the last floor took.
+pub(crate) const LARGE_TURN: u64 = 16;
+
 /// The pairs of brackets with more players are not weighed.
 const MOST_WEIGHED: usize = 512;
+
+/// In a bracket with more players a floor by weight takes so many steps that the walk makes about as many before it may
+/// be told more, and that it is told more only where it is stuck.
+const LARGE: usize = 400;
 
 /// Floors by counts, and floors by weight, where they were asked for.
 #[derive(Drop)]
@@ -30,4 +37,9 @@ pub(crate) fn is_weighed(context: &Context<'_>, next: bool) -> bool {
         context.len()
     };
     players <= MOST_WEIGHED
+}
+
+/// Yes if the players of a bracket are many, so that floors by weight take many steps.
+pub(crate) fn is_large(context: &Context<'_>) -> bool {
+    context.len() > LARGE
 }

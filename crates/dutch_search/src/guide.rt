@@ -9,7 +9,7 @@ ghost use Rattle.dutch_search.specs.Searching.{AreFor};
 ghost use Rattle.dutch_weights.specs.Prelude.{HasBar};
 
 use crate::bars::{Skipper, bars_of};
-use crate::both::{BothFloors, TURN_PAIRS, is_weighed};
+use crate::both::{BothFloors, LARGE_TURN, TURN_PAIRS, is_large, is_weighed};
 use crate::last_beginning::{LastBeginning, WalkNotes};
 use cheapest::LOOKS_IN_A_STEP;
 use dutch_bracket::greatest::Lister;
@@ -32,12 +32,20 @@ impl<'a> BothFloors<'a> {
         ensures some { budget.now.used < budget.now.limit → 0 < result.limit }
     {
         let left = budget.limit - budget.used;
-        let parts = 1 + (self.shaped.shape.pairs / TURN_PAIRS) as u64;
         let limit = match &self.weights {
-            Some(weights) => (weights.patience(budget.used) / parts).max(1).min(left),
+            Some(weights) => self.turn_in(weights.patience(budget.used)).max(1).min(left),
             None => left,
         };
         Budget { used: 0, limit }
+    }
+
+    /// The steps of a turn by those that a walk makes in patience.
+    fn turn_in(&self, patience: u64) -> u64 {
+        if is_large(self.shaped.context) {
+            patience.saturating_mul(LARGE_TURN)
+        } else {
+            patience / (1 + (self.shaped.shape.pairs / TURN_PAIRS) as u64)
+        }
     }
 
     /// Tells which beginnings a pass may skip, by the bars of its aim and of the candidate that it keeps.
@@ -81,10 +89,11 @@ impl<'a> BothFloors<'a> {
         Ok(self.aim_for(&found))
     }
 
-    /// Behind a turn, where steps are left: floors by weight are asked for more, if there are any.
+    /// Behind a turn, where steps are left: floors by weight are asked for more, if there are any. In a large bracket a
+    /// walk that is not stuck makes a turn more first.
     fn go_on(
         &mut self,
-        last: &LastBeginning,
+        notes: &mut WalkNotes,
         bars: &Bars,
         budget: &mut Budget,
     ) -> Result<(), Stopped>
@@ -100,9 +109,12 @@ impl<'a> BothFloors<'a> {
         if budget.used == budget.limit {
             return Err(Stopped);
         }
+        if is_large(self.shaped.context) && notes.has_moved() {
+            return Ok(());
+        }
         match &mut self.weights {
             Some(weights) => {
-                let LastBeginning { scope, pairs } = last;
+                let LastBeginning { scope, pairs } = &notes.last;
                 weights.tell_more(&FloorRequest { scope, pairs }, bars, budget)
             }
             None => Ok(()),
@@ -174,7 +186,7 @@ impl<'a> Guide for BothFloors<'a> {
             match step {
                 Step::Found(()) => return Ok(true),
                 Step::End => return Ok(false),
-                Step::Undecided => self.go_on(&work.notes.last, &bars, budget)?,
+                Step::Undecided => self.go_on(&mut work.notes, &bars, budget)?,
             }
         }
     }

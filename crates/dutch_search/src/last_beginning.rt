@@ -33,9 +33,22 @@ impl LastBeginning {
     }
 }
 
-/// The beginning that a walk asked about last, and what floors by counts noted of the questions before.
+/// The beginning that a walk asked about last, where it stood a turn before, and what floors by counts noted of the
+/// questions before.
 #[derive(Default, Drop)]
 pub(crate) struct WalkNotes {
     pub(crate) last: LastBeginning,
+    stood: Scope,
     pub(crate) floors: FloorNotes,
+}
+
+impl WalkNotes {
+    /// Yes if the walk has come to another S1 or S1R since it was asked for the last time. Then it is not stuck.
+    pub(crate) fn has_moved(&mut self) -> bool {
+        if self.stood.is(&self.last.scope) {
+            return false;
+        }
+        self.stood = self.last.scope.copied();
+        true
+    }
 }
