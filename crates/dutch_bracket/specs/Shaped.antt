@@ -4,7 +4,7 @@ use Rattle.dutch_order.specs.Prelude.{Arrangement, Beginning, Begins, IsIn}
 use Rattle.dutch_bracket.specs.declared.shaped.ShapedBracket.{ShapedBracket}
 use Rattle.dutch_bracket.specs.InContext.{candidates_here, eligible_here}
 
--- C.1 to C.3: its candidates of the shape
+-- its candidates of the shape [C.1 to C.3]
 abbrev pub candidates_in : ShapedBracket → List Arrangement
 candidates_in shaped = candidates_here shaped.context.now shaped.shape
 
