@@ -137,7 +137,7 @@ taken-alike rounds n xs ys le start i = by (cases_lt i n)
 pub record EndsUnpaired (rounds : ℕ) (cells : List Cell) : Type 0 where
   pub none : (i : ℕ) → rounds ≤ i → is_paired (get_or cells i Blank) ≡ false
 
-not_unfinished : (cell : Cell) → is_paired cell ≡ false → is_unfinished cell ≡ false
+pub not_unfinished : (cell : Cell) → is_paired cell ≡ false → is_unfinished cell ≡ false
 not_unfinished Blank e = refl
 not_unfinished (Bye kind) e = refl
 not_unfinished (Game opponent colour rated got) e = absurd (cc)

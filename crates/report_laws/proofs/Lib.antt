@@ -24,6 +24,5 @@ pub mod PutBoards
 pub mod StandingRows
 pub mod StandingLevels
 pub mod StandingKeys
-pub mod PairedRounds
 pub mod NotedResults
 pub mod AloneLemmas

@@ -6,9 +6,9 @@ use Rattle.std.specs.Bool.{then_some}
 use Rattle.std.specs.List.{cons_option, list_any}
 use Rattle.std.specs.Option.{option_map_or}
 use Rattle.std.specs.Str.{is_utf8}
-use Rattle.std.proofs.lemmas.Bool.{cases_lt, cases_Bool, or_parts, true≢false, eq-eqb, eqb-true}
+use Rattle.std.proofs.lemmas.Bool.{cases_lt, cases_Bool, or_parts, true≢false, eq-eqb, ne_eqb}
 use Rattle.std.proofs.lemmas.List.Folds.{list_any-append}
-use Rattle.trf16.specs.Prelude.{columns, lines, without_marks, words_of, Entry, Sheet, cell_at, cell_in, cells_of, game_points, outcome_points, known, rounds_played, is_blank, is_blank_cell, is_kind, is_named_absent, is_unfinished, is_player, lines_onto, player_at, player_of, without_players, verdict, number_of}
+use Rattle.trf16.specs.Prelude.{columns, lines, without_marks, words_of, Entry, Sheet, cell_at, cell_in, cells_of, game_points, outcome_points, known, rounds_played, is_blank, is_blank_cell, is_kind, is_named_absent, is_paired, is_unfinished, is_player, last_paired, lines_onto, player_at, player_of, without_players, verdict, number_of}
 use Rattle.trf16.proofs.StepLemmas.{same_ok}
 use Rattle.trf16_writer.proofs.AcceptedReport.{accepted, first_onto}
 use Rattle.std.proofs.lemmas.List.{append_assoc, append-nil}
@@ -26,14 +26,20 @@ use Rattle.report_laws.specs.Notes.{lacks_result, tells_no_result}
 use Rattle.report_notes.specs.declared.note.RoundNote.{RoundNote}
 use Rattle.report_notes.specs.declared.note.RoundNote.TheVariants.{NoResult, MeetsAgain, AnotherBye, HalfPoint, NoPoint, NoCell}
 use Rattle.report_notes.specs.declared.ratings.RatedAbove.{RatedAbove}
-use Rattle.report_laws.proofs.PairedRounds.{within}
+use Rattle.trf16_laws.proofs.PairedRound.{not_paired}
+use Rattle.report_laws.proofs.CellLemmas.{not_unfinished}
+use Rattle.report_laws.proofs.PutBoards.{last-one}
 
-unequal : (a b : ℕ) → (a ≡ b → ⊥) → (a == b) ≡ false
-unequal a b other = by (a == b) refl
+-- a game without a result is in a round that was paired
+within : (sheet : Sheet) (start round : ℕ) → 0 < round → is_unfinished (cell_in sheet start round) ≡ true → round ≤ rounds_played sheet
+within sheet start round positive unfinished = by (cases_lt (rounds_played sheet) round)
   where
-    by : (same : Bool) → (a == b) ≡ same → same ≡ false
-    by true e = absurd (other (eqb-true a b e))
-    by false e = refl
+    by : (rounds_played sheet < round) ⊎ (round ≤ rounds_played sheet) → round ≤ rounds_played sheet
+    by (inl far) =
+        let upto : last_paired (cells_of sheet.players start) ≤ rounds_played sheet = last-one sheet.players start in
+        let no : is_paired (cell_in sheet start round) ≡ false = not_paired (round - 1) (cells_of sheet.players start) (omega arith) in
+        absurd (true≢false (sym unfinished ∙ not_unfinished (cell_in sheet start round) no))
+    by (inr near) = near
 
 -- ---- a round
 
@@ -167,7 +173,7 @@ module _ (line round : ℕ) where
   -- ---- the rounds of a player
 
   absent : (x b : Bool) (r : ℕ) → (r ≡ round → ⊥) → (x && (r == round) && b) ≡ false
-  absent x b r other = rw (unequal r round other) (by x)
+  absent x b r other = rw (ne_eqb r round other) (by x)
     where
       by : (x : Bool) → (x && false && b) ≡ false
       by true = refl

@@ -190,7 +190,7 @@ other-cells bye boards n (entry ∷ entries) start e = by (entry.start == start)
     by true same later = let none : cell_by boards entry.start ≡ None = ap (cell_by boards) (eqb-true entry.start start same) ∙ e in rw none refl
     by false same later = later
 
-last-one : (entries : List Entry) (start : ℕ) → last_paired (cells_of entries start) ≤ last_paired_of entries
+pub last-one : (entries : List Entry) (start : ℕ) → last_paired (cells_of entries start) ≤ last_paired_of entries
 last-one [] start = omega arith
 last-one (entry ∷ entries) start = by (entry.start == start) (last-one entries start)
   where
