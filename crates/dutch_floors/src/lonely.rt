@@ -25,14 +25,6 @@ struct Leaning {
 }
 
 impl Leaning {
-    /// Nobody leans on anybody.
-    fn new() -> Leaning {
-        Leaning {
-            suitors: [0; LIMIT + 1],
-            counts: [0; LIMIT + 1],
-        }
-    }
-
     /// Whom a number leans on, or 0.
     fn suitor(&self, number: u16) -> u16 {
         match self.suitors.get(usize::from(number)) {
@@ -80,7 +72,10 @@ impl Default for LonelyRoom {
     fn default() -> LonelyRoom {
         LonelyRoom {
             pool: Numbers::new(),
-            leaning: Leaning::new(),
+            leaning: Leaning {
+                suitors: [0; LIMIT + 1],
+                counts: [0; LIMIT + 1],
+            },
             paired: [false; LIMIT + 1],
             is_clear: false,
         }
@@ -90,9 +85,7 @@ impl Default for LonelyRoom {
 impl LonelyRoom {
     /// Forgets all that was seen. Nobody is paired.
     pub(crate) fn clear(&mut self) {
-        self.leaning = Leaning::new();
-        self.paired = [false; LIMIT + 1];
-        self.is_clear = false;
+        *self = LonelyRoom::default();
     }
 
     fn set_paired(&mut self, pair: Pair, is_paired: bool) {

@@ -25,27 +25,27 @@ use dutch_weights::weight_floor::WeightFloors;
 
 impl<'a> BothFloors<'a> {
     /// The steps of a turn: all that are left, or so many that it is worth while to be told more behind them. They are
-    /// the fewer, the more pairs the questions of the turn look at.
+    /// the fewer, the more pairs the questions of the turn look at; in a large bracket they are as many as a floor takes.
     fn turn(&self, budget: &Budget) -> Budget
         ensures used { result.used ≡ 0 }
         ensures limit { result.limit ≤ budget.now.limit - budget.now.used }
         ensures some { budget.now.used < budget.now.limit → 0 < result.limit }
     {
         let left = budget.limit - budget.used;
-        let limit = match &self.weights {
-            Some(weights) => self.turn_in(weights.patience(budget.used)).max(1).min(left),
-            None => left,
+        let Some(weights) = &self.weights else {
+            return Budget {
+                used: 0,
+                limit: left,
+            };
         };
-        Budget { used: 0, limit }
-    }
-
-    /// The steps of a turn by those that a walk makes in patience.
-    fn turn_in(&self, patience: u64) -> u64 {
-        if is_large(self.shaped.context) {
+        let patience = weights.patience(budget.used);
+        let steps = if is_large(self.shaped.context) {
             patience.saturating_mul(LARGE_TURN)
         } else {
             patience / (1 + (self.shaped.shape.pairs / TURN_PAIRS) as u64)
-        }
+        };
+        let limit = steps.max(1).min(left);
+        Budget { used: 0, limit }
     }
 
     /// Tells which beginnings a pass may skip, by the bars of its aim and of the candidate that it keeps.
