@@ -11,7 +11,8 @@ use Rattle.dutch_choice.specs.Prelude.{IsBarred, some_grants, with_mdps}
 use Rattle.dutch_pair.specs.declared.instead.Instead.TheVariants.{FewerMovedDown, NoneEligible, NoneLegal}
 use Rattle.dutch_pair.specs.declared.stage.Stage.{Stage}
 use Rattle.dutch_bracket.specs.declared.wish.Wish.{Wish}
-use Rattle.dutch_choice.proofs.BestGranting.{found_in, none_by_test}
+use Rattle.dutch_bracket.proofs.AnyLemmas.{found_in}
+use Rattle.pairing_laws.proofs.BestGranting.{none_by_test}
 use Rattle.dutch_pair.proofs.InsteadLemmas.{stage_shape}
 use Rattle.dutch_bracket.proofs.ShapeLaws.{has_room, none_is_greater, room_by_test}
 use Rattle.answer_laws.specs.InsteadLaws.{IsLegalWith, NoneCanBeChosen, NoneWithAsManyMovedDown, NoneWithAsManyPairs}

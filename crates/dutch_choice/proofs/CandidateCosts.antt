@@ -1,11 +1,11 @@
 -- The pairs of a candidate that can be chosen, in the penultimate bracket with those of the rest, are a matching of the bracket's graph, which
 -- costs no more than its shape does (C.04.3 B.1, C.1 to C.5).
 use Rattle.std.proofs.Common.{◌≡◌, ℕ, zero, suc, ◌+◌, ◌-◌, ◌*◌, ◌<◌, ◌≤◌, Bool, true, false, not, cond, ◌&&◌, ◌||◌, ◌==◌, nat_le, List, [], ◌∷◌, ◌++◌, All, map, length, get_or, sum_by, inl, inr, refl, sym, ap, subst, ◌∙◌, arith}
-use Rattle.std.specs.Prelude.{◌%◌, filter}
+use Rattle.std.specs.Prelude.{◌%◌}
 use Rattle.std.specs.List.{AllByRecursion}
 use Rattle.std.proofs.lemmas.Bool.{and_from, and_parts, cases_eq, cases_lt, eq-eqb, le-leb, ne_eqb, or_left, or_right}
-use Rattle.std.proofs.lemmas.List.{append_assoc, append-nil, get_or_append_left, get_or-append-add, length-append, length-map, map-append}
-use Rattle.std.proofs.lemmas.List.Elements.{All-nil, All-cons, All-head, All-tail, filter-append}
+use Rattle.std.proofs.lemmas.List.{append-nil, get_or_append_left, get_or-append-add, length-map, map-append}
+use Rattle.std.proofs.lemmas.List.Elements.{All-nil, All-cons, All-head, All-tail}
 use Rattle.std.proofs.lemmas.List.Sums.{sum_by-cons, sum_by-append}
 use Rattle.dual.specs.Prelude.{FloorTable, IsFloor, IsMatching, MakeUp, cost, in_both}
 use Rattle.dual.proofs.Sums.{sum_none}
@@ -33,7 +33,6 @@ use Rattle.dutch_bracket.proofs.PairedOut.{Meet, PairedOut, each, few_left, odd_
 use Rattle.dutch_bracket.proofs.ShapeSearch.{member_of}
 use Rattle.dutch_bracket.proofs.Totals.{total, total_sum}
 use Rattle.dutch_choice.specs.declared.certified.ShapeFloor.{ShapeFloor}
-use Rattle.dutch_choice.specs.GreatestMatchings.{has_mdp, made_shape, pairs_here}
 use Rattle.dutch_choice.specs.ShapeCosts.{IsShapeFloor, alone_cost, any_seat, are_pair, are_paired_out, cost_of, count_all, may_stay, shape_costs, spare_cost}
 
 -- ---- numbers that all weigh the same
@@ -52,27 +51,6 @@ left_may may false (v ∷ left) e = (refl, left_may may false left refl)
 left_may may true [] e = tt
 left_may may true (v ∷ []) e = (e, tt)
 left_may may true (v ∷ w ∷ left) e = absurd (let bad : false ≡ true = e in cc)
-
--- ---- pairs by place
-
-placed_count : (firsts seconds : List ℕ) → length firsts ≡ length seconds → length (by_place firsts seconds) ≡ length firsts
-placed_count [] [] e = refl
-placed_count [] (b ∷ seconds) e = absurd (omega (arith, e))
-placed_count (a ∷ firsts) [] e = absurd (omega (arith, e))
-placed_count (a ∷ firsts) (b ∷ seconds) e = omega (arith, placed_count firsts seconds (omega (arith, e)))
-
-lows_placed : {q : ℕ} (P : ℕ × ℕ → Type 0) → ((x y : ℕ) → x ≤ q → P (x, y)) → (firsts seconds : List ℕ) → ((z : ℕ) → IsIn z firsts → z ≤ q)
-    → All P (by_place firsts seconds)
-lows_placed P each [] seconds few = All-nil P
-lows_placed P each (a ∷ firsts) [] few = All-nil P
-lows_placed P each (a ∷ firsts) (b ∷ seconds) few =
-    All-cons P (a, b) (by_place firsts seconds) (each a b (few a (inl refl))) (lows_placed P each firsts seconds (λ z m. few z (inr m)))
-
-all_kept : (p : ℕ × ℕ → Bool) (ps : List (ℕ × ℕ)) → All (λ pair. p pair ≡ true) ps → filter p ps ≡ ps
-all_kept p [] all = refl
-all_kept p (pair ∷ ps) all =
-    ap (λ t. cond t (pair ∷ filter p ps) (filter p ps)) (All-head (λ pair. p pair ≡ true) pair ps all)
-    ∙ ap (λ rest. pair ∷ rest) (all_kept p ps (All-tail (λ pair. p pair ≡ true) pair ps all))
 
 -- ---- who may be left over
 
@@ -199,7 +177,7 @@ module _ (context : Context) where
         and_from (numbers_meet facts reached x y) _ met
         (ap (λ b. not (b && nat_le y q)) first ∙ ap (λ b. not (one && b)) second ∙ not_both)
 
-    all_pairs : All IsPair pairs
+    pub all_pairs : All IsPair pairs
     all_pairs =
         all_onto IsPair (numbers_meet facts reached) (IsMovedDown frame) (IsResident frame)
         (λ x y one other met. apart x y true false (low x q one.1) (high y q other.0) refl met)
@@ -207,51 +185,6 @@ module _ (context : Context) where
         (all_onto IsPair (numbers_meet facts reached) (IsResident frame) (IsResident frame)
         (λ x y one other met. apart x y false false (high x q one.0) (high y q other.0) refl met)
         a.s1r a.s2r (s1r_high facts reached shape a within legal) (s2r_high facts reached shape a within legal) legal.residents [] (All-nil IsPair))
-
-    -- with others they make a shape that is no less
-    abbrev HasLow : ℕ × ℕ → Type 0
-    HasLow pair = has_mdp context pair ≡ true
-
-    firsts_low : All HasLow firsts
-    firsts_low =
-        lows_placed HasLow (λ x y h. or_left (nat_le x q) (nat_le y q) (low x q h)) a.s1 a.s2
-        (λ z i. (s1_low facts reached shape a within legal z i).1)
-
-    made_is : (all more : List (ℕ × ℕ)) → all ≡ pairs ++ more → pairs_here context all ≡ firsts ++ (others ++ pairs_here context more)
-    made_is all more e =
-        ap (pairs_here context) e
-        ∙ filter-append (λ pair. are_pair context pair.0 pair.1) pairs more
-        ∙ ap (λ ps. ps ++ pairs_here context more) (all_kept (λ pair. are_pair context pair.0 pair.1) pairs all_pairs)
-        ∙ append_assoc firsts others (pairs_here context more)
-
-    many_made : (all more : List (ℕ × ℕ)) → all ≡ pairs ++ more → shape.pairs ≤ (made_shape context all).pairs
-    many_made all more e =
-        let four = lists facts reached shape a within legal in
-        omega (
-          arith,
-          ap length (made_is all more e),
-          length-append firsts (others ++ pairs_here context more),
-          length-append others (pairs_here context more),
-          length-append (by_place a.s1r a.s2r) [],
-          placed_count a.s1 a.s2 (first_count facts reached shape a within legal),
-          placed_count a.s1r a.s2r (other_count facts reached shape a within legal),
-          four.s1.count,
-          four.s1r.count,
-          room.within_pairs,
-        )
-
-    low_made : (all more : List (ℕ × ℕ)) → all ≡ pairs ++ more → shape.mdps ≤ (made_shape context all).mdps
-    low_made all more e =
-        let four = lists facts reached shape a within legal in
-        omega (
-          arith,
-          ap (λ ps. length (filter (has_mdp context) ps)) (made_is all more e),
-          ap length (filter-append (has_mdp context) firsts (others ++ pairs_here context more)),
-          length-append (filter (has_mdp context) firsts) (filter (has_mdp context) (others ++ pairs_here context more)),
-          ap length (all_kept (has_mdp context) firsts firsts_low),
-          placed_count a.s1 a.s2 (first_count facts reached shape a within legal),
-          four.s1.count,
-        )
 
     abbrev weigh : ℕ × ℕ → ℕ
     weigh pair = (shape_costs context).weight pair.0 pair.1
@@ -318,8 +251,8 @@ module _ (context : Context) where
       pub matching : IsMatching (shape_costs context) (numbers_from 1 (count_all context)) pairs_all out
       pub no_more : cost (shape_costs context) pairs_all out ≤ cost_of context shape
       pub few : ¬ (context.reached.kind ≡ Ordinary) → length out ≤ 1
-      pub as_many : shape.pairs ≤ (made_shape context pairs_all).pairs
-      pub as_low : shape.mdps ≤ (made_shape context pairs_all).mdps
+      pub more : List (ℕ × ℕ)
+      pub parts : pairs_all ≡ pairs ++ more
 
     meets_pair : (pair : ℕ × ℕ) → IsPair pair → (shape_costs context).meets pair.0 pair.1 ≡ true
     meets_pair pair e = or_left (are_pair context pair.0 pair.1) (are_paired_out context pair.0 pair.1) e
@@ -376,8 +309,8 @@ module _ (context : Context) where
         );
         few = λ other.
             few_by (number_may_be_left facts reached) (ends_round context.reached.kind) left (other_ends context.reached.kind once other) left_legal;
-        as_many = many_made pairs [] (sym (append-nil pairs));
-        as_low = low_made pairs [] (sym (append-nil pairs));
+        more = [];
+        parts = sym (append-nil pairs);
       }
 
     -- in the penultimate bracket
@@ -485,8 +418,8 @@ module _ (context : Context) where
           spare,
         );
         few = λ other. one_left.0;
-        as_many = many_made (pairs ++ rest.pairs) rest.pairs refl;
-        as_low = low_made (pairs ++ rest.pairs) rest.pairs refl;
+        more = rest.pairs;
+        parts = refl;
       }
 
     -- a candidate that can be chosen

@@ -4,10 +4,6 @@ pub mod MateCandidates
 pub mod MatchedCandidates
 pub mod AlwaysShapes
 pub mod UniformShapes
-pub mod PairPartners
-pub mod MatchingShapes
-pub mod GreatestMatchings
-pub mod BestGranting
 pub mod AllPaired
 pub mod ExchangeClasses
 pub mod RuledOutLemmas

@@ -16,9 +16,16 @@ use Rattle.dutch_bracket.specs.declared.wish.Wish.{Wish}
 use Rattle.dutch_bracket.specs.declared.wish.Wish.TheVariants.{Pair, LeftOver}
 use Rattle.dutch_bracket.specs.Prelude.{fixed_lists, lists_by, parts, are_these, grants}
 use Rattle.dutch_choice.specs.Prelude.{has_one_of, s1_bars, s1r_bars, halves_bar, rules_out}
-use Rattle.dutch_choice.proofs.BestGranting.{Are, are_so, found_in}
+use Rattle.dutch_bracket.proofs.AnyLemmas.{found_in}
 use Rattle.dutch_bracket.proofs.WishFits.{none_parted, place_of}
 use Rattle.dutch_order.proofs.Blocks.{goes-whole}
+
+-- a pair that is of two players, in one order or the other
+abbrev pub Are : ℕ → ℕ → ℕ × ℕ → Type 0
+Are p q pair = ((pair.0 ≡ p) × (pair.1 ≡ q)) ⊎ ((pair.0 ≡ q) × (pair.1 ≡ p))
+
+pub are_so : (p q : ℕ) (pair : ℕ × ℕ) → are_these p q pair ≡ true → Are p q pair
+are_so p q pair h = grind (arith, nat_tests)
 
 -- ---- the pairs of a beginning are pairs of each arrangement that begins so
 

@@ -3,7 +3,6 @@
 pub mod ShapeCosts
 pub mod Mates
 pub mod AlwaysShapes
-pub mod GreatestMatchings
 pub mod Starts
 pub mod Wishes
 pub mod Found

@@ -1,11 +1,11 @@
 -- The best of the candidates of a bracket that grant a wish (C.04.3 B.3, B.8), or why there is none (B.1, C.4, C.5).
-use Rattle.std.specs.Prelude.{◌≡◌, ◌<◌, ◌≤◌, ◌⊎◌, ◌+◌, ℕ, Bool, true, false, ◌&&◌, List, ◌∷◌, ◌++◌, filter, Option}
+use Rattle.std.specs.Prelude.{◌≡◌, ◌<◌, ◌≤◌, ◌⊎◌, ◌+◌, ℕ, Bool, true, false, ◌&&◌, List, filter, Option}
 use Rattle.std.specs.List.{list_any}
 use Rattle.dutch_order.specs.declared.bracket.Shape.{Shape}
-use Rattle.dutch_order.specs.Prelude.{Arrangement, IsIn}
+use Rattle.dutch_order.specs.Prelude.{Arrangement}
 use Rattle.dutch_player.specs.Prelude.{Facts}
 use Rattle.dutch_bracket.specs.declared.wish.Wish.{Wish}
-use Rattle.dutch_bracket.specs.Prelude.{Context, eligible_here, quality_here, Reached, frame_of, candidates_of, is_better_in, best, fits, grants}
+use Rattle.dutch_bracket.specs.Prelude.{Context, eligible_here, Reached, frame_of, candidates_of, is_better_in, best, fits, grants}
 
 -- C.4: the candidates of a shape that can be chosen and grant a wish
 abbrev pub granting : Context → Shape → Wish → List Arrangement
@@ -47,15 +47,3 @@ abbrev pub IsBarred : Facts → Reached → Wish → Shape → Type 0
 IsBarred facts reached wish shape =
     (list_any (grants wish) (candidates_of facts reached shape) ≡ true)
     ⊎ (NoneGrants facts reached wish shape 0 (shape.mdps + 1) × SomeGrants facts reached wish shape (shape.mdps + 1) (shape.pairs + 1))
-
--- of some candidates one stands before another one [with IsAsGoodBefore]
-pub record ComesBefore (c d : Arrangement) (all : List Arrangement) : Type 0 where
-  pub front : List Arrangement
-  pub behind : List Arrangement
-  pub parts : all ≡ front ++ c ∷ behind
-  pub later : IsIn d behind
-
--- a candidate is as good as another one, and is the same or stands before it [B.8]
-abbrev pub IsAsGoodBefore : Context → Shape → Arrangement → Arrangement → Type 0
-IsAsGoodBefore context shape c d =
-    (quality_here context c ≡ quality_here context d) × ((c ≡ d) ⊎ ComesBefore c d (eligible_here context shape))

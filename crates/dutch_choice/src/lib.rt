@@ -15,13 +15,11 @@ pub mod barred;
 mod certified;
 pub mod choice;
 pub mod finder;
-pub mod laws;
 pub mod lookahead;
 mod matched;
 mod players;
 mod ruled_out;
 pub mod shape;
-pub mod shape_laws;
 pub mod start;
 
 pub use choice::{Choice, choose};

@@ -3,3 +3,8 @@ pub mod GroupLaws
 pub mod StandsAbove
 pub mod DeadEndLaws
 pub mod BarrierLemmas
+pub mod PairPartners
+pub mod MatchingShapes
+pub mod CandidateShapes
+pub mod GreatestMatchings
+pub mod BestGranting

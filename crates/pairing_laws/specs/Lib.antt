@@ -1,3 +1,6 @@
--- What the laws of pairing_laws name of their own: rounds that can be followed by hand, and what weights cost.
+-- What the laws of pairing_laws name of their own: rounds that can be followed by hand, what weights cost, the greatest matchings of a
+-- bracket, and which candidate stands first.
 pub mod Examples
 pub mod Costs
+pub mod GreatestMatchings
+pub mod Wishes

@@ -1,9 +1,11 @@
 //! Laws of the pairing of a round (C.04.3), and of what it is made of: what holds of the definitions of `dual`,
-//! `dutch_order`, `dutch_bracket`, `dutch_weighing`, `dutch_weights` and `dutch_pair`, beyond what one call promises.
+//! `dutch_order`, `dutch_bracket`, `dutch_choice`, `dutch_weighing`, `dutch_weights` and `dutch_pair`, beyond what one
+//! call promises.
 //!
 //! Each law is a function with an empty body, or with one call of another law, and its contract is the law. No crate of
-//! the program uses them, so nothing waits for their proofs. `calls` gives what the calls on a bracket ask for, to
-//! whoever calls them; `examples` tries the definitions on rounds that can be followed by hand. Further laws stand in
+//! the program uses them, so none waits for their proofs. `calls` gives what the calls on a bracket ask for, to whoever
+//! calls them; `shapes` says by matchings what the shape of a bracket is, and `wishes` what the best candidate is that
+//! grants a wish; `examples` tries the definitions on rounds that can be followed by hand. Further laws stand in
 //! `dutch_order` (pairs in form) and `dutch_pair` (the boards as the next round of their report).
 #![tactic(auto)]
 
@@ -13,4 +15,6 @@ pub mod calls;
 pub mod certificates;
 pub mod examples;
 pub mod rounds;
+pub mod shapes;
 pub mod weights;
+pub mod wishes;

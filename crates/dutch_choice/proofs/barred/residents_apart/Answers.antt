@@ -1,5 +1,5 @@
 -- Two residents of whom each S1R of a class has both or neither do not meet.
-use Rattle.std.proofs.Common.{sym, ap, ◌∙◌, arith}
+use Rattle.std.proofs.Common.{ap, ◌∙◌, arith}
 use Rattle.dutch_bracket.specs.Prelude.{Reached, frame_of}
 use Rattle.dutch_bracket.proofs.LegalPairs.{legal_of}
 use Rattle.dutch_choice.proofs.RuledOutLemmas.{halves_out}

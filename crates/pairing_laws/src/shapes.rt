@@ -2,7 +2,7 @@
 ghost use Rattle.std.specs.Prelude.{◌≡◌, ℕ, List, None, Some};
 ghost use Rattle.dutch_order.specs.declared.bracket.Shape.{Shape};
 ghost use Rattle.dutch_bracket.specs.Prelude.{Context, IsOf, shape_here};
-ghost use Rattle.dutch_choice.specs.GreatestMatchings.{HasGreatestMatching, IsBracketMatching, IsGreatestMatching, made_shape};
+ghost use Rattle.pairing_laws.specs.GreatestMatchings.{HasGreatestMatching, IsBracketMatching, IsGreatestMatching, made_shape};
 
 /// The bracket's shape is that of a greatest matching (B.1, C.5): of all matchings of its players, in the penultimate
 /// bracket with all lower ones, none has more pairs in the bracket, and none as many and more moved-down players in

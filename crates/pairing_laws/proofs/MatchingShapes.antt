@@ -22,11 +22,11 @@ use Rattle.dutch_bracket.proofs.AllLemmas.{all_filter}
 use Rattle.dutch_bracket.proofs.ArrangementParts.{numbers_within}
 use Rattle.dutch_bracket.proofs.CandidatePairs.{high, low}
 use Rattle.dutch_bracket.proofs.Completions.{told_yes}
-use Rattle.dutch_choice.specs.GreatestMatchings.{IsBracketMatching, has_mdp, made_shape, pairs_here}
+use Rattle.pairing_laws.specs.GreatestMatchings.{IsBracketMatching, has_mdp, made_shape, pairs_here}
 use Rattle.dutch_choice.specs.ShapeCosts.{any_seat, are_pair, are_paired_out, count_all, may_stay, shape_costs}
 use Rattle.dutch_choice.proofs.CandidateCosts.{inside_mapped, lower_mapped, lowers}
 use Rattle.dutch_choice.proofs.MateCandidates.{alone_of, mates_eligible, mates_fit_here, number_is, pair_sym, shape_of_mates, two_numbers}
-use Rattle.dutch_choice.proofs.PairPartners.{Once, from_once, of_two, partner_back, partner_in, partner_met, partners_told}
+use Rattle.pairing_laws.proofs.PairPartners.{Once, from_once, of_two, partner_back, partner_in, partner_met, partners_told}
 
 -- ---- sums
 

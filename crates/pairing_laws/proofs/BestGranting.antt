@@ -13,23 +13,17 @@ use Rattle.dutch_order.proofs.Once.{candidates-once, filter-once}
 use Rattle.dutch_bracket.specs.declared.wish.Wish.{Wish}
 use Rattle.dutch_bracket.specs.declared.wish.Wish.TheVariants.{LeftOver, Pair}
 use Rattle.dutch_bracket.specs.Prelude.{first_unbeaten, is_unbeaten, Context, can_be_chosen_here, candidates_here, eligible_here, frame_here, quality_here, Quality, is_better, number_may_be_left, numbers_meet, best_of_shape, candidates_of, eligible, are_these, grants}
-use Rattle.dutch_choice.specs.Prelude.{ComesBefore, IsAsGoodBefore, best_granting, granting, is_better_here}
-use Rattle.dutch_bracket.proofs.AnyLemmas.{any_in}
-pub use Rattle.dutch_bracket.proofs.AnyLemmas.{found_in}
+use Rattle.dutch_choice.specs.Prelude.{best_granting, granting, is_better_here}
+use Rattle.dutch_bracket.proofs.AnyLemmas.{any_in, found_in}
 use Rattle.dutch_choice.proofs.BestLemmas.{in_unbeaten, order_in}
+use Rattle.dutch_choice.proofs.RuledOutLemmas.{Are, are_so}
+use Rattle.pairing_laws.specs.Wishes.{ComesBefore, IsAsGoodBefore}
 use Rattle.dutch_bracket.proofs.QualityOrder.{total}
 
 -- ---- when a wish is granted
 
 same_pair : (p q : ℕ) (pair : ℕ × ℕ) → pair.0 ≡ p → pair.1 ≡ q → pair ≡ (p, q)
 same_pair p q pair h g = ap (λ (x : ℕ). (x, pair.1)) h ∙ ap (λ (y : ℕ). (p, y)) g
-
--- a pair that is of two players, in one order or the other
-abbrev pub Are : ℕ → ℕ → ℕ × ℕ → Type 0
-Are p q pair = ((pair.0 ≡ p) × (pair.1 ≡ q)) ⊎ ((pair.0 ≡ q) × (pair.1 ≡ p))
-
-pub are_so : (p q : ℕ) (pair : ℕ × ℕ) → are_these p q pair ≡ true → Are p q pair
-are_so p q pair h = grind (arith, nat_tests)
 
 one_way : (p q : ℕ) (pair : ℕ × ℕ) (pairs : List (ℕ × ℕ)) → IsIn pair pairs → Are p q pair → IsIn (p, q) pairs ⊎ IsIn (q, p) pairs
 one_way p q pair pairs m (inl one) = inl (subst (λ x. IsIn x pairs) (same_pair p q pair one.0 one.1) m)

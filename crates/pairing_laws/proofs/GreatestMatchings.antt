@@ -8,9 +8,10 @@ use Rattle.dutch_bracket.specs.Prelude.{Context, FitsHere, IsGreater, IsOf, can_
 use Rattle.dutch_bracket.proofs.EligibleLemmas.{eligible_is}
 use Rattle.dutch_bracket.proofs.ShapeLaws.{has_one, has_room, none_has_one, none_is_greater}
 use Rattle.dutch_bracket.proofs.ShapeSearch.{member_of}
-use Rattle.dutch_choice.specs.GreatestMatchings.{HasGreatestMatching, IsBracketMatching, IsGreatestMatching, made_shape}
+use Rattle.pairing_laws.specs.GreatestMatchings.{HasGreatestMatching, IsBracketMatching, IsGreatestMatching, made_shape}
 use Rattle.dutch_choice.proofs.CandidateCosts.{whole_of}
-use Rattle.dutch_choice.proofs.MatchingShapes.{matching_eligible, matching_fits}
+use Rattle.pairing_laws.proofs.CandidateShapes.{low_made, many_made}
+use Rattle.pairing_laws.proofs.MatchingShapes.{matching_eligible, matching_fits}
 
 -- a matching whose shape is no less than this one
 record HasNoLess (context : Context) (shape : Shape) : Type 0 where
@@ -32,8 +33,8 @@ no_less context of' shape room some =
       pairs = all.pairs_all;
       out = all.out;
       matching = record { matching = all.matching; few = all.few };
-      as_many = all.as_many;
-      as_low = all.as_low;
+      as_many = many_made context of' shape one.0 room kept.0 all.pairs_all all.more all.parts;
+      as_low = low_made context of' shape one.0 room kept.0 all.pairs_all all.more all.parts;
     }
 
 no_more : (t s : Shape) → ¬ IsGreater t s → t.pairs ≤ s.pairs

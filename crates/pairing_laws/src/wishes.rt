@@ -7,7 +7,8 @@ ghost use Rattle.dutch_order.specs.declared.bracket.Shape.{Shape};
 ghost use Rattle.dutch_bracket.specs.declared.wish.Wish.{Wish};
 ghost use Rattle.dutch_bracket.specs.declared.wish.Wish.TheVariants.{LeftOver, Pair};
 ghost use Rattle.dutch_bracket.specs.Prelude.{Context, eligible_here, best_of_shape, grants};
-ghost use Rattle.dutch_choice.specs.Wishes.{ComesBefore, IsAsGoodBefore, best_granting, is_better_here};
+ghost use Rattle.dutch_choice.specs.Wishes.{best_granting, is_better_here};
+ghost use Rattle.pairing_laws.specs.Wishes.{ComesBefore, IsAsGoodBefore};
 
 /// That two meet is granted exactly if they are one of an arrangement's pairs. That a player of the bracket is left
 /// over is granted exactly if they are one of its downfloaters. None of some candidates grants a wish exactly if each
