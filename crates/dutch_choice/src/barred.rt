@@ -4,7 +4,7 @@ ghost use Rattle.dutch_order.specs.declared.bracket.Shape.{Shape};
 ghost use Rattle.dutch_order.specs.Prelude.{Arrangement, IsExchange, IsIn, Begins};
 ghost use Rattle.dutch_bracket.specs.Prelude.{FitsHere, OfEachWithBeginning, candidates_here, candidates_in};
 ghost use Rattle.dutch_bracket.specs.Prelude.{grants};
-ghost use Rattle.dutch_bracket.specs.declared.wish.Wish.TheVariants.{LeftOver, Pair};
+ghost use Rattle.dutch_bracket.specs.declared.wish.Wish.TheVariants.{LeftOver};
 
 use crate::ruled_out::{is_ruled_out, keeps_together};
 use dutch_bracket::context::Context;
@@ -52,23 +52,15 @@ pub fn rules_out(shaped: &ShapedBracket<'_>, wish: Wish, prefix: &Prefix<'_>) ->
     bars(shaped, wish) || begins_without(shaped.context, wish, prefix)
 }
 
-/// Of two residents who meet, S1R has one alone.
-#[tactic(auto, using(crate::proofs::RuledOutLemmas::halves_out))]
-fn residents_apart(context: &Context<'_>, p: u16, q: u16, exchange: &Exchange<'_>) -> bool
-    ensures { result ≡ true → (shape : Shape) (a : Arrangement) → FitsHere context.now shape
-        → IsIn a (candidates_here context.now shape) → IsExchange exchange.now a.s1r → grants (Pair p q) a ≡ false }
-{
-    let mdps = context.reached().mdps();
-    mdps < usize::from(p.min(q)) && keeps_together(p, q, exchange)
-}
-
-/// Yes if such an S1R rules the wish out, so that who looks for it may skip all that have one. A no says nothing.
+/// Yes if such an S1R rules the wish out, so that who looks for it may skip all that have one: of two residents who
+/// meet, S1R has one alone. A no says nothing.
 pub fn rules_out_with(shaped: &ShapedBracket<'_>, wish: Wish, exchange: &Exchange<'_>) -> bool
     ensures { result ≡ true → (a : Arrangement) → IsIn a (candidates_in shaped.now) → IsExchange exchange.now a.s1r
         → grants wish a ≡ false }
 {
+    let mdps = shaped.context.reached().mdps();
     match wish {
-        Wish::Pair(p, q) => residents_apart(shaped.context, p, q, exchange),
-        Wish::LeftOver(_) => false,
+        Wish::Pair(p, q) if mdps < usize::from(p.min(q)) => keeps_together(p, q, exchange),
+        Wish::Pair(_, _) | Wish::LeftOver(_) => false,
     }
 }

@@ -3,11 +3,11 @@
 // at.
 ghost use Rattle.std.specs.Prelude.{◌≡◌, ℕ, List, false, nat_le, true};
 ghost use Rattle.std.specs.List.{list_any, zip};
-ghost use Rattle.dutch_order.specs.Prelude.{IsExchange, IsIn, pairs_by_number};
+ghost use Rattle.dutch_order.specs.Prelude.{IsExchange, IsIn};
 ghost use Rattle.dutch_bracket.specs.Prelude.{parts};
 ghost use Rattle.dutch_choice.specs.RuledOut.{has_one_of, s1_bars, s1r_bars, halves_bar, rules_out};
 
-use dutch_bracket::fixed_lists::{FixedLists, fixed_lists};
+use dutch_bracket::fixed_lists::fixed_lists;
 use dutch_bracket::wish::{Wish, leave_over, parts};
 use dutch_order::{Exchange, Filling, Prefix};
 
@@ -18,13 +18,6 @@ fn part_in(p: u16, q: u16, firsts: &[u16], seconds: &[u16]) -> bool
         .iter()
         .zip(seconds.iter())
         .any(|(first, second)| parts(p, q, (*first, *second)))
-}
-
-#[tactic(auto, using(dutch_bracket::proofs::WishLemmas::pairs_found))]
-fn have_others(p: u16, q: u16, lists: &FixedLists<'_>) -> bool
-    ensures { result ≡ list_any (parts p q) (pairs_by_number lists.now) }
-{
-    part_in(p, q, lists.s1, lists.s2) || part_in(p, q, lists.s1r, lists.s2r)
 }
 
 fn has_one_of(p: u16, q: u16, numbers: &[u16]) -> bool
@@ -65,12 +58,17 @@ fn halves_bar(mdps: usize, p: u16, q: u16, prefix: &Prefix<'_>) -> bool
     }
 }
 
+#[tactic(auto, using(dutch_bracket::proofs::WishLemmas::pairs_found))]
 pub(crate) fn is_ruled_out(wish: Wish, mdps: usize, prefix: &Prefix<'_>) -> bool
     ensures { result ≡ rules_out mdps wish prefix.now }
 {
     let lists = fixed_lists(prefix);
     match wish {
-        Wish::Pair(p, q) => have_others(p, q, &lists) || halves_bar(mdps, p, q, prefix),
+        Wish::Pair(p, q) => {
+            part_in(p, q, lists.s1, lists.s2)
+                || part_in(p, q, lists.s1r, lists.s2r)
+                || halves_bar(mdps, p, q, prefix)
+        }
         Wish::LeftOver(p) => !leave_over(p, &lists),
     }
 }
