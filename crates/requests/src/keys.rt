@@ -1,7 +1,7 @@
 // The keys of the standings, as `--by` names them: a list of one to three names, none twice.
 ghost use Rattle.std.specs.Prelude.{◌≡◌, ◌<◌, [], ◌∷◌, length, option_map, IfSome};
 ghost use Rattle.std.specs.List.{list_any};
-ghost use Rattle.requests.specs.KeySteps.{names_left, with_key, with_name};
+ghost use Rattle.requests.specs.KeySteps.{names_left, with_key};
 ghost use Rattle.requests.specs.Keys.{is_same, key_named, keys_in, names, usual_keys};
 
 use std::marker::Model;
@@ -68,13 +68,6 @@ impl Keys {
         self.count += 1;
         Some(self)
     }
-
-    // The keys and the one that a name stands for.
-    fn with_name(self, name: &str) -> Option<Keys>
-        ensures { result ≡ with_name self name.now }
-    {
-        self.with(key_named(name)?)
-    }
 }
 
 /// The keys that a list of names, parted by commas, stands for; each name is in lower case.
@@ -86,7 +79,7 @@ pub fn keys_in(text: &str) -> Option<Keys>
     let mut rest = Some(text);
     while let Some(list) = rest {
         let (name, others) = first_name(list);
-        keys = keys.with_name(name)?;
+        keys = keys.with(key_named(name)?)?;
         rest = others;
     }
     Some(keys)
