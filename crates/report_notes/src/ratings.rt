@@ -2,7 +2,7 @@
 ghost use Rattle.std.specs.Prelude.{◌≡◌, ◌∷◌, [], min, Some};
 ghost use Rattle.std.specs.List.{cons_option, reduce};
 ghost use Rattle.trf16.specs.Prelude.{entry_of};
-ghost use Rattle.report_notes.specs.Ratings.{first_rated_below, is_late, is_rated_below, rated_above, rating_of};
+ghost use Rattle.report_notes.specs.Ratings.{first_rated_below, is_rated_below, rated_above, rating_of};
 
 use crate::fields::number_in;
 use trf16::{Player, Report, split_columns};
@@ -61,19 +61,14 @@ fn first_rated_below(report: &Report<'_>, start: u16, rating: u16) -> Option<u16
     first
 }
 
-// In front of the first round nobody is late.
-fn is_late(report: &Report<'_>, player: &Player<'_>) -> bool
-    ensures { result ≡ is_late report.now (entry_of player.now) }
-{
-    0 < report.rounds_played() && player.cells.is_empty()
-}
-
 /// The rating of a player who comes late, and of the players who are rated below, though with a smaller start rank, the
 /// first by start rank.
 pub(crate) fn rated_above(report: &Report<'_>, player: &Player<'_>) -> Option<RatedAbove>
     ensures { result ≡ rated_above report.now (entry_of player.now) }
 {
-    if !is_late(report, player) {
+    // In front of the first round nobody is late.
+    let is_late = 0 < report.rounds_played() && player.cells.is_empty();
+    if !is_late {
         return None;
     }
     let rating = rating_of(player, report.is_utf8())?;
