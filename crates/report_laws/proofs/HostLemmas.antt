@@ -13,7 +13,8 @@ use Rattle.trf16.specs.declared.cell.Colour.TheVariants.{White, Black}
 use Rattle.trf16.specs.Prelude.{AnswerEachOther, Entry, HasOwnStarts, IsAnswered, Sheet, cell_at, cell_in, cells_of, is_paired, known, opponent_in_cell, starts_of, verdict}
 use Rattle.trf16_laws.proofs.MeetingLemmas.{answered}
 use Rattle.trf16_writer.proofs.StartRanks.{own_starts}
-use Rattle.tables.specs.Prelude.{EachOnOne, board_at, board_by, boards_of, colour_by, colour_in, has, is_bye_of, is_of, ranks_above, score_before, seated}
+use Rattle.report_laws.specs.EachOnOne.{EachOnOne, has, is_bye_of, is_of}
+use Rattle.tables.specs.Prelude.{board_at, board_by, boards_of, colour_by, colour_in, ranks_above, score_before, seated}
 use Rattle.tables.specs.Boards.{board_of_bye, board_of_two}
 use Rattle.tables.specs.declared.board.RankedBoard.{RankedBoard}
 use Rattle.report_laws.proofs.BoardCounts.{passes, count_one, count_nothing}

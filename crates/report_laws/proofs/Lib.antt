@@ -21,6 +21,7 @@ pub mod BoardCounts
 pub mod HostLemmas
 pub mod BoardOrders
 pub mod PutBoards
+pub mod StandingOrder
 pub mod StandingRows
 pub mod StandingLevels
 pub mod StandingKeys

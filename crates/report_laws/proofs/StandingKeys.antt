@@ -5,7 +5,8 @@ use Rattle.std.proofs.lemmas.List.Elements.{All-map}
 use Rattle.std.proofs.lemmas.List.Sorted.{All-permutation}
 use Rattle.trf16.specs.Prelude.{Sheet}
 use Rattle.tables.specs.declared.key.Key.{Key}
-use Rattle.tables.specs.Prelude.{RowFacts, value_of, row_goes_before, ranked, row_of, with_value, with_key, with_keys, judged, standings_of, HasEachKey}
+use Rattle.tables.specs.Prelude.{RowFacts, value_of, row_goes_before, ranked, row_of, with_value, with_key, with_keys, judged, standings_of}
+use Rattle.report_laws.specs.Standings.{HasEachKey}
 use Rattle.trf16.proofs.RankLemmas.{ranked_moves}
 use Rattle.report_laws.proofs.StandingRows.{rows-given}
 

@@ -5,7 +5,8 @@ use Rattle.std.proofs.lemmas.List.Sorted.{IsPermutation-map}
 use Rattle.trf16.specs.Prelude.{Entry, Sheet}
 use Rattle.tables.specs.declared.key.Key.{Key}
 use Rattle.tables.specs.declared.fault.TieFault.{TieFault}
-use Rattle.tables.specs.Prelude.{RowFacts, value_of, row_goes_before, ranked, row_of, with_value, with_key, with_keys, judged, standings_of, HasEachOnce}
+use Rattle.tables.specs.Prelude.{RowFacts, value_of, row_goes_before, ranked, row_of, with_value, with_key, with_keys, judged, standings_of}
+use Rattle.report_laws.specs.Standings.{HasEachOnce}
 use Rattle.trf16.proofs.RankLemmas.{ranked_moves}
 use Rattle.trf16.specs.Outcomes.{◌>>=◌}
 

@@ -1,10 +1,11 @@
-//! Laws on the present players of a report, on the report as it stood before a round, on the boards of a round, on the
-//! report with new start ranks, and on what looks like a mistake in a report: what holds of the definitions, beyond
-//! what one call promises.
+//! Laws on the present players of a report, on its standings, on the report as it stood before a round, on the boards
+//! of a round, on the report with new start ranks, and on what looks like a mistake in a report: what holds of the
+//! definitions, beyond what one call promises.
 //!
-//! Each law is a function with an empty body, and its contract is the law. No other crate uses them. They tie the
-//! definitions of `trf16` on earlier rounds to those of the crates above it, which `trf16` itself cannot name. Those on
-//! players, on start ranks and on mistakes stand here so that nothing waits for their proofs.
+//! Each law is a function whose contract is the law, and its body is empty or reads what the law is about. No other
+//! crate uses them. They tie the definitions of `trf16` on earlier rounds to those of the crates above it, which
+//! `trf16` itself cannot name. Those on players, on standings, on start ranks and on mistakes stand here so that nothing
+//! waits for their proofs.
 #![tactic(auto)]
 
 pub mod notes;

@@ -5,7 +5,8 @@ ghost use Rattle.trf16.specs.declared.cell.Colour.{Colour};
 ghost use Rattle.trf16.specs.declared.limits.TheConstants.{MOST_ROUNDS};
 ghost use Rattle.dutch_player.specs.Prelude.{Facts, facts_of};
 ghost use Rattle.dutch_pair.specs.Prelude.{Pairing, boards, round};
-ghost use Rattle.tables.specs.Prelude.{EachOnOne, boards_of};
+ghost use Rattle.tables.specs.Prelude.{boards_of};
+ghost use Rattle.report_laws.specs.EachOnOne.{EachOnOne};
 
 /// In an accepted report each two players who name each other in a round stand on exactly one board of it, whoever has
 /// the pairing-allocated bye stands on exactly one, and nobody else stands on any.

@@ -1,9 +1,7 @@
--- What the contracts of tables name: games, keys and standings; the boards of a round, their order, and who stands on them.
+-- What the contracts of tables name: games, keys and standings; the boards of a round, and their order.
 pub mod Games
 pub mod Keys
 pub mod Outcomes
 pub mod Standings
-pub mod Laws
 pub mod Boards
-pub mod EachOnOne
 pub mod Prelude

@@ -4,7 +4,5 @@ pub use Rattle.tables.specs.Keys.{RowFacts, buchholz, direct_in, group_of, have_
 pub use Rattle.tables.specs.Outcomes.{Fails, Gives}
 pub use Rattle.tables.specs.Standings.{IsRanked, no_row, ranked, refused, row_at, row_cmp, row_goes_before, row_of, with_key, with_keys, with_value}
 unfoldable pub use Rattle.tables.specs.Standings.{judged, standings_of}
-pub use Rattle.tables.specs.Laws.{HasEachKey, HasEachOnce}
 pub use Rattle.tables.specs.Boards.{board_at, board_by, board_goes_before, boards_of, boards_unordered, colour_by, colour_in, place_cmp, ranks_above, score_before, seated}
 unfoldable pub use Rattle.tables.specs.Boards.{board_of_bye, board_of_two}
-pub use Rattle.tables.specs.EachOnOne.{EachOnOne, has, is_bye_of, is_of}

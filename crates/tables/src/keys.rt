@@ -41,7 +41,7 @@ fn group_of(alloc: Global, rows: &[Row], row: &Row) -> Result<Vec<u16>, AllocErr
     ensures { IfOk result (λ v. v.items ≡ group_of rows.now row.now) }
 {
     rows.iter()
-        .filter(|other| row.is_level(other))
+        .filter(|other| row.score() == other.score() && row.values() == other.values())
         .map(|other| other.start())
         .collect(alloc)
 }

@@ -2,8 +2,8 @@
 //! Specified by sums over the rounds that were paired, by the report's cells, and by one order of rows and one of boards.
 //!
 //! `table` gives the rows of all players of a report in order, each with a value for each key, or tells the first
-//! reason, in one stated order, why there are no standings. Laws say that each player has one row, and that no row goes
-//! before one in front of it.
+//! reason, in one stated order, why there are no standings. Laws in `report_laws` say that each player has one row, and
+//! that no row goes before one in front of it.
 //!
 //! `boards_of` gives who sat with white and with black at each board of a round, in the order in which the boards of a
 //! round are paired, whatever the results are. Laws say that all who play in the round stand on one board, and nobody
@@ -22,7 +22,6 @@ mod fault;
 mod games;
 mod key;
 mod keys;
-pub mod laws;
 mod ranking;
 mod refusals;
 mod row;

@@ -1,6 +1,5 @@
 // One player's row in the standings.
 ghost use Rattle.std.specs.Prelude.{◌≡◌, IfOk};
-ghost use Rattle.tables.specs.Keys.{is_level};
 ghost use Rattle.tables.specs.Standings.{with_value, row_goes_before};
 
 use crate::ranking::Placed;
@@ -70,12 +69,6 @@ impl Row {
             score: self.score,
             values,
         })
-    }
-
-    pub(crate) fn is_level(&self, other: &Row) -> bool
-        ensures { result ≡ is_level self.now other.now }
-    {
-        self.score == other.score && self.values == other.values
     }
 }
 
