@@ -123,25 +123,11 @@ fn tell_paired<F: Finder>(
         Some(number) => {
             let asked = Asked { player, number };
             let steps = options.steps;
-            with_instead::<F>(alloc, text, round, AskedInSteps { asked, steps })
+            let reply = instead::<F>(alloc, round, AskedInSteps { asked, steps })?;
+            reply.behind(text.into_bytes())
         }
         None => Ok(Reply::bytes(Status::Done, text.into_bytes())),
     }
-}
-
-// A text, and behind it why the player does not meet another one.
-fn with_instead<F: Finder>(
-    alloc: Global,
-    text: Page,
-    round: &Paired<'_>,
-    asking: AskedInSteps,
-) -> Result<Reply, AllocError>
-    requires front { text ≡ front_text round.now asking.asked.player }
-    requires stages { AllByRecursion (IsStage round.now.telling.facts) round.now.stages }
-    ensures { IfOk result (λ reply. IsToldBehind round.now asking.steps asking.asked.player asking.asked.number
-        (answer_of reply)) }
-{
-    instead::<F>(alloc, round, asking)?.behind(text.into_bytes())
 }
 
 // Puts what is told of a player: their line and their brackets, or that they are absent.

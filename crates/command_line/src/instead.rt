@@ -7,7 +7,7 @@ ghost use Rattle.dutch_bracket.specs.Prelude.{grants};
 ghost use Rattle.command_line.specs.InsteadAnswers.{AnswersInstead, AnswersPresent, AnswersWish, IsSearched};
 ghost use Rattle.command_line.specs.InsteadAnswers.{decided_in};
 ghost use Rattle.command_line.specs.InsteadAnswers.{goes_on, number_among, number_in, obstacle_of, rival_of};
-ghost use Rattle.command_line.specs.InsteadAnswers.{stands_in, stands_in_one, wish_in};
+ghost use Rattle.command_line.specs.InsteadAnswers.{stands_in_one, wish_in};
 ghost use Rattle.stage_lines.specs.InsteadTexts.{in_bracket, instead_text, search_answer};
 ghost use Rattle.round_lines.specs.Obstacles.{obstacle_text};
 ghost use Rattle.replies.specs.Prelude.{answer_of, done};
@@ -155,16 +155,12 @@ fn stands_against(
     Ok(Reply::bytes(Status::Done, text.into_bytes()))
 }
 
-fn stands_in(stage: &Stage, seat: u16) -> bool
-    ensures { result ≡ stands_in seat stage.now }
-{
-    stage.reached().seats().contains(&seat)
-}
-
 fn stands_in_one(stages: &[Stage], seat: u16) -> bool
     ensures { result ≡ stands_in_one stages.now seat }
 {
-    stages.iter().any(|stage| stands_in(stage, seat))
+    stages
+        .iter()
+        .any(|stage| stage.reached().seats().contains(&seat))
 }
 
 // The bye is given behind all brackets.
