@@ -4,8 +4,8 @@ ghost use Rattle.std.specs.List.{AllByRecursion};
 ghost use Rattle.dutch_pair.specs.Prelude.{IsStage};
 ghost use Rattle.trf16.specs.Prelude.{verdict};
 ghost use Rattle.dutch_player.specs.Prelude.{seat_with};
-ghost use Rattle.command_line.specs.ExplainAnswers.{AnswersExplain, ExplainsAsked, IsExplained, IsToldBehind};
-ghost use Rattle.command_line.specs.ExplainAnswers.{TellsPaired, about_text, front_text, present_text};
+ghost use Rattle.command_line.specs.ExplainAnswers.{AnswersExplain, ExplainsAsked, IsExplained};
+ghost use Rattle.command_line.specs.ExplainAnswers.{TellsPaired, about_text, present_text};
 ghost use Rattle.replies.specs.Prelude.{answer_of, question_fault, seen_before};
 
 use crate::instead::{AskedInSteps, Paired, instead};
