@@ -83,9 +83,13 @@ impl Default for LonelyRoom {
 }
 
 impl LonelyRoom {
-    /// Forgets all that was seen. Nobody is paired.
-    pub(crate) fn clear(&mut self) {
-        *self = LonelyRoom::default();
+    /// Forgets all that was seen in a bracket of so many players. Nobody is paired.
+    pub(crate) fn clear(&mut self, players: usize) {
+        let count = players.min(LIMIT) + 1;
+        self.leaning.suitors[..count].fill(0);
+        self.leaning.counts[..count].fill(0);
+        self.paired[..count].fill(false);
+        self.is_clear = false;
     }
 
     fn set_paired(&mut self, pair: Pair, is_paired: bool) {

@@ -25,11 +25,11 @@ pub struct FloorNotes {
 }
 
 impl FloorNotes {
-    /// Forgets all pairs, and who leans on whom.
-    pub fn clear(&mut self)
+    /// Forgets all pairs of a bracket of so many players, and who leans on whom.
+    pub fn clear(&mut self, players: usize)
         ensures { (basis : Basis) → AreKnown basis self.new.known }
     {
         self.known.clear();
-        self.lonely.clear();
+        self.lonely.clear(players);
     }
 }
