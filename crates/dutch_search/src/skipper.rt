@@ -197,8 +197,8 @@ impl<'a, 'k> Bound for Skipper<'a, 'k> {
     ghost Holds = { λ s work. AreKnown s.counts.now work.notes.floors.known };
 
     fn start(&self, work: &mut Workroom<WalkNotes>) {
-        let players = self.so_far.pass.shaped.context.len();
-        work.notes.floors.clear(players);
+        let pass = self.so_far.pass;
+        work.notes.floors.clear(pass.shaped.context.len());
     }
 
     #[tactic(auto, using(dutch_passes::proofs::AimLemmas::unwished_is_idle, dutch_passes::proofs::AimLemmas::loser_is_idle, dutch_passes::proofs::AimLemmas::loser_if_open_is_idle), unfolding(dutch_bracket::specs::Brackets::candidates_of))]
