@@ -1,6 +1,6 @@
 #!/bin/sh
 # Measures whether the rounds of reports/ can be paired at all (C.04.3 A.9): runs the small program completion.rattle over the crate
-# dutch_bracket, in a folder of its own, over all reports of the folder reports/ beside it, or of the folder given. Steps are exact; the times
+# dutch_completion, in a folder of its own, over all reports of the folder reports/ beside it, or of the folder given. Steps are exact; the times
 # are those of a trial build, which is not optimised. (The program is no crate of the repository, so it does not end in .rt.)
 set -e
 here=$(cd "$(dirname "$0")" && pwd)
@@ -8,14 +8,14 @@ reports=$(cd "${1:-$here/reports}" && pwd)
 work=$(mktemp -d)
 trap 'rm -rf "$work"' EXIT
 mkdir "$work/crates"
-for crate in trf16 dutch_player dutch_sequence dutch_order dual matching dutch_bracket; do
+for crate in trf16 trf16_reader dutch_player dutch_sequence dutch_order dual matching dutch_bracket dutch_completion; do
     cp -r "$here/../crates/$crate" "$work/crates/$crate"
 done
 mkdir -p "$work/crates/completion/src"
 cp "$here/completion.rattle" "$work/crates/completion/src/main.rt"
 {
-    grep -E '^(trf16|dutch_player|dutch_sequence|dutch_order|dual|matching|dutch_bracket):' "$here/../crates.txt"
-    echo 'completion: dutch_bracket dutch_player dutch_order trf16 arrayvec'
+    grep -E '^(trf16|trf16_reader|dutch_player|dutch_sequence|dutch_order|dual|matching|dutch_bracket|dutch_completion):' "$here/../crates.txt"
+    echo 'completion: dutch_completion dutch_bracket dutch_player dutch_order trf16_reader trf16 arrayvec'
 } > "$work/crates.txt"
 set --
 names=

@@ -11,9 +11,9 @@ use Rattle.trf16.specs.Prelude.{apart, Sheet, cell_in, rounds_played}
 use Rattle.trf16.specs.declared.cell.Colour.{Colour}
 use Rattle.trf16.specs.declared.cell.Colour.TheVariants.{White, Black}
 use Rattle.answer_laws.specs.InsteadLaws.{HaveMetFirst, ColoursClash, StandsAgainstMeeting, StandsAgainstBye}
-use Rattle.round_lines.specs.Obstacles.{against_bye, against_meeting, first_against, first_meeting, has_played, is_even}
-use Rattle.round_lines.specs.declared.obstacle.Obstacle.{Obstacle}
-use Rattle.round_lines.specs.declared.obstacle.Obstacle.TheVariants.{Met, Apart, Colours, HadBye, Even}
+use Rattle.player_lines.specs.Obstacles.{against_bye, against_meeting, first_against, first_meeting, has_played, is_even}
+use Rattle.player_lines.specs.declared.obstacle.Obstacle.{Obstacle}
+use Rattle.player_lines.specs.declared.obstacle.Obstacle.TheVariants.{Met, Apart, Colours, HadBye, Even}
 
 -- ---- the first of some numbers that passes a test
 

@@ -6,11 +6,12 @@ use Rattle.dutch_order.specs.Prelude.{Arrangement, IsIn}
 use Rattle.dutch_sequence.proofs.Orders.{filter-IsIn}
 use Rattle.dutch_player.specs.Prelude.{Facts}
 use Rattle.dutch_pair.specs.Prelude.{above_lower, lower_of, IsStage, IsInstead}
-use Rattle.dutch_bracket.specs.Prelude.{frame_of, can_be_chosen, candidates_of, eligible, fits, has_member, grants}
+use Rattle.dutch_bracket.specs.Prelude.{frame_of, can_be_chosen, candidates_of, eligible, fits, has_member}
+use Rattle.dutch_candidates.specs.Wishes.{grants}
 use Rattle.dutch_choice.specs.Prelude.{IsBarred, some_grants, with_mdps}
 use Rattle.dutch_pair.specs.declared.instead.Instead.TheVariants.{FewerMovedDown, NoneEligible, NoneLegal}
 use Rattle.dutch_pair.specs.declared.stage.Stage.{Stage}
-use Rattle.dutch_bracket.specs.declared.wish.Wish.{Wish}
+use Rattle.dutch_candidates.specs.declared.wish.Wish.{Wish}
 use Rattle.dutch_bracket.proofs.AnyLemmas.{found_in}
 use Rattle.pairing_laws.proofs.BestGranting.{none_by_test}
 use Rattle.dutch_pair.proofs.InsteadLemmas.{stage_shape}

@@ -5,16 +5,17 @@ use Rattle.dutch_player.specs.Prelude.{Facts, seat_at, opponent_played, is_topsc
 use Rattle.dutch_player.specs.declared.preference.Strength.TheVariants.{Absolute}
 use Rattle.dutch_player.specs.declared.preference.Pref.{Pref}
 use Rattle.dutch_pair.specs.Prelude.{lower_of}
-use Rattle.dutch_bracket.specs.Prelude.{frame_of, can_be_chosen, candidates_of, grants}
+use Rattle.dutch_bracket.specs.Prelude.{frame_of, can_be_chosen, candidates_of}
+use Rattle.dutch_candidates.specs.Wishes.{grants}
 use Rattle.dutch_choice.specs.Prelude.{with_mdps}
 use Rattle.dutch_pair.specs.declared.stage.Stage.{Stage}
-use Rattle.dutch_bracket.specs.declared.wish.Wish.{Wish}
+use Rattle.dutch_candidates.specs.declared.wish.Wish.{Wish}
 use Rattle.trf16.specs.Prelude.{apart, Sheet, cell_in, rounds_played}
 use Rattle.command_line.specs.InsteadAnswers.{goes_on, stands_in, stands_in_one, wish_in}
 use Rattle.command_line.specs.declared.instead.Rival.{Rival}
 use Rattle.command_line.specs.declared.instead.Rival.TheVariants.{Bye, Seat}
-use Rattle.round_lines.specs.declared.obstacle.Obstacle.{Obstacle}
-use Rattle.round_lines.specs.declared.obstacle.Obstacle.TheVariants.{Absent, Met, Apart, Colours, HadBye, Even}
+use Rattle.player_lines.specs.declared.obstacle.Obstacle.{Obstacle}
+use Rattle.player_lines.specs.declared.obstacle.Obstacle.TheVariants.{Absent, Met, Apart, Colours, HadBye, Even}
 
 -- C.1: one has played a game against the other in a round, and in none before it
 pub record HaveMetFirst (sheet : Sheet) (one other round : ℕ) : Type 0 where

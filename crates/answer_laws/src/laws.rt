@@ -5,13 +5,13 @@ ghost use Rattle.trf16.specs.Prelude.{Sheet};
 ghost use Rattle.dutch_pair.specs.Prelude.{above_lower, IsStage, IsInstead, Pairing, round, visit};
 ghost use Rattle.dutch_pair.specs.declared.instead.Instead.TheVariants.{FewerMovedDown, NoneEligible, NoneLegal};
 ghost use Rattle.dutch_pair.specs.declared.stage.Stage.{Stage};
-ghost use Rattle.dutch_bracket.specs.declared.wish.Wish.{Wish};
+ghost use Rattle.dutch_candidates.specs.declared.wish.Wish.{Wish};
 ghost use Rattle.command_line.specs.InsteadAnswers.{decided_in, IsRival};
 ghost use Rattle.command_line.specs.declared.instead.Rival.{Rival};
 ghost use Rattle.answer_laws.specs.InsteadLaws.{IsDecidedIn, NoneCanBeChosen, NoneWithAsManyMovedDown};
 ghost use Rattle.answer_laws.specs.InsteadLaws.{NoneWithAsManyPairs, StandsAgainstBye, StandsAgainstMeeting};
-ghost use Rattle.round_lines.specs.Obstacles.{against_bye, against_meeting};
-ghost use Rattle.round_lines.specs.declared.obstacle.Obstacle.{Obstacle};
+ghost use Rattle.player_lines.specs.Obstacles.{against_bye, against_meeting};
+ghost use Rattle.player_lines.specs.declared.obstacle.Obstacle.{Obstacle};
 
 /// What is told against a meeting of two players stands: they have played in that round, and in none before it (C.1); a
 /// line `XXP` names both; or both have absolute preferences for one colour, and neither is a topscorer (C.3).

@@ -8,7 +8,8 @@ use Rattle.clap.specs.ValueTests.{is_numeral, is_unsigned_in}
 use Rattle.clap.specs.Words.{Row, Text, one_of, subcommand_of}
 use Rattle.dutch_order.specs.Prelude.{has_syntax}
 use Rattle.trf16.specs.declared.cell.Colour.{Colour}
-use Rattle.command_line.specs.Known.{CanBeAnswered, HasFewRounds}
+use Rattle.command_line.specs.Known.{CanBeAnswered}
+use Rattle.round_commands.specs.Known.{HasFewRounds}
 use Rattle.requests.specs.Prelude.{boards_options, bye_in, candidates_options, check_options, explain_options, flag_in, format_options, initial_in, number_in, number_of, pair_options, round_in, rounds_in, shown_by, standings_options, steps_in, AsksFor, arbiter_app, candidates_request, explain_request, pair_request, request_of, standings_request, task_by, with_bye}
 use Rattle.requests.specs.Options.{◌>>=◌}
 use Rattle.requests.specs.declared.options.PairOptions.{PairOptions}

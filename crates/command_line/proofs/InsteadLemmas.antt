@@ -9,11 +9,12 @@ use Rattle.dutch_pair.specs.Prelude.{above_lower, IsStage, IsInstead}
 use Rattle.dutch_bracket.specs.Prelude.{score_at}
 use Rattle.dutch_pair.specs.declared.instead.Instead.{Instead}
 use Rattle.dutch_pair.specs.declared.stage.Stage.{Stage}
-use Rattle.dutch_bracket.specs.declared.wish.Wish.{Wish}
+use Rattle.dutch_candidates.specs.declared.wish.Wish.{Wish}
 use Rattle.command_line.specs.InsteadAnswers.{AnswersPresent, IsSearched}
-use Rattle.stage_lines.specs.InsteadTexts.{instead_text, search_answer}
-use Rattle.round_lines.specs.Obstacles.{obstacle_text}
-use Rattle.round_lines.specs.declared.obstacle.Obstacle.{Obstacle}
+use Rattle.stage_lines.specs.InsteadTexts.{instead_text}
+use Rattle.command_line.specs.InsteadAnswers.{search_answer}
+use Rattle.player_lines.specs.Obstacles.{obstacle_text}
+use Rattle.player_lines.specs.declared.obstacle.Obstacle.{Obstacle}
 use Rattle.round_lines.specs.Tellings.{TellingFacts}
 use Rattle.replies.specs.Prelude.{answer_of, done}
 use Rattle.replies.specs.declared.reply.Reply.{Reply}

@@ -2,10 +2,10 @@
 use Rattle.std.specs.Prelude.{◌≡◌, ℕ, List, Result}
 use Rattle.trf16.specs.Prelude.{Sheet, verdict}
 use Rattle.trf16.specs.declared.fault.Fault.{Fault}
-use Rattle.command_line.specs.CandidateAnswers.{AnswersCandidates}
+use Rattle.round_commands.specs.CandidateAnswers.{AnswersCandidates}
 use Rattle.command_line.specs.ExplainAnswers.{AnswersExplain}
-use Rattle.command_line.specs.PairAnswers.{AnswersPair}
-use Rattle.command_line.specs.BoardsAnswers.{boards_answer}
+use Rattle.round_commands.specs.PairAnswers.{AnswersPair}
+use Rattle.round_commands.specs.BoardsAnswers.{boards_answer}
 use Rattle.replies.specs.Prelude.{check_answer, format_answer, format_verdict, seen_before, standings_answer, Answer}
 use Rattle.requests.specs.declared.words.Task.{Task}
 use Rattle.requests.specs.declared.words.Request.{Request}

@@ -9,8 +9,8 @@ use Rattle.trf16.specs.Prelude.{Sheet}
 use Rattle.stage_lines.specs.BarrierTexts.{no_pairing_text, reason_text}
 use Rattle.stage_lines.specs.ExplainTexts.{stages_text}
 use Rattle.command_line.specs.InsteadAnswers.{AnswersInstead, PairedRound}
-use Rattle.stage_lines.specs.InsteadTexts.{undecided_in}
-use Rattle.round_lines.specs.PlayerTexts.{absent_text, player_text}
+use Rattle.command_line.specs.InsteadAnswers.{undecided_in}
+use Rattle.player_lines.specs.PlayerTexts.{absent_text, player_text}
 use Rattle.round_lines.specs.RoundTexts.{round_text}
 use Rattle.round_lines.specs.Tellings.{TellingFacts}
 use Rattle.replies.specs.Prelude.{question_fault, Answer, behind, done, field_refusal, no_pairing, plain, question_refusal, unseen_answer}

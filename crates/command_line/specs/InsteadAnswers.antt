@@ -4,19 +4,23 @@ use Rattle.std.specs.List.{list_any, position_from}
 use Rattle.std.specs.Option.{option_map_or}
 use Rattle.dutch_player.specs.Prelude.{Facts, seat_with}
 use Rattle.dutch_pair.specs.Prelude.{above_lower, IsInstead}
-use Rattle.dutch_bracket.specs.Prelude.{grants}
+use Rattle.dutch_candidates.specs.Wishes.{grants}
 use Rattle.dutch_pair.specs.declared.instead.Instead.{Instead}
+use Rattle.dutch_pair.specs.declared.instead.Instead.TheVariants.{Best, FewerMovedDown, NoneEligible, NoneLegal, Undecided}
 use Rattle.dutch_pair.specs.declared.stage.Stage.{Stage}
-use Rattle.dutch_bracket.specs.declared.wish.Wish.{Wish}
-use Rattle.dutch_bracket.specs.declared.wish.Wish.TheVariants.{Pair, LeftOver}
-use Rattle.stage_lines.specs.InsteadTexts.{granted_text, instead_text, search_answer}
-use Rattle.round_lines.specs.Tellings.{TellingFacts}
-use Rattle.round_lines.specs.Obstacles.{against_bye, against_meeting, obstacle_text}
-use Rattle.replies.specs.Prelude.{Answer, done}
+use Rattle.dutch_candidates.specs.declared.wish.Wish.{Wish}
+use Rattle.dutch_candidates.specs.declared.wish.Wish.TheVariants.{Pair, LeftOver}
+use Rattle.stage_lines.specs.InsteadTexts.{granted_text, in_bracket, instead_text}
+use Rattle.requests.specs.declared.options.Wording.{Wording}
+use Rattle.round_lines.specs.Tellings.{TellingFacts, in_wording}
+use Rattle.common_texts.specs.Prelude.{undecided_text, undecided_words}
+use Rattle.player_lines.specs.Obstacles.{against_bye, against_meeting, obstacle_text}
+use Rattle.replies.specs.Prelude.{Answer, done, plain}
+use Rattle.replies.specs.declared.reply.Status.TheVariants.{Undecided as UndecidedStatus}
 use Rattle.command_line.specs.declared.instead.Rival.{Rival}
 use Rattle.command_line.specs.declared.instead.Rival.TheVariants.{Bye, Seat}
-use Rattle.round_lines.specs.declared.obstacle.Obstacle.{Obstacle}
-use Rattle.round_lines.specs.declared.obstacle.Obstacle.TheVariants.{Absent}
+use Rattle.player_lines.specs.declared.obstacle.Obstacle.{Obstacle}
+use Rattle.player_lines.specs.declared.obstacle.Obstacle.TheVariants.{Absent}
 
 -- a round that is paired: its report and its field, the brackets that it reached, and the seat that has the bye, if one has
 pub record PairedRound : Type 0 where
@@ -60,6 +64,27 @@ abbrev pub decided_in : List Stage → ℕ → Rival → Option (Stage × Wish)
 decided_in [] player rival = None
 decided_in (stage ∷ behind) player rival =
     if stands_in_one behind player && goes_on behind rival then decided_in behind player rival else Some (stage, wish_in behind stage player rival)
+
+-- ---- the steps reached the limit
+
+-- the line of it
+abbrev pub undecided_told : Wording → ℕ → ℕ → List ℕ
+undecided_told wording number used = in_wording wording (undecided_text number used) (undecided_words number used)
+
+-- the steps of a bracket reached the limit before it was decided
+abbrev pub undecided_in : Wording → ℕ → ℕ → Answer
+undecided_in wording number used = plain UndecidedStatus (undecided_told wording number used)
+
+-- ---- what a search in a bracket finds
+
+-- what is told of it to a player, who asks for a number: none that can be chosen grants the wish, none with as many moved-down players, none
+-- with as many pairs, or the best that does; or that its steps reached the limit [own]
+abbrev pub search_answer : TellingFacts → ℕ → ℕ → Stage → Instead → Answer
+search_answer telling player number stage (Best candidate quality) = done (in_bracket telling player number stage (Best candidate quality))
+search_answer telling player number stage NoneEligible = done (in_bracket telling player number stage NoneEligible)
+search_answer telling player number stage FewerMovedDown = done (in_bracket telling player number stage FewerMovedDown)
+search_answer telling player number stage NoneLegal = done (in_bracket telling player number stage NoneLegal)
+search_answer telling player number stage (Undecided used) = undecided_in telling.wording stage.reached.number used
 
 -- ---- the answer
 

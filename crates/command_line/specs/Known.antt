@@ -1,23 +1,9 @@
--- What is known where a request is answered, from its words and from its report: a model that carries the proof that boards fit.
-use Rattle.std.specs.Prelude.{◌≤◌, IfSome}
-use Rattle.dutch_bracket.specs.Prelude.{IsOf, frame_of}
-use Rattle.dutch_order.specs.Prelude.{Fits}
-use Rattle.dutch_pair.specs.declared.round.BracketAt.{BracketAt}
-use Rattle.dutch_pair.specs.declared.round.BracketAt.TheVariants.{Bracket, NotReached, NoPairing as NoPairingAt, Undecided as UndecidedAt}
-use Rattle.dutch_pair.specs.declared.round.Outcome.{Outcome}
-use Rattle.dutch_pair.specs.declared.round.Outcome.TheVariants.{Paired, NoPairing, Undecided}
-use Rattle.dutch_player.specs.Prelude.{Facts}
-use Rattle.trf16.specs.Prelude.{CanBePaired, Sheet}
-use Rattle.requests.specs.declared.options.PairOptions.{PairOptions}
+-- What is known of a request where it is answered, from its words.
+use Rattle.round_commands.specs.Known.{HasFewRounds}
 use Rattle.requests.specs.declared.words.Request.{Request}
 use Rattle.requests.specs.declared.words.Request.TheVariants.{Check, Format, Pair, Boards, Candidates, Explain, Standings}
-use Rattle.trf16.specs.declared.limits.TheConstants.{MOST_ROUNDS}
 
--- a total of rounds that is asked for is not above the most rounds
-abbrev pub HasFewRounds : PairOptions → Type 0
-HasFewRounds options = IfSome options.rounds (λ rounds. rounds ≤ MOST_ROUNDS)
-
--- the same of a request, if it asks to pair
+-- a total of rounds that is asked for to pair is not above the most rounds
 abbrev pub CanBeAnswered : Request → Type 0
 CanBeAnswered (Check options) = Unit {0}
 CanBeAnswered (Format options) = Unit {0}
@@ -26,16 +12,3 @@ CanBeAnswered (Boards options) = Unit {0}
 CanBeAnswered (Candidates options) = Unit {0}
 CanBeAnswered (Explain options) = Unit {0}
 CanBeAnswered (Standings options) = Unit {0}
-
--- the boards of an outcome, if it has some, can be the next round of a report
-abbrev pub CanBeTold : Sheet → Outcome → Type 0
-CanBeTold sheet (Paired all) = CanBePaired all.items sheet
-CanBeTold sheet NoPairing = Unit {0}
-CanBeTold sheet (Undecided number used) = Unit {0}
-
--- a bracket that is found, if one is, is one of the field, and its shape fits
-abbrev pub CanBeListed : Facts → BracketAt → Type 0
-CanBeListed facts (Bracket reached shape) = IsOf facts reached × Fits (frame_of facts reached) shape
-CanBeListed facts NotReached = Unit {0}
-CanBeListed facts NoPairingAt = Unit {0}
-CanBeListed facts (UndecidedAt number used) = Unit {0}

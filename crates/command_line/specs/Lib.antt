@@ -3,7 +3,4 @@ pub mod InsteadAnswers
 pub mod ExplainAnswers
 pub mod Commands
 pub mod Run
-pub mod CandidateAnswers
-pub mod PairAnswers
-pub mod BoardsAnswers
 pub mod Known

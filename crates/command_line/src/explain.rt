@@ -1,25 +1,28 @@
 // The command `explain`: why the next round is paired as it is, bracket by bracket or for one player.
-ghost use Rattle.std.specs.Prelude.{◌≡◌, ◌≤◌, ◌++◌, IfOk, Ok, OnOk};
+ghost use Rattle.std.specs.Prelude.{◌≡◌, ◌≤◌, ◌++◌, IfOk, None, Ok, OnOk};
 ghost use Rattle.std.specs.List.{AllByRecursion};
 ghost use Rattle.dutch_pair.specs.Prelude.{IsStage};
 ghost use Rattle.trf16.specs.Prelude.{verdict};
 ghost use Rattle.dutch_player.specs.Prelude.{seat_with};
 ghost use Rattle.command_line.specs.ExplainAnswers.{AnswersExplain, ExplainsAsked, IsExplained};
-ghost use Rattle.command_line.specs.ExplainAnswers.{TellsPaired, about_text, present_text};
-ghost use Rattle.replies.specs.Prelude.{answer_of, question_fault, seen_before};
+ghost use Rattle.command_line.specs.ExplainAnswers.{AnswersQuestion, IsToldBehind, TellsPaired};
+ghost use Rattle.command_line.specs.ExplainAnswers.{about_text, first_text, front_text, present_text};
+ghost use Rattle.stage_lines.specs.ExplainTexts.{stages_text};
+ghost use Rattle.replies.specs.Prelude.{answer_of, done, question_fault, seen_before};
 
 use crate::instead::{AskedInSteps, Paired, instead};
 use crate::not_paired::{no_pairing_because, undecided};
 use dutch_choice::finder::Finder;
 use dutch_pair::{AllStages, stages};
 use dutch_player::{Field, FieldFault};
+use player_lines::{put_absent, put_player};
 use replies::refusal::{cannot_be_asked, cannot_be_paired};
 use replies::views::{not_seen, read_before};
 use replies::{Reply, Status, question_fault};
-use requests::ExplainOptions;
+use requests::{ExplainOptions, Question};
 use round_lines::page::Page;
 use round_lines::telling::Telling;
-use round_lines::{Asked, put_absent, put_player, put_round};
+use round_lines::{Asked, put_round};
 use stage_lines::bracket_lines::put_stages;
 use std::alloc::{AllocError, Global};
 use trf16::Report;
@@ -111,23 +114,87 @@ fn tell_paired<F: Finder>(
     requires { AllByRecursion (IsStage round.now.telling.facts) round.now.stages }
     ensures { IfOk result (λ reply. TellsPaired options.question options.steps round.now (answer_of reply)) }
 {
+    match options.question {
+        Some(question) => tell_asked::<F>(alloc, options.steps, round, question),
+        None => tell_all(alloc, round),
+    }
+}
+
+// All brackets of a round.
+fn tell_all(alloc: Global, round: &Paired<'_>) -> Result<Reply, AllocError>
+    requires { AllByRecursion (IsStage round.now.telling.facts) round.now.stages }
+    ensures { IfOk result (λ reply. answer_of reply
+        ≡ done (first_text round.now ++ stages_text round.now.telling None round.now.stages)) }
+{
     let mut text = Page::new(alloc);
-    put_round(&mut text, round.telling, round.bye)?;
-    let Some(question) = options.question else {
-        put_stages(&mut text, round.telling, round.stages, None)?;
-        return Ok(Reply::bytes(Status::Done, text.into_bytes()));
-    };
+    put_all(&mut text, round)?;
+    Ok(Reply::bytes(Status::Done, text.into_bytes()))
+}
+
+// Puts the line of a round and all its brackets.
+fn put_all(text: &mut Page, round: &Paired<'_>) -> Result<(), AllocError>
+    requires { AllByRecursion (IsStage round.now.telling.facts) round.now.stages }
+    ensures { OnOk result (text.new
+        ≡ text.old ++ (first_text round.now ++ stages_text round.now.telling None round.now.stages)) }
+{
+    put_round(text, round.telling, round.bye)?;
+    put_stages(text, round.telling, round.stages, None)
+}
+
+// What is asked of a player, and of who is named instead, if one is.
+fn tell_asked<F: Finder>(
+    alloc: Global,
+    steps: u64,
+    round: &Paired<'_>,
+    question: Question,
+) -> Result<Reply, AllocError>
+    requires { AllByRecursion (IsStage round.now.telling.facts) round.now.stages }
+    ensures { IfOk result (λ reply. AnswersQuestion round.now steps question.player question.instead
+        (answer_of reply)) }
+{
     let player = question.player;
-    put_about(&mut text, round, player)?;
+    let front = front_of(alloc, round, player)?;
     match question.instead {
         Some(number) => {
             let asked = Asked { player, number };
-            let steps = options.steps;
-            let reply = instead::<F>(alloc, round, AskedInSteps { asked, steps })?;
-            reply.behind(text.into_bytes())
+            tell_behind::<F>(alloc, round, AskedInSteps { asked, steps }, front)
         }
-        None => Ok(Reply::bytes(Status::Done, text.into_bytes())),
+        None => Ok(Reply::bytes(Status::Done, front)),
     }
+}
+
+// Behind what is told of a player, what is answered of who is named instead.
+fn tell_behind<F: Finder>(
+    alloc: Global,
+    round: &Paired<'_>,
+    asking: AskedInSteps,
+    front: Vec<u8>,
+) -> Result<Reply, AllocError>
+    requires stages { AllByRecursion (IsStage round.now.telling.facts) round.now.stages }
+    requires front { front.items ≡ front_text round.now asking.asked.player }
+    ensures { IfOk result (λ reply. IsToldBehind round.now asking.steps asking.asked.player asking.asked.number
+        (answer_of reply)) }
+{
+    instead::<F>(alloc, round, asking)?.behind(front)
+}
+
+// The line of a round, and what is told of a player.
+fn front_of(alloc: Global, round: &Paired<'_>, player: u16) -> Result<Vec<u8>, AllocError>
+    requires { AllByRecursion (IsStage round.now.telling.facts) round.now.stages }
+    ensures { IfOk result (λ front. front.items ≡ front_text round.now player) }
+{
+    let mut text = Page::new(alloc);
+    put_front(&mut text, round, player)?;
+    Ok(text.into_bytes())
+}
+
+// Puts the line of a round, and what is told of a player.
+fn put_front(text: &mut Page, round: &Paired<'_>, player: u16) -> Result<(), AllocError>
+    requires { AllByRecursion (IsStage round.now.telling.facts) round.now.stages }
+    ensures { OnOk result (text.new ≡ text.old ++ front_text round.now player) }
+{
+    put_round(text, round.telling, round.bye)?;
+    put_about(text, round, player)
 }
 
 // Puts what is told of a player: their line and their brackets, or that they are absent.

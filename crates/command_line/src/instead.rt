@@ -1,25 +1,27 @@
 // Why a player does not meet another one in the next round, or does not have the bye: what stands against it first.
-ghost use Rattle.std.specs.Prelude.{◌≡◌, ◌≤◌, IfOk, IfSome, MatchOption, None, Some, length};
+ghost use Rattle.std.specs.Prelude.{◌≡◌, ◌≤◌, ◌++◌, IfOk, IfSome, MatchOption, None, OnOk, Some, length};
 ghost use Rattle.std.specs.List.{AllByRecursion};
 ghost use Rattle.dutch_sequence.specs.declared.numbers.TheConstants.{LIMIT};
 ghost use Rattle.dutch_pair.specs.Prelude.{IsStage};
-ghost use Rattle.dutch_bracket.specs.Prelude.{grants};
+ghost use Rattle.dutch_candidates.specs.Wishes.{grants};
 ghost use Rattle.command_line.specs.InsteadAnswers.{AnswersInstead, AnswersPresent, AnswersWish, IsSearched};
 ghost use Rattle.command_line.specs.InsteadAnswers.{decided_in};
 ghost use Rattle.command_line.specs.InsteadAnswers.{goes_on, number_among, number_in, obstacle_of, rival_of};
 ghost use Rattle.command_line.specs.InsteadAnswers.{stands_in_one, wish_in};
-ghost use Rattle.stage_lines.specs.InsteadTexts.{in_bracket, instead_text, search_answer};
-ghost use Rattle.round_lines.specs.Obstacles.{obstacle_text};
+ghost use Rattle.stage_lines.specs.InsteadTexts.{in_bracket, instead_text};
+ghost use Rattle.command_line.specs.InsteadAnswers.{search_answer};
+ghost use Rattle.player_lines.specs.Obstacles.{obstacle_text};
 ghost use Rattle.replies.specs.Prelude.{answer_of, done};
 
 use crate::not_paired::undecided;
 use dutch_choice::finder::Finder;
 use dutch_pair::{Instead, Stage, Wish, best_instead};
 use dutch_player::Field;
+use player_lines::{Obstacle, against_bye, against_meeting, put_obstacle};
 use replies::{Reply, Status};
+use round_lines::Asked;
 use round_lines::page::Page;
 use round_lines::telling::Telling;
-use round_lines::{Asked, Obstacle, against_bye, against_meeting, put_obstacle};
 use stage_lines::instead_lines::{put_found, put_front, put_granted};
 use std::alloc::{AllocError, Global};
 use std::marker::Model;
@@ -149,10 +151,23 @@ fn stands_against(
         (obstacle_text telling.now asked.player asked.number obstacle))) }
 {
     let mut text = Page::new(alloc);
-    put_front(&mut text, telling, asked)?;
-    put_obstacle(&mut text, telling, asked, obstacle)?;
-    text.push_str("\n")?;
+    put_against(&mut text, telling, asked, obstacle)?;
     Ok(Reply::bytes(Status::Done, text.into_bytes()))
+}
+
+// Puts that the player does not get it, and what stands against it.
+fn put_against(
+    text: &mut Page,
+    telling: &Telling<'_>,
+    asked: Asked,
+    obstacle: Obstacle,
+) -> Result<(), AllocError>
+    ensures { OnOk result (text.new ≡ text.old ++ instead_text telling.now asked.player asked.number
+        (obstacle_text telling.now asked.player asked.number obstacle)) }
+{
+    put_front(text, telling, asked)?;
+    put_obstacle(text, telling, asked, obstacle)?;
+    text.push_str("\n")
 }
 
 fn stands_in_one(stages: &[Stage], seat: u16) -> bool
@@ -304,8 +319,21 @@ fn in_bracket(
         ≡ done (in_bracket telling.now asked.player asked.number searched.entry.0.now searched.entry.1.now)) }
 {
     let mut text = Page::new(alloc);
-    put_front(&mut text, telling, asked)?;
-    put_found(&mut text, telling, searched)?;
-    text.push_str("\n")?;
+    put_searched(&mut text, telling, asked, searched)?;
     Ok(Reply::bytes(Status::Done, text.into_bytes()))
+}
+
+// Puts that the player does not get it, and what a search in a bracket found.
+fn put_searched(
+    text: &mut Page,
+    telling: &Telling<'_>,
+    asked: Asked,
+    searched: (&Stage, &Instead),
+) -> Result<(), AllocError>
+    ensures { OnOk result (text.new ≡ text.old
+        ++ in_bracket telling.now asked.player asked.number searched.entry.0.now searched.entry.1.now) }
+{
+    put_front(text, telling, asked)?;
+    put_found(text, telling, searched)?;
+    text.push_str("\n")
 }

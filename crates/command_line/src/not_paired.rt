@@ -1,17 +1,17 @@
 // What is answered where no round is paired: that there is no pairing, and why; or that the steps ended first.
 ghost use Rattle.std.specs.Prelude.{◌≡◌, ◌++◌, IfOk, OnOk};
 ghost use Rattle.dutch_player.specs.Prelude.{seat_with};
-ghost use Rattle.stage_lines.specs.BarrierTexts.{reason_text};
+ghost use Rattle.stage_lines.specs.BarrierTexts.{no_pairing_text, reason_text};
 ghost use Rattle.command_line.specs.ExplainAnswers.{TellsWhy, asked_text, line_text, no_pairing_with};
-ghost use Rattle.stage_lines.specs.InsteadTexts.{undecided_in};
+ghost use Rattle.command_line.specs.InsteadAnswers.{undecided_in};
 ghost use Rattle.replies.specs.Prelude.{answer_of};
 
 use dutch_pair::{Barrier, barrier_of};
-use replies::{Reply, Status, texts};
+use player_lines::{put_absent, put_player};
+use replies::{Reply, Status};
 use requests::{Question, Wording};
 use round_lines::page::Page;
 use round_lines::telling::{Telling, in_wording};
-use round_lines::{put_absent, put_player};
 use stage_lines::barrier_lines::put_barrier;
 use std::alloc::{AllocError, Global};
 
@@ -40,14 +40,27 @@ fn because(
         ≡ no_pairing_with telling.now question (reason_text telling.now found.now)) }
 {
     let mut text = Page::new(alloc);
+    put_because(&mut text, telling, question, found)?;
+    Ok(Reply::bytes(Status::NoPairing, text.into_bytes()))
+}
+
+// Puts that there is no pairing, why, and what the player who is asked about would bring to the round.
+fn put_because(
+    text: &mut Page,
+    telling: &Telling<'_>,
+    question: Option<Question>,
+    found: &Option<Barrier>,
+) -> Result<(), AllocError>
+    ensures { OnOk result (text.new ≡ text.old ++ (no_pairing_text telling.now.wording
+        ++ (reason_text telling.now found.now ++ asked_text telling.now question))) }
+{
     text.push_str(in_wording(
         telling.wording,
         "no pairing\n",
         "There is no pairing of the present players.\n",
     ))?;
-    put_reason(&mut text, telling, found)?;
-    put_asked(&mut text, telling, question)?;
-    Ok(Reply::bytes(Status::NoPairing, text.into_bytes()))
+    put_reason(text, telling, found)?;
+    put_asked(text, telling, question)
 }
 
 // Puts why, where a barrier was found.
@@ -100,11 +113,11 @@ pub fn undecided(
 {
     match wording {
         Wording::Plain => {
-            let line = texts::undecided(alloc, number, used)?;
+            let line = common_texts::undecided(alloc, number, used)?;
             Ok(Reply::made(Status::Undecided, line))
         }
         Wording::Words => {
-            let words = texts::undecided_words(alloc, number, used)?;
+            let words = common_texts::undecided_words(alloc, number, used)?;
             Ok(Reply::made(Status::Undecided, words))
         }
     }

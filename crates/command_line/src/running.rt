@@ -7,16 +7,16 @@ ghost use Rattle.trf16.specs.Prelude.{use_of};
 ghost use Rattle.command_line.specs.Run.{IsAnswer, IsReplyTo, IsRun};
 ghost use Rattle.requests.specs.Prelude.{meant};
 
-use crate::boards::boards;
-use crate::candidates::candidates;
 use crate::explain::explain;
-use crate::pair::pair;
 use dutch_choice::finder::Finder;
 use replies::check::check;
 use replies::format::format;
 use replies::standings::standings;
 use replies::{InputFault, Reply, Status, read_input, texts};
 use requests::{Meaning, Request, Task, meant, read_words};
+use round_commands::boards::boards;
+use round_commands::candidates::candidates;
+use round_commands::pair::pair;
 use std::alloc::{AllocError, Global};
 use trf16::{Sink, Source};
 

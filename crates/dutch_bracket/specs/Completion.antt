@@ -3,8 +3,8 @@ use Rattle.std.specs.Prelude.{◌≡◌, ℕ, zero, suc, ◌+◌, ◌*◌, ◌<�
 use Rattle.std.specs.List.{list_all, list_any}
 use Rattle.dutch_order.specs.Prelude.{leaves_one}
 use Rattle.dutch_sequence.specs.declared.steps.Budget.{Budget}
-use Rattle.dutch_bracket.specs.declared.completion.Answer.{Answer}
-use Rattle.dutch_bracket.specs.declared.completion.Answer.TheVariants.{Yes, No, Undecided}
+use Rattle.dutch_bracket.specs.declared.answer.Answer.{Answer}
+use Rattle.dutch_bracket.specs.declared.answer.Answer.TheVariants.{Yes, No, Undecided}
 -- A.9: some list of pairs of those who may meet leaves out at most one of the players, who may be left out; in each pair the one first who
 -- stands earlier in the list (our own choice), the pairs in the order of their first members
 pub use Rattle.dual.specs.Matchings.{Covers, MayBeLeftOut, Completable}

@@ -1,7 +1,7 @@
 -- How completable players are searched: a form that carries the search, and which a reader of the promises may pass by.
 use Rattle.std.specs.Prelude.{ℕ, zero, suc, Bool, true, false, ◌&&◌, ◌||◌, List, [], ◌∷◌, ◌++◌}
 use Rattle.dutch_sequence.specs.declared.steps.Budget.{Budget}
-use Rattle.dutch_bracket.specs.declared.completion.Answer.{Answer}
+use Rattle.dutch_bracket.specs.declared.answer.Answer.{Answer}
 use Rattle.dutch_bracket.specs.Completion.{SpendsAtMost, IsStopped, Takes, Tells}
 
 -- one of the later players, behind those between, may meet the first one and leaves players of whom something holds

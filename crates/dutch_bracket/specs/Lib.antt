@@ -27,5 +27,4 @@ pub mod Floors
 pub mod Ghosts
 pub mod GhostLaws
 pub mod BitTables
-pub mod Wishes
 pub mod Prelude

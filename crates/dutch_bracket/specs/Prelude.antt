@@ -39,4 +39,3 @@ pub use Rattle.dutch_bracket.specs.Ghosts.{IsNotBetter, ghost_floor, ghost_frame
 unfoldable pub use Rattle.dutch_bracket.specs.Ghosts.{ghost_may_be_left, ghosts_meet}
 pub use Rattle.dutch_bracket.specs.GhostLaws.{ghosts_meet_sym}
 unfoldable pub use Rattle.dutch_bracket.specs.BitTables.{has_bit}
-pub use Rattle.dutch_bracket.specs.Wishes.{are_these, fits_as_left, fits_as_pair, grants, has_player, is_wished, parts}

@@ -22,7 +22,7 @@ seat_of seats number = slice_index seats (number - 1)
 abbrev pub score_at : Facts → ℕ → ℕ
 score_at facts seat = (seat_at facts seat).score
 
--- two lists of numbers, place by place, as pairs of seats
+-- two lists of numbers, place by place, as pairs of seats [own]
 abbrev pub pairs_of : List ℕ → List ℕ → List ℕ → List (ℕ × ℕ)
 pairs_of seats [] seconds = []
 pairs_of seats (a ∷ firsts) [] = []

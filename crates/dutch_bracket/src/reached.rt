@@ -6,7 +6,7 @@ ghost use Rattle.arrayvec.specs.ArrayVec.{array_vec_len};
 ghost use Rattle.dutch_order.specs.Prelude.{IsBracket};
 ghost use Rattle.dutch_sequence.specs.declared.numbers.TheConstants.{LIMIT};
 ghost use Rattle.dutch_bracket.specs.Seated.{seat_of, score_at};
-ghost use Rattle.dutch_bracket.specs.Brackets.{bracket};
+ghost use Rattle.dutch_bracket.specs.Brackets.{bracket, is_penultimate};
 ghost use Rattle.trf16.specs.declared.limits.TheConstants.{MOST_ROUNDS};
 ghost use Rattle.dutch_bracket.specs.ColourFloors.{residents_down};
 ghost use Rattle.dutch_bracket.specs.Reached.{IsOf, ends_round, frame_of, is_number, numbers_meet, number_may_be_left};
@@ -39,6 +39,13 @@ impl BracketKind {
             BracketKind::Last | BracketKind::Collapsed => true,
             BracketKind::Ordinary | BracketKind::Penultimate => false,
         }
+    }
+
+    /// Yes for the bracket that is paired again so that all lower players can be paired out.
+    pub fn is_penultimate(self) -> bool
+        ensures { result ≡ is_penultimate self }
+    {
+        matches!(self, BracketKind::Penultimate)
     }
 }
 

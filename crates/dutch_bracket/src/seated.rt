@@ -106,12 +106,7 @@ pub fn goes(field: &Field, float: Float, pair: Pair) -> Floater
 }
 
 /// Adds the pairs of two lists of numbers, place by place.
-pub(crate) fn push_pairs(
-    seats: &[u16],
-    firsts: &[u16],
-    seconds: &[u16],
-    pairs: &mut ArrayVec<Pair, LIMIT>,
-)
+pub fn push_pairs(seats: &[u16], firsts: &[u16], seconds: &[u16], pairs: &mut ArrayVec<Pair, LIMIT>)
     requires equal { length firsts.now ≡ length seconds.now }
     requires room { array_vec_len pairs.old + length firsts.now ≤ LIMIT }
     ensures items { pairs.new.items ≡ pairs.old.items ++ pairs_of seats.now firsts.now seconds.now }
@@ -123,7 +118,7 @@ pub(crate) fn push_pairs(
 }
 
 /// Adds the seats of numbers.
-pub(crate) fn push_seats(seats: &[u16], numbers: &[u16], own: &mut Numbers)
+pub fn push_seats(seats: &[u16], numbers: &[u16], own: &mut Numbers)
     requires { array_vec_len own.old + length numbers.now ≤ LIMIT }
     ensures { own.new.items ≡ own.old.items ++ map (seat_of seats.now) numbers.now }
 {

@@ -1,12 +1,12 @@
 // Steps that are made at once, for so many questions, and one by one.
-ghost use Rattle.std.specs.Prelude.{◌≡◌, ◌+◌, ◌<◌};
+ghost use Rattle.std.specs.Prelude.{◌≡◌, ◌+◌, ◌<◌, min};
 ghost use Rattle.std.specs.Result.{MatchResult};
 ghost use Rattle.dutch_order.specs.Prelude.{Spends};
 
 use dutch_order::{Budget, Stopped};
 
 /// Makes one step. It is stopped only where none is left.
-pub(crate) fn step(budget: &mut Budget) -> Result<(), Stopped>
+pub fn step(budget: &mut Budget) -> Result<(), Stopped>
     ensures counts { MatchResult result (λ _. budget.new.used ≡ budget.old.used + 1)
         (λ _. budget.old.used ≡ budget.old.limit) }
     ensures stopped { MatchResult result (λ _. Unit {0}) (λ _. budget.new.used ≡ budget.new.limit) }
@@ -32,4 +32,15 @@ pub fn spend(steps: u64, budget: &mut Budget) -> Result<(), Stopped>
     }
     budget.used += steps;
     Ok(())
+}
+
+/// A budget of so many steps at most, of those that are left.
+pub fn at_most(steps: u64, budget: &Budget) -> Budget
+    ensures used { result.used ≡ budget.now.used }
+    ensures limit { result.limit ≡ min (budget.now.used + steps) budget.now.limit }
+{
+    Budget {
+        limit: budget.used.saturating_add(steps).min(budget.limit),
+        used: budget.used,
+    }
 }

@@ -8,8 +8,9 @@ use Rattle.dutch_order.specs.Prelude.{Arrangement, Frame, arrangements, left_of,
 use Rattle.dutch_sequence.proofs.Orders.{in-member, IsIn-back, IsIn-front}
 use Rattle.dutch_sequence.proofs.Members.{length-numbers}
 use Rattle.dutch_order.proofs.NoneTwice.{left-in}
-use Rattle.dutch_bracket.specs.Prelude.{Reached, is_number, grants}
-use Rattle.dutch_bracket.specs.declared.wish.Wish.TheVariants.{LeftOver}
+use Rattle.dutch_bracket.specs.Prelude.{Reached, is_number}
+use Rattle.dutch_candidates.specs.Wishes.{grants}
+use Rattle.dutch_candidates.specs.declared.wish.Wish.TheVariants.{LeftOver}
 use Rattle.dutch_bracket.proofs.ArrangementParts.{lists_of, numbers_rise, parts_of, subset_whole}
 use Rattle.dutch_sequence.proofs.FoundPaths.{in-numbers}
 use Rattle.dutch_bracket.proofs.Totals.{total_length}

@@ -5,7 +5,7 @@ use Rattle.dutch_order.specs.Prelude.{Arrangement, Fits, Frame}
 use Rattle.dutch_player.specs.Prelude.{Facts}
 use Rattle.dutch_choice.specs.AlwaysShapes.{IsAlwaysShape}
 use Rattle.dutch_bracket.specs.Prelude.{legal_by, legal_in, Reached, frame_of, candidates_of, eligible, shape_of, first_with, greatest_shape, has_member, is_penultimate, shapes}
-use Rattle.dutch_bracket.proofs.EligibleLemmas.{eligible_all}
+use Rattle.dutch_completion.proofs.EligibleLemmas.{eligible_all}
 use Rattle.dutch_bracket.proofs.ShapeLaws.{has_room}
 
 -- what counts the same arrangements of each shape finds the same shape

@@ -23,13 +23,13 @@ use Rattle.dutch_bracket.specs.Prelude.{AllNumbers, Context, FitsHere, IsOf, Rea
 use Rattle.dutch_bracket.specs.Eligible.{can_be_chosen}
 use Rattle.dutch_bracket.proofs.AllLemmas.{all_join}
 use Rattle.dutch_bracket.proofs.ArrangementParts.{numbers_above}
-use Rattle.dutch_bracket.proofs.Covering.{completable_by_test}
+use Rattle.dutch_completion.proofs.Covering.{completable_by_test}
 use Rattle.dutch_bracket.proofs.DownLemmas.{down_numbers}
-use Rattle.dutch_bracket.proofs.EligibleLemmas.{eligible_is}
+use Rattle.dutch_completion.proofs.EligibleLemmas.{eligible_is}
 use Rattle.dutch_bracket.proofs.Everybody.{arranged}
-use Rattle.dutch_bracket.proofs.CandidatePairs.{all_onto, first_count, high, lists, low, numbers_total, other_count, places_total, s1_low, s1r_high, s2_high, s2r_high}
+use Rattle.dutch_candidates.proofs.CandidatePairs.{all_onto, first_count, high, lists, low, numbers_total, other_count, places_total, s1_low, s1r_high, s2_high, s2r_high}
 use Rattle.dutch_bracket.proofs.LegalPairs.{IsArranged, in_passes, legal_of}
-use Rattle.dutch_bracket.proofs.PairedOut.{Meet, PairedOut, each, few_left, odd_one, one_by_one, paired_out, sums_rise, sums_same}
+use Rattle.dutch_candidates.proofs.PairedOut.{Meet, PairedOut, each, few_left, odd_one, one_by_one, paired_out, sums_rise, sums_same}
 use Rattle.dutch_bracket.proofs.ShapeSearch.{member_of}
 use Rattle.dutch_bracket.proofs.Totals.{total, total_sum}
 use Rattle.dutch_choice.specs.declared.certified.ShapeFloor.{ShapeFloor}

@@ -12,8 +12,8 @@ use Rattle.dutch_player.specs.Prelude.{Facts}
 use Rattle.dutch_bracket.specs.declared.reached.BracketKind.{BracketKind}
 use Rattle.dutch_bracket.specs.declared.reached.BracketKind.TheVariants.{Ordinary, Last, Penultimate, Collapsed}
 use Rattle.dutch_bracket.specs.Prelude.{Context, FitsHere, Reached, can_be_chosen, candidates_of, completable, downfloaters, eligible, eligible_here, ends_round, frame_of, has_member, is_number, is_penultimate, number_may_be_left, numbers_meet, numbers_meet_sym, score_at, seat_of}
-use Rattle.dutch_bracket.proofs.EligibleLemmas.{eligible_is}
-use Rattle.dutch_bracket.proofs.MateLists.{IsNumber, NumberMates, down_is, legal_member, mates_fit, mates_shape, of_mates}
+use Rattle.dutch_completion.proofs.EligibleLemmas.{eligible_is}
+use Rattle.dutch_candidates.proofs.MateLists.{IsNumber, NumberMates, down_is, legal_member, mates_fit, mates_shape, of_mates}
 use Rattle.dutch_bracket.proofs.ShapeSearch.{has_in}
 use Rattle.dutch_choice.specs.Mates.{may_leave}
 use Rattle.dutch_choice.specs.ShapeCosts.{are_pair}

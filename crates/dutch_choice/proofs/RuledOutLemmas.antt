@@ -10,15 +10,16 @@ use Rattle.dutch_order.specs.declared.prefix.Filling.TheVariants.{S1, S2, S2r}
 use Rattle.dutch_order.specs.Prelude.{Frame, Arrangement, arrangements, left_of, paired, residents_of, is_member, by_place, pairs_by_number, IsIn, Begins, BeginsAt, Beginning, GoesOn}
 use Rattle.dutch_order.proofs.CursorSets.{AreLists}
 use Rattle.dutch_sequence.proofs.Orders.{member-in, in-member, IsIn-append, IsIn-front, IsIn-back}
-use Rattle.dutch_order.proofs.FormArrangements.{form-of, in-moved_down, in-residents, lists-in}
+use Rattle.dutch_listing.proofs.FormArrangements.{form-of, in-moved_down, in-residents, lists-in}
 use Rattle.dutch_order.proofs.NoneTwice.{in-left}
-use Rattle.dutch_bracket.specs.declared.wish.Wish.{Wish}
-use Rattle.dutch_bracket.specs.declared.wish.Wish.TheVariants.{Pair, LeftOver}
-use Rattle.dutch_bracket.specs.Prelude.{fixed_lists, lists_by, parts, are_these, grants}
+use Rattle.dutch_candidates.specs.declared.wish.Wish.{Wish}
+use Rattle.dutch_candidates.specs.declared.wish.Wish.TheVariants.{Pair, LeftOver}
+use Rattle.dutch_bracket.specs.Prelude.{fixed_lists, lists_by}
+use Rattle.dutch_candidates.specs.Wishes.{parts, are_these, grants}
 use Rattle.dutch_choice.specs.Prelude.{has_one_of, s1_bars, s1r_bars, halves_bar, rules_out}
 use Rattle.dutch_bracket.proofs.AnyLemmas.{found_in}
-use Rattle.dutch_bracket.proofs.WishFits.{none_parted, place_of}
-use Rattle.dutch_order.proofs.Blocks.{goes-whole}
+use Rattle.dutch_candidates.proofs.WishFits.{none_parted, place_of}
+use Rattle.dutch_listing.proofs.Blocks.{goes-whole}
 
 -- a pair that is of two players, in one order or the other
 abbrev pub Are : ℕ → ℕ → ℕ × ℕ → Type 0

@@ -6,7 +6,7 @@ use Rattle.dutch_player.specs.Prelude.{Facts}
 use Rattle.dutch_choice.specs.AlwaysShapes.{IsAlwaysShape}
 use Rattle.dutch_bracket.specs.Prelude.{is_uniform, psd_with, IsFlat, legal_in, psd_in, quality, value_of, value_of_shape, NextValue, quality_with, IsOf, Reached, frame_of, number_may_be_left, numbers_meet, quality_of, score_at, seat_of, greatest_shape, shapes}
 use Rattle.dutch_choice.proofs.AlwaysShapes.{always_greatest}
-use Rattle.dutch_bracket.proofs.C06Psd.{psd_of_all, uniform_of}
+use Rattle.dutch_candidates.proofs.C06Psd.{psd_of_all, uniform_of}
 use Rattle.dutch_bracket.proofs.LeastPsd.{in_filter}
 use Rattle.dutch_bracket.proofs.LowestLists.{lowest_is_one}
 use Rattle.dutch_bracket.proofs.ShapeSearch.{first_has}

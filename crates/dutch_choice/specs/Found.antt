@@ -2,8 +2,9 @@
 use Rattle.std.specs.Prelude.{◌≡◌, filter, Option, Some}
 use Rattle.dutch_order.specs.declared.bracket.Shape.{Shape}
 use Rattle.dutch_order.specs.Prelude.{Arrangement, down}
-use Rattle.dutch_bracket.specs.declared.wish.Wish.{Wish}
-use Rattle.dutch_bracket.specs.Prelude.{Context, eligible_here, frame_here, quality_here, quality_in, best, is_wished}
+use Rattle.dutch_candidates.specs.declared.wish.Wish.{Wish}
+use Rattle.dutch_bracket.specs.Prelude.{Context, eligible_here, frame_here, quality_here, quality_in, best}
+use Rattle.dutch_candidates.specs.Wishes.{is_wished}
 use Rattle.dutch_choice.specs.declared.finder.Best.{Best}
 use Rattle.dutch_choice.specs.Wishes.{is_better_here}
 

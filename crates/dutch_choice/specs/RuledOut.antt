@@ -5,9 +5,10 @@ use Rattle.std.specs.List.{list_any}
 use Rattle.dutch_order.specs.declared.prefix.Filling.{Filling}
 use Rattle.dutch_order.specs.declared.prefix.Filling.TheVariants.{S1, S2, S2r}
 use Rattle.dutch_order.specs.Prelude.{Arrangement, paired, is_member, pairs_by_number, Beginning}
-use Rattle.dutch_bracket.specs.declared.wish.Wish.{Wish}
-use Rattle.dutch_bracket.specs.declared.wish.Wish.TheVariants.{Pair, LeftOver}
-use Rattle.dutch_bracket.specs.Prelude.{fixed_lists, parts}
+use Rattle.dutch_candidates.specs.declared.wish.Wish.{Wish}
+use Rattle.dutch_candidates.specs.declared.wish.Wish.TheVariants.{Pair, LeftOver}
+use Rattle.dutch_bracket.specs.Prelude.{fixed_lists}
+use Rattle.dutch_candidates.specs.Wishes.{parts}
 
 -- of two players one alone is in a list
 abbrev pub has_one_of : ℕ → ℕ → List ℕ → Bool

@@ -1,7 +1,7 @@
 -- Where a lister stands that is lent to whoever looks through the candidates of a bracket's shape.
 use Rattle.std.specs.Prelude.{◌≡◌, Option, Some, None}
 use Rattle.dutch_order.specs.declared.bracket.Shape.{Shape}
-use Rattle.dutch_bracket.specs.declared.greatest.Lister.{Lister}
+use Rattle.dutch_candidates.specs.declared.greatest.Lister.{Lister}
 use Rattle.dutch_bracket.specs.declared.reached.ByNumber.{ByNumber}
 use Rattle.dutch_bracket.specs.Prelude.{Context, ListsHere, StandsBehindFirst, shape_here}
 use Rattle.dutch_choice.specs.declared.start.FoundShape.{FoundShape}

@@ -4,8 +4,9 @@ use Rattle.std.specs.List.{list_any}
 use Rattle.dutch_order.specs.declared.bracket.Shape.{Shape}
 use Rattle.dutch_order.specs.Prelude.{Arrangement}
 use Rattle.dutch_player.specs.Prelude.{Facts}
-use Rattle.dutch_bracket.specs.declared.wish.Wish.{Wish}
-use Rattle.dutch_bracket.specs.Prelude.{Context, eligible_here, Reached, frame_of, candidates_of, is_better_in, best, fits, grants}
+use Rattle.dutch_candidates.specs.declared.wish.Wish.{Wish}
+use Rattle.dutch_bracket.specs.Prelude.{Context, eligible_here, Reached, frame_of, candidates_of, is_better_in, best, fits}
+use Rattle.dutch_candidates.specs.Wishes.{grants}
 
 -- C.4: the candidates of a shape that can be chosen and grant a wish
 abbrev pub granting : Context → Shape → Wish → List Arrangement

@@ -3,17 +3,17 @@ ghost use Rattle.std.specs.Prelude.{◌≡◌, true, false};
 ghost use Rattle.dutch_order.specs.declared.bracket.Shape.{Shape};
 ghost use Rattle.dutch_order.specs.Prelude.{Arrangement, IsExchange, IsIn, Begins};
 ghost use Rattle.dutch_bracket.specs.Prelude.{FitsHere, OfEachWithBeginning, candidates_here, candidates_in};
-ghost use Rattle.dutch_bracket.specs.Prelude.{grants};
-ghost use Rattle.dutch_bracket.specs.declared.wish.Wish.TheVariants.{LeftOver};
+ghost use Rattle.dutch_candidates.specs.Wishes.{grants};
+ghost use Rattle.dutch_candidates.specs.declared.wish.Wish.TheVariants.{LeftOver};
 
 use crate::ruled_out::{is_ruled_out, keeps_together};
 use dutch_bracket::context::Context;
 use dutch_bracket::shaped::ShapedBracket;
-use dutch_bracket::wish::Wish;
+use dutch_candidates::wish::Wish;
 use dutch_order::{Exchange, Prefix};
 
 /// Where a shape pairs all moved-down players, or all residents, none of them is left over (B.1).
-#[tactic(auto, using(dutch_bracket::proofs::ShapeNumbers::small_pairs))]
+#[tactic(auto, using(dutch_candidates::proofs::ShapeNumbers::small_pairs))]
 fn pairs_always(shaped: &ShapedBracket<'_>, number: u16) -> bool
     ensures { result ≡ true → (a : Arrangement) → IsIn a (candidates_in shaped.now)
         → grants (LeftOver number) a ≡ false }

@@ -5,15 +5,15 @@ ghost use Rattle.dutch_order.specs.Prelude.{Spends};
 ghost use Rattle.dutch_bracket.specs.Prelude.{IsAbove, HasCandidate, ListsHere};
 ghost use Rattle.dutch_choice.specs.Chosen.{IsChoice};
 
-use crate::finder::{Asked, Finder};
+use crate::finder::{Finder, FinderRequest};
 use crate::shape::found_shape;
 use dutch_bracket::ByNumber;
 use dutch_bracket::context::Context;
 use dutch_bracket::fault::PairFault;
-use dutch_bracket::greatest::Lister;
 use dutch_bracket::quality::Quality;
 use dutch_bracket::reached::Reached;
 use dutch_bracket::shaped::ShapedBracket;
+use dutch_candidates::greatest::Lister;
 use dutch_order::{Budget, Candidate, Shape, Step, Stopped};
 use dutch_player::Field;
 use std::alloc::Global;
@@ -49,7 +49,7 @@ fn chosen_by<F: Finder>(
         Err(Stopped) => return Ok(Choice::Undecided),
     };
     let shape = found.shape;
-    let asked = Asked {
+    let asked = FinderRequest {
         shaped: ShapedBracket { context, shape },
         wish: None,
         start: found.start,

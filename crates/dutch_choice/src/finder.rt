@@ -10,10 +10,10 @@ ghost use Rattle.dutch_choice.specs.Starts.{IsLent};
 use crate::start::Start;
 use dutch_bracket::ByNumber;
 use dutch_bracket::fault::PairFault;
-use dutch_bracket::greatest::Lister;
 use dutch_bracket::quality::Quality;
 use dutch_bracket::shaped::ShapedBracket;
-use dutch_bracket::wish::Wish;
+use dutch_candidates::greatest::Lister;
+use dutch_candidates::wish::Wish;
 use dutch_order::{Budget, Candidate, Step};
 
 /// The best candidate, with its quality.
@@ -26,7 +26,7 @@ pub struct Best {
 /// What a finder is asked for: the best candidate of a shape, of those that grant the wish if there is one. The lister
 /// that is lent with it stands so.
 #[derive(Clone, Copy)]
-pub struct Asked<'a> {
+pub struct FinderRequest<'a> {
     pub shaped: ShapedBracket<'a>,
     pub wish: Option<Wish>,
     pub start: Start,
@@ -37,7 +37,7 @@ pub trait Finder {
     /// Of the candidates of a shape that can be chosen, and that grant the wish if there is one, the first that none of
     /// them is better than. `End` says that there is none.
     fn best_of(
-        asked: &Asked<'_>,
+        asked: &FinderRequest<'_>,
         lister: &mut Lister<'_, ByNumber<'_>>,
         budget: &mut Budget,
     ) -> Result<Step<Best>, PairFault>
@@ -63,7 +63,7 @@ pub fn best_by<F: Finder>(
 {
     let rule = shaped.context.rule();
     let mut lister = Lister::new(shaped.context.frame(), &rule);
-    let asked = Asked {
+    let asked = FinderRequest {
         shaped: *shaped,
         wish,
         start: Start::Anew,

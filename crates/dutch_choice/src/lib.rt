@@ -15,6 +15,7 @@ pub mod barred;
 mod certified;
 pub mod choice;
 pub mod finder;
+mod first_candidate;
 pub mod lookahead;
 mod matched;
 mod players;

@@ -7,8 +7,8 @@ ghost use Rattle.dutch_bracket.specs.Prelude.{Decides, IsOf, number_may_be_left}
 ghost use Rattle.dutch_choice.specs.Mates.{goes_first, has_mate, mate_of, matched_shape, may_leave, unmated};
 
 use crate::players::Players;
-use dutch_bracket::eligible::{can_complete, fill_with_lower};
 use dutch_bracket::{ByNumber, Seats};
+use dutch_completion::eligible::{can_complete, fill_with_lower};
 use dutch_order::{Budget, Rule, Shape, Stopped, numbered_from};
 use std::alloc::AllocError;
 

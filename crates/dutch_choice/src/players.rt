@@ -15,7 +15,7 @@ use cheapest::Costs;
 use dual::Wide;
 use dutch_bracket::ByNumber;
 use dutch_bracket::context::Context;
-use dutch_bracket::seats::seats;
+use dutch_completion::seats::seats;
 use dutch_order::{Rule, Shape};
 use std::alloc::Global;
 use std::marker::Model;

@@ -4,11 +4,11 @@
 ghost use Rattle.std.specs.Prelude.{◌≡◌, ℕ, List, false, nat_le, true};
 ghost use Rattle.std.specs.List.{list_any, zip};
 ghost use Rattle.dutch_order.specs.Prelude.{IsExchange, IsIn};
-ghost use Rattle.dutch_bracket.specs.Prelude.{parts};
+ghost use Rattle.dutch_candidates.specs.Wishes.{parts};
 ghost use Rattle.dutch_choice.specs.RuledOut.{has_one_of, s1_bars, s1r_bars, halves_bar, rules_out};
 
-use dutch_bracket::fixed_lists::fixed_lists;
-use dutch_bracket::wish::{Wish, leave_over, parts};
+use dutch_candidates::fixed_lists::fixed_lists;
+use dutch_candidates::wish::{Wish, leave_over, parts};
 use dutch_order::{Exchange, Filling, Prefix};
 
 fn part_in(p: u16, q: u16, firsts: &[u16], seconds: &[u16]) -> bool
@@ -58,7 +58,7 @@ fn halves_bar(mdps: usize, p: u16, q: u16, prefix: &Prefix<'_>) -> bool
     }
 }
 
-#[tactic(auto, using(dutch_bracket::proofs::WishLemmas::pairs_found))]
+#[tactic(auto, using(dutch_candidates::proofs::WishLemmas::pairs_found))]
 pub(crate) fn is_ruled_out(wish: Wish, mdps: usize, prefix: &Prefix<'_>) -> bool
     ensures { result ≡ rules_out mdps wish prefix.now }
 {

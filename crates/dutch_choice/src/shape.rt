@@ -9,14 +9,14 @@ ghost use Rattle.dutch_choice.specs.ShapeCosts.{IsTooCheap, IsShapeFloor};
 ghost use Rattle.dutch_choice.specs.Starts.{IsFoundShape};
 
 use crate::certified::{ShapeFloor, steps_before, told_by_cost};
+use crate::first_candidate::first_eligible;
 use crate::players::Players;
 use crate::start::{FoundShape, Start};
 use dutch_bracket::ByNumber;
 use dutch_bracket::context::Context;
-use dutch_bracket::eligible::first_eligible;
-use dutch_bracket::few_steps::decided_in_few_steps;
-use dutch_bracket::greatest::{Lister, Shapes, greatest_shape};
 use dutch_bracket::shaped::ShapedBracket;
+use dutch_candidates::few_steps::decided_in_few_steps;
+use dutch_candidates::greatest::{Lister, Shapes, greatest_shape};
 use dutch_order::{Bracket, Budget, Shape, Stopped};
 
 /// A bracket whose shape is looked for, and what every shape that counts costs at least.

@@ -16,7 +16,7 @@ use Rattle.dutch_floors.specs.FloorOf.{is_flat, residents_score, s1_by}
 use Rattle.dutch_bracket.specs.Prelude.{is_uniform, has_s1, lists_by, IsNotBetter, pairs_by_counts, IsFlat, is_lower, next_bracket, no_value, value_in, quality, HasNoBetter, NextValue, quality_with, IsAbove, IsOf, Reached, frame_of, downfloaters, first_group, quality_of, scoregroups, score_at, seat_of}
 use Rattle.dutch_floors.specs.GhostValues.{first_limbo, ghost_value}
 use Rattle.dutch_floors.specs.Outlooks.{IsOutlook, awaited, first_or_any, limbo_scores, leaves_first}
-use Rattle.dutch_bracket.proofs.C06Psd.{flat_by_ends, uniform_of}
+use Rattle.dutch_candidates.proofs.C06Psd.{flat_by_ends, uniform_of}
 use Rattle.dutch_bracket.proofs.GhostPairs.{down_count}
 use Rattle.dutch_floors.proofs.C07Ghosts.{no_value_has_more_than_half_the_players_in_pairs}
 use Rattle.dutch_floors.proofs.C07GhostValues.{first_limbo_of_all, no_value_is_better_than_by_ghosts}

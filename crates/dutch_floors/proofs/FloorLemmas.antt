@@ -19,7 +19,7 @@ use Rattle.std.specs.List.{zip}
 use Rattle.std.proofs.lemmas.List.{map-append}
 use Rattle.dutch_floors.specs.Outlooks.{awaited}
 use Rattle.dutch_floors.specs.declared.known_pairs.PairSums.{PairSums}
-use Rattle.dutch_bracket.proofs.ShapeNumbers.{first_few, first_length, numbers_fit}
+use Rattle.dutch_candidates.proofs.ShapeNumbers.{first_few, first_length, numbers_fit}
 
 -- where a floor is known, its lists have room in the shape
 of_shape : (basis : Basis) (b : Beginning) → is_known basis b ≡ true → is_of_shape basis.shape (fixed_lists b) ≡ true

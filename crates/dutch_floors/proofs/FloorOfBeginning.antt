@@ -19,7 +19,7 @@ use Rattle.dutch_bracket.specs.Prelude.{HasPairsOf, fixed, fixed_lists, has_s1, 
 use Rattle.dutch_floors.specs.Behind.{Basis, NoneBeats, NoneHasBetterNext}
 use Rattle.dutch_floors.specs.FloorOf.{floor_by, is_flat, is_known, more_by, more_in, psd_over, residents_score, s1_by, s1_of}
 use Rattle.dutch_floors.specs.Outlooks.{IsOutlook, awaited}
-use Rattle.dutch_bracket.proofs.C06Psd.{psd_by_first, psd_of_all, psd_of_beginning, uniform_of}
+use Rattle.dutch_candidates.proofs.C06Psd.{psd_by_first, psd_of_all, psd_of_beginning, uniform_of}
 use Rattle.dutch_floors.proofs.C07Outlook.{awaited_holds, flat_residents}
 use Rattle.dutch_bracket.proofs.C08ToC19Fixed.{more_copies}
 use Rattle.dutch_floors.proofs.C10Lonely.{lonely_miss}
@@ -29,7 +29,7 @@ use Rattle.dutch_bracket.proofs.FixedPairs.{beside, none_known}
 use Rattle.dutch_bracket.proofs.FloorOrder.{floor_holds}
 use Rattle.dutch_bracket.proofs.LegalPairs.{legal_of}
 use Rattle.dutch_bracket.proofs.QualityOrder.{less, lists_tied}
-use Rattle.dutch_bracket.proofs.FixedListsLemmas.{has_fixed_pairs}
+use Rattle.dutch_candidates.proofs.FixedListsLemmas.{has_fixed_pairs}
 
 same_not_lower : (xs : List ℕ) → is_lower (highest_first xs) (highest_first xs) ≡ false
 same_not_lower xs = more_copies xs xs (λ d. omega arith)

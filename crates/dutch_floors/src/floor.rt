@@ -21,10 +21,10 @@ use crate::lonely::{lonely, most_lonely};
 use crate::notes::{FloorNotes, FloorQuestion};
 use crate::outlook::{Outlook, is_flat, leaves_first};
 use dutch_bracket::differences::fill_psd;
-use dutch_bracket::fixed_lists::{FixedLists, fill_fixed, fixed_lists, has_s1, is_of_shape};
-use dutch_bracket::psd_floor::{FlatShape, is_uniform};
 use dutch_bracket::quality::{NextValue, Quality, QualityLists, fill_floats};
 use dutch_bracket::shaped::ShapedBracket;
+use dutch_candidates::fixed_lists::{FixedLists, fill_fixed, fixed_lists, has_s1, is_of_shape};
+use dutch_candidates::psd_floor::{FlatShape, is_uniform};
 use dutch_order::{Budget, Filling, LIMIT, Numbers, Prefix, Shape, Stopped, numbered_from};
 use std::marker::Model;
 
@@ -68,7 +68,7 @@ impl<'a> Model for Floors<'a> {
 
 impl<'a> Floors<'a> {
     /// The floors of a shape, for what the next bracket can be at best.
-    #[tactic(auto, using(dutch_bracket::proofs::ShapeNumbers::small_mdps))]
+    #[tactic(auto, using(dutch_candidates::proofs::ShapeNumbers::small_mdps))]
     fn new(shaped: &ShapedBracket<'a>, outlook: Outlook) -> Floors<'a>
         requires { IsOutlookFrom shaped.now outlook }
         ensures { IsBasisFor shaped.now result }
@@ -104,7 +104,7 @@ impl<'a> Floors<'a> {
     }
 
     /// The shape, and that the bracket has room for it.
-    #[tactic(auto, using(dutch_bracket::proofs::ShapeNumbers::small_pairs))]
+    #[tactic(auto, using(dutch_candidates::proofs::ShapeNumbers::small_pairs))]
     fn shape(&self) -> Shape
         ensures value { result ≡ self.now.shape }
         ensures fits { Fits (frame_of self.now.facts self.now.reached) self.now.shape }
@@ -123,7 +123,7 @@ impl<'a> Floors<'a> {
     }
 
     /// Fills a list with the PSD that S1 gives if all residents have one score.
-    #[tactic(auto, using(dutch_bracket::proofs::ShapeNumbers::has_room))]
+    #[tactic(auto, using(dutch_candidates::proofs::ShapeNumbers::has_room))]
     fn fill_psd_with(&self, s1: &[u16], psd: &mut Numbers)
         requires few { length s1.now ≤ self.now.shape.mdps }
         ensures { psd.new.items ≡ psd_with self.now.facts self.now.reached self.now.shape
@@ -351,7 +351,7 @@ impl<'a> Floors<'a> {
     /// The quality that a first pass aims at, if all residents have one score: what a beginning with the first S1
     /// promises up to C.11. Any aim serves: the choice among the candidates that it is not better than is the choice of
     /// all.
-    #[tactic(auto, using(dutch_bracket::proofs::ShapeNumbers::first_length))]
+    #[tactic(auto, using(dutch_candidates::proofs::ShapeNumbers::first_length))]
     pub fn aim(&self) -> Option<Quality> {
         if !self.flat {
             return None;

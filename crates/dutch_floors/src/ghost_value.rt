@@ -14,10 +14,10 @@ use crate::ghosts::Ghosts;
 use arrayvec::ArrayVec;
 use dutch_bracket::context::Context;
 use dutch_bracket::differences::{push_times, put, put_times};
-use dutch_bracket::greatest::greatest_legal;
 use dutch_bracket::quality::NextValue;
 use dutch_bracket::reached::{push_all, push_scores};
 use dutch_bracket::shaped::ShapedBracket;
+use dutch_candidates::greatest::greatest_legal;
 use dutch_order::{Bracket, Budget, LIMIT, Numbers, Stopped, numbered_from};
 
 /// Adds the scores of those of some numbers who are not in S1.

@@ -5,10 +5,10 @@ ghost use Rattle.dutch_sequence.specs.declared.numbers.TheConstants.{LIMIT};
 ghost use Rattle.dutch_order.specs.Prelude.{is_member, numbers_from};
 ghost use Rattle.dutch_bracket.specs.Prelude.{has_bit, suits, waiting, pool, lonely, HasFewPairs};
 
-use dutch_bracket::bit_table::{WORD, has_bit, set_bit};
 use dutch_bracket::context::Context;
-use dutch_bracket::fixed_lists::FixedLists;
 use dutch_bracket::seated::Pair;
+use dutch_candidates::bit_table::{WORD, has_bit, set_bit};
+use dutch_candidates::fixed_lists::FixedLists;
 use dutch_order::{LIMIT, Numbers, Shape};
 
 /// A mark for each number of a bracket.

@@ -19,7 +19,7 @@ pub record Listing (R : Type 0) : Type 0 where
   pub latest : Option Arrangement
   pub ended : Bool
 
--- what there is, as a list
+-- what there is, as a list [own]
 abbrev pub listed : {T : Type 0} → Option T → List T
 listed None = []
 listed (Some x) = x ∷ []

@@ -23,7 +23,7 @@ filled S1 lists list = record { s1 = lists.s1; s2 = list; s1r = lists.s1r; s2r =
 filled S2 lists list = record { s1 = lists.s1; s2 = list; s1r = lists.s1r; s2r = lists.s2r }
 filled S2r lists list = record { s1 = lists.s1; s2 = lists.s2; s1r = lists.s1r; s2r = list }
 
--- a beginning, with so much of the list that is being filled
+-- a beginning, with so much of the list that is being filled [own]
 abbrev pub with_list : Beginning → List ℕ → Beginning
 with_list beginning list = record { filling = beginning.filling; lists = filled beginning.filling beginning.lists list }
 

@@ -103,7 +103,7 @@ impl Bracket {
     }
 
     /// Fills a list with the numbers of the residents.
-    pub(crate) fn put_residents(&self, residents: &mut Numbers)
+    pub fn put_residents(&self, residents: &mut Numbers)
         ensures items { residents.new.items ≡ residents_of self.now }
         ensures ascends { IsStrictlyIncreasing residents.new.items }
         ensures few { length self.now.scores ≤ LIMIT }

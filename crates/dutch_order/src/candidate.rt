@@ -12,8 +12,8 @@ use std::marker::Model;
 /// numbers in the bracket.
 #[derive(Drop)]
 pub struct Candidate {
-    pub(crate) lists: Arrangement,
-    pub(crate) down: Numbers,
+    pub lists: Arrangement,
+    pub down: Numbers,
 }
 
 impl Model for Candidate {

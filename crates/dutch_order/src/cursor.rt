@@ -24,7 +24,7 @@ use thiserror::Error;
 /// for.
 #[derive(Drop)]
 pub struct Cursor {
-    pub(crate) lists: Arrangement,
+    pub lists: Arrangement,
 }
 
 impl Model for Cursor {

@@ -1,40 +1,25 @@
-//! Arrangements of numbers in the order of the Handbook's article D, specified by sorted lists.
+//! Arrangements of the players of a bracket, by numbers: their definitions in the order of the Handbook's article D, by
+//! sorted lists, and the types that the listing in `dutch_listing` works with.
 //!
-//! `Candidates` lists the legal arrangements of a bracket and a shape, each once, in the order of article D;
-//! `Transpositions`, `Exchanges` and `LimboExchanges` list the choices of D.1, D.2 and D.3. A call answers the first of
-//! what is still to come, the end if nothing is, or that its limit was reached; then what is to come stays as it was. A
-//! `Cursor` says where a listing stands.
+//! A `Cursor` says where a listing stands, and has a text. A `Prefix` is the beginning of an arrangement. Nothing here
+//! knows chess.
 //!
-//! Nothing here knows chess: a `Rule` of the caller says, by numbers, who may meet and who may be left over. A `Budget`
-//! counts steps, each a number tried at a place, and no call goes beyond its limit. No proof bounds how many steps lie
-//! between two candidates.
+//! Nothing takes memory: every list is an array with room for `LIMIT` numbers, 1,024. So brackets and candidates are
+//! large values, of some KiB, and are cleared where they are made.
 //!
-//! Nothing takes memory: every list is an array with room for `LIMIT` numbers, 1,024. So generators and candidates are
-//! large values, of some KiB, and are cleared where they are made: keep one, and lend one candidate to be filled
-//! (`put_next_within`).
-//!
-//! To mind: numbers of a bracket count from 1, and the rule answers for all numbers, in either order alike.
+//! To mind: numbers of a bracket count from 1.
 #![tactic(auto)]
 
 mod arrangement;
-mod bound;
 mod bracket;
 mod candidate;
-mod candidates;
-mod choices;
 mod cursor;
-mod cuts;
-pub mod laws;
-mod levels;
-mod past;
 mod prefix;
 
-pub use bound::Bound;
-pub use bracket::{Bracket, Shape};
+pub use arrangement::{Arrangement, LastArrangement};
+pub use bracket::{Bracket, FittingShape, Shape};
 pub use candidate::Candidate;
-pub use candidates::Candidates;
 pub use cursor::{Cursor, CursorFault, CursorText, TEXT_LIMIT};
-pub use cuts::BoundWithRoom;
 pub use dutch_sequence::{
     Budget, Exchange, Exchanges, Generator, LIMIT, LimboExchanges, Numbers, Rule, Step, Stopped,
     Transpositions, numbered_from,

@@ -20,11 +20,11 @@ pub enum Filling {
 /// named by their numbers in the bracket. A list that is not reached yet is empty.
 #[derive(Drop)]
 pub struct Prefix<'a> {
-    pub(crate) filling: Filling,
-    pub(crate) s1: &'a [u16],
-    pub(crate) s2: &'a [u16],
-    pub(crate) s1r: &'a [u16],
-    pub(crate) s2r: &'a [u16],
+    pub filling: Filling,
+    pub s1: &'a [u16],
+    pub s2: &'a [u16],
+    pub s1r: &'a [u16],
+    pub s2r: &'a [u16],
 }
 
 impl<'a> Model for Prefix<'a> {
@@ -40,7 +40,7 @@ impl<'a> Model for Prefix<'a> {
 
 impl<'a> Prefix<'a> {
     /// The beginning of every arrangement.
-    pub(crate) fn nothing() -> Prefix<'a>
+    pub fn nothing() -> Prefix<'a>
         ensures { result.filling ≡ S1 }
     {
         Prefix {
@@ -53,7 +53,7 @@ impl<'a> Prefix<'a> {
     }
 
     /// The same, with so much of the list that is being filled, S2 or S2R.
-    pub(crate) fn with<'n>(&'n self, list: &'n [u16]) -> Prefix<'n>
+    pub fn with<'n>(&'n self, list: &'n [u16]) -> Prefix<'n>
         ensures { result ≡ with_list self.now list.now }
     {
         if self.filling == Filling::S2r {

@@ -11,11 +11,11 @@ use Rattle.dutch_bracket.specs.declared.reached.BracketKind.{BracketKind}
 use Rattle.dutch_bracket.specs.Prelude.{Reached, ends_round, frame_of, is_number, numbers_meet, number_may_be_left, Choice, bracket, candidates_of, choice, completable, downfloaters, eligible, is_penultimate, seat_of, is_seat, seats_meet, has_member, seats_meet_sym}
 use Rattle.dutch_bracket.proofs.ArrangementParts.{numbers_rise}
 use Rattle.dutch_pair.proofs.FinalBrackets.{is_number_true, low_seat, same_number, seat_in, within}
-use Rattle.dutch_bracket.proofs.MateLists.{IsNumber, has_kept, twice_map}
+use Rattle.dutch_candidates.proofs.MateLists.{IsNumber, has_kept, twice_map}
 use Rattle.dutch_pair.proofs.OnePairMore.{Larger, one_larger}
 use Rattle.dutch_bracket.proofs.ShapeLaws.{has_room, none_is_greater}
 use Rattle.dutch_choice.proofs.BestLemmas.{chosen_is}
-use Rattle.dutch_bracket.proofs.EligibleLemmas.{eligible_all, eligible_some}
+use Rattle.dutch_completion.proofs.EligibleLemmas.{eligible_all, eligible_some}
 
 -- ---- what is chosen
 

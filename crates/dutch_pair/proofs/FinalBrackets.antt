@@ -8,8 +8,8 @@ use Rattle.dutch_player.specs.Prelude.{Facts, seat_at, may_meet}
 use Rattle.dutch_bracket.specs.declared.reached.BracketKind.{BracketKind}
 use Rattle.dutch_bracket.specs.Prelude.{Reached, frame_of, is_number, numbers_meet, number_may_be_left, Choice, bracket, candidates_of, choice, eligible, shape_of, seat_of, score_at, is_seat, seats_meet, seats_may_be_left, has_member}
 use Rattle.dutch_choice.proofs.BestLemmas.{choice_of_shape}
-use Rattle.dutch_bracket.proofs.MateLists.{IsNumber, NumberMates, mates_candidate, mates_fit, mates_shape}
-use Rattle.dutch_bracket.proofs.Mates.{AreMates}
+use Rattle.dutch_candidates.proofs.MateLists.{IsNumber, NumberMates, mates_candidate, mates_fit, mates_shape}
+use Rattle.dutch_completion.proofs.Mates.{AreMates}
 use Rattle.dutch_bracket.proofs.ShapeLaws.{none_has_one}
 use Rattle.dutch_bracket.proofs.SeatPlaces.{get_in, get_place, place_get, place_of}
 

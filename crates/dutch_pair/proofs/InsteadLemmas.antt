@@ -6,12 +6,13 @@ use Rattle.dutch_order.specs.declared.bracket.Shape.{Shape}
 use Rattle.dutch_order.specs.Prelude.{Arrangement, Fits, Frame, Passes}
 use Rattle.dutch_player.specs.Prelude.{Facts}
 use Rattle.dutch_pair.specs.declared.stage.Stage.{Stage}
-use Rattle.dutch_bracket.specs.declared.wish.Wish.{Wish}
-use Rattle.dutch_bracket.specs.Prelude.{grants, Context, FitsHere, eligible_here, Reached, frame_of, candidates_of, eligible, is_penultimate, shape_of, fits, has_member}
+use Rattle.dutch_candidates.specs.declared.wish.Wish.{Wish}
+use Rattle.dutch_bracket.specs.Prelude.{Context, FitsHere, eligible_here, Reached, frame_of, candidates_of, eligible, is_penultimate, shape_of, fits, has_member}
+use Rattle.dutch_candidates.specs.Wishes.{grants}
 use Rattle.dutch_choice.specs.Prelude.{best_wished, NoneGrants, granting, is_better_here, some_grants, with_mdps}
 use Rattle.dutch_pair.specs.Prelude.{above_lower, lower_of, IsStage, choice_of}
 use Rattle.dutch_choice.proofs.BestLemmas.{best_of_some, chosen_is, order_in}
-use Rattle.dutch_bracket.proofs.EligibleLemmas.{eligible_all}
+use Rattle.dutch_completion.proofs.EligibleLemmas.{eligible_all}
 use Rattle.dutch_bracket.proofs.ShapeLaws.{has_room, none_is_greater}
 use Rattle.dutch_bracket.proofs.ShapeSearch.{fits_by_test}
 

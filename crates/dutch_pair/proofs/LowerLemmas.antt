@@ -11,7 +11,7 @@ use Rattle.dutch_bracket.specs.Prelude.{score_at, AreSeats, Reached}
 use Rattle.dutch_pair.specs.Prelude.{AreAbove, Goes, everybody, is_below, lower_of}
 use Rattle.dutch_pair.proofs.GroupWalk.{everybody_goes, rest_inside}
 use Rattle.dutch_pair.proofs.WalkLemmas.{Descends, above_back}
-use Rattle.dutch_order.proofs.TooManyLeft.{filter-none-in}
+use Rattle.dutch_listing.proofs.TooManyLeft.{filter-none-in}
 use Rattle.dutch_sequence.proofs.FromOn.{filter-each}
 use Rattle.dutch_sequence.proofs.Orders.{IsIn-front, IsIn-back, IsIn-append, member_has}
 

@@ -9,7 +9,7 @@ use Rattle.std.proofs.lemmas.Bool.{cases_eq, cases_order, false_from_ne_true, co
 use Rattle.dutch_order.specs.declared.bracket.Shape.{Shape}
 use Rattle.dutch_order.specs.Prelude.{Arrangement, Fits, Frame, arrangements, down, is_legal, numbers_from, NoneTwice, IsIn}
 use Rattle.dutch_order.proofs.CursorSets.{AreLists}
-use Rattle.dutch_order.proofs.FormArrangements.{in-lists}
+use Rattle.dutch_listing.proofs.FormArrangements.{in-lists}
 use Rattle.dutch_sequence.proofs.Lists.{filter-all, map-numbers_from}
 use Rattle.dutch_order.proofs.NoneTwice.{rises-twice, twice-apart, twice-back, twice-front, twice-join}
 use Rattle.dutch_sequence.proofs.Orders.{IsIn-append, IsIn-back, IsIn-front, IsIn-map, map-IsIn, IsIn-filter, filter-IsIn, member_has}
@@ -21,14 +21,14 @@ use Rattle.dutch_bracket.specs.declared.reached.BracketKind.{BracketKind}
 use Rattle.dutch_bracket.specs.declared.reached.BracketKind.TheVariants.{Ordinary, Last, Penultimate, Collapsed}
 use Rattle.dutch_pair.proofs.RoundBy.{final_by, ordinary_by, penultimate_by}
 use Rattle.dutch_bracket.proofs.ArrangementParts.{numbers_rise}
-use Rattle.dutch_bracket.proofs.Covering.{completable_by_test}
+use Rattle.dutch_completion.proofs.Covering.{completable_by_test}
 use Rattle.dutch_choice.proofs.BestLemmas.{chosen_is}
 use Rattle.dutch_pair.proofs.Downfloaters.{down_number, down_seats, down_strangers, down_twice, more_candidate, more_of, no_more}
-use Rattle.dutch_bracket.proofs.EligibleLemmas.{eligible_all, eligible_some}
+use Rattle.dutch_completion.proofs.EligibleLemmas.{eligible_all, eligible_some}
 use Rattle.dutch_pair.proofs.FinalBrackets.{Chooses, chooses, count, final_candidate, final_fits, final_shape, same_number, within}
 use Rattle.dutch_bracket.proofs.GroupLemmas.{concat_scoregroups}
-use Rattle.dutch_bracket.proofs.MateLists.{fits_arrangement, has_kept}
-use Rattle.dutch_bracket.proofs.Mates.{AreMates, FoundMates, complete_mates, fewer_mates, mates_complete}
+use Rattle.dutch_candidates.proofs.MateLists.{fits_arrangement, has_kept}
+use Rattle.dutch_completion.proofs.Mates.{AreMates, FoundMates, complete_mates, fewer_mates, mates_complete}
 use Rattle.dutch_pair.proofs.OnePairMore.{pairs_legal}
 use Rattle.dutch_pair.proofs.RoundEnds.{none_past}
 

@@ -4,12 +4,12 @@ use Rattle.std.specs.List.{AllByRecursion}
 use Rattle.std.proofs.lemmas.Bool.{and_parts, and_from}
 use Rattle.dutch_order.specs.declared.bracket.Shape.{Shape}
 use Rattle.dutch_order.specs.Prelude.{all_meet, HasArrangement, HasOneMore, TakesPair, by_place, pairs_by_number, players_in, IsIn, Arrangement, Fits, Frame, arrangements, down, is_legal, leaves_one, paired, players_of}
-use Rattle.dutch_order.proofs.FormArrangements.{form-arrangement, lists-in, paired-pairs, pairs-paired}
-use Rattle.dutch_order.proofs.FormInsertions.{all-inserted, inserted-players, players-inserted, takes-pair}
+use Rattle.dutch_listing.proofs.FormArrangements.{form-arrangement, lists-in, paired-pairs, pairs-paired}
+use Rattle.dutch_listing.proofs.FormInsertions.{all-inserted, inserted-players, players-inserted, takes-pair}
 use Rattle.dutch_order.proofs.NoneTwice.{in-left, left-in}
 use Rattle.dutch_sequence.proofs.Skipping.{all-behind}
 use Rattle.dutch_bracket.proofs.AllLemmas.{all_join}
-use Rattle.dutch_bracket.proofs.MateLists.{fits_arrangement}
+use Rattle.dutch_candidates.proofs.MateLists.{fits_arrangement}
 use Rattle.dutch_pair.proofs.WalkLemmas.{all_front}
 use Rattle.dutch_bracket.specs.Prelude.{IsGreater}
 

@@ -5,8 +5,9 @@ use Rattle.dutch_order.specs.declared.bracket.Shape.{Shape}
 use Rattle.dutch_order.specs.Prelude.{down}
 use Rattle.dutch_pair.specs.declared.instead.Instead.{Instead}
 use Rattle.dutch_pair.specs.declared.instead.Instead.TheVariants.{Best, FewerMovedDown, NoneEligible, NoneLegal, Undecided}
-use Rattle.dutch_bracket.specs.declared.wish.Wish.{Wish}
-use Rattle.dutch_bracket.specs.Prelude.{quality_in, Context, candidates_here, eligible_here, frame_here, quality_here, grants}
+use Rattle.dutch_candidates.specs.declared.wish.Wish.{Wish}
+use Rattle.dutch_bracket.specs.Prelude.{quality_in, Context, candidates_here, eligible_here, frame_here, quality_here}
+use Rattle.dutch_candidates.specs.Wishes.{grants}
 use Rattle.dutch_choice.specs.Prelude.{IsBarred, SomeGrants, best_granting, some_grants, with_mdps}
 
 -- what is told of a wish in a bracket: the best candidate that grants it; or the first of these that stands: legal ones grant it, but none

@@ -6,7 +6,8 @@ ghost use Rattle.std.specs.Result.{MatchResult};
 ghost use Rattle.dutch_order.specs.Prelude.{MatchDrawn, Spends};
 ghost use Rattle.dutch_pair.specs.Lower.{above_lower};
 ghost use Rattle.dutch_pair.specs.Outcomes.{IsStage};
-ghost use Rattle.dutch_bracket.specs.Prelude.{candidates_in, eligible_in, shape_here, Decides, grants};
+ghost use Rattle.dutch_bracket.specs.Prelude.{candidates_in, eligible_in, shape_here, Decides};
+ghost use Rattle.dutch_candidates.specs.Wishes.{grants};
 ghost use Rattle.dutch_choice.specs.Prelude.{NoneGrants, SomeGrants, some_grants, with_mdps};
 ghost use Rattle.dutch_pair.specs.Instead.{IsInstead};
 
@@ -14,13 +15,14 @@ use crate::lower::lower_of;
 use crate::stage::Stage;
 use dutch_bracket::context::Context;
 use dutch_bracket::fault::PairFault;
-use dutch_bracket::greatest::has_room;
 use dutch_bracket::quality::Quality;
 use dutch_bracket::shaped::ShapedBracket;
-use dutch_bracket::wish::Wish;
+use dutch_candidates::greatest::has_room;
+use dutch_candidates::wish::Wish;
 use dutch_choice::barred::rules_out;
 use dutch_choice::finder::{Finder, best_by};
-use dutch_order::{Bound, Budget, Candidate, Candidates, Exchange, Prefix, Shape, Step, Stopped};
+use dutch_listing::{Bound, Candidates};
+use dutch_order::{Budget, Candidate, Exchange, Prefix, Shape, Step, Stopped};
 use dutch_player::Field;
 use std::alloc::Global;
 
@@ -58,7 +60,8 @@ impl<'a> Bound for Wished<'a> {
     type Room = ();
 
     ghost use Rattle.std.specs.Prelude.{not};
-    ghost use Rattle.dutch_bracket.specs.Prelude.{frame_here, numbers_meet, number_may_be_left, grants};
+    ghost use Rattle.dutch_bracket.specs.Prelude.{frame_here, numbers_meet, number_may_be_left};
+    ghost use Rattle.dutch_candidates.specs.Wishes.{grants};
 
     ghost frame = { λ w. frame_here w.shaped.context.now };
 

@@ -31,12 +31,14 @@ mod stage;
 mod walk;
 
 pub use barrier::{Barrier, barrier_of, lacks_bye};
-pub use dutch_bracket::wish::Wish;
 pub use dutch_bracket::{
     Answer, BracketKind, ByNumber, ITEMS, Item, NextValue, Pair, PairFault, Quality, Reached,
-    Seats, are_left, completes, is_next, seats, split_first_group,
+    Seats, split_first_group,
 };
+pub use dutch_candidates::wish::Wish;
+pub use dutch_candidates::{are_left, is_next};
 pub use dutch_choice::{Choice, Finder, choose, lookahead};
+pub use dutch_completion::{completes, seats};
 pub use instead::{Instead, best_instead};
 pub use items::who_counts;
 pub use lower::lower_of;

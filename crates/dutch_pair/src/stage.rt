@@ -7,13 +7,13 @@ ghost use Rattle.dutch_pair.specs.Outcomes.{IsStage};
 ghost use Rattle.dutch_pair.specs.Stages.{IsSettled, is_again, own_pairs};
 
 use dutch_bracket::context::Context;
-use dutch_bracket::eligible::leaves_completable;
 use dutch_bracket::fault::PairFault;
 use dutch_bracket::quality::Quality;
 use dutch_bracket::reached::{BracketKind, Reached, Seats};
 use dutch_bracket::seated::{Pair, by_seats};
 use dutch_choice::choice::{Choice, choose_in};
 use dutch_choice::finder::Finder;
+use dutch_completion::eligible::leaves_completable;
 use dutch_order::{Budget, Candidate, Shape, Stopped};
 use dutch_player::Field;
 

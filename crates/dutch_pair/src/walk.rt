@@ -16,13 +16,13 @@ ghost use Rattle.dutch_pair.specs.Stages.{round_by, round_from, stage_first};
 
 use crate::stage::{Stage, settle};
 use dutch_bracket::context::Context;
-use dutch_bracket::eligible::can_complete;
 use dutch_bracket::fault::PairFault;
 use dutch_bracket::group::split_first_group;
 use dutch_bracket::reached::{BracketKind, Reached, Seats, bracket, copied};
 use dutch_bracket::seated::seats_of;
 use dutch_choice::finder::Finder;
 use dutch_choice::shape::shape_of;
+use dutch_completion::eligible::can_complete;
 use dutch_order::{Budget, Shape, Stopped, numbered_from};
 use dutch_player::Field;
 use dutch_player::laws::scores_do_not_ascend;

@@ -6,17 +6,18 @@ use Rattle.std.specs.Option.{MatchOption}
 use Rattle.std.proofs.lemmas.Bool.{true≢false, not-true, not-false, or_right}
 use Rattle.dutch_order.specs.Prelude.{Passes, Arrangement}
 use Rattle.dutch_order.specs.declared.bracket.Shape.{Shape}
-use Rattle.dutch_order.proofs.Passing.{passes-each}
+use Rattle.dutch_listing.proofs.Passing.{passes-each}
 use Rattle.dutch_choice.specs.declared.finder.Best.{Best}
-use Rattle.dutch_bracket.specs.declared.wish.Wish.{Wish}
-use Rattle.dutch_bracket.specs.Prelude.{Context, can_be_chosen_here, candidates_here, eligible_here, quality_here, Quality, is_better, quality_in, candidates_of, eligible, first_unbeaten, best, best_with, is_wished}
+use Rattle.dutch_candidates.specs.declared.wish.Wish.{Wish}
+use Rattle.dutch_bracket.specs.Prelude.{Context, can_be_chosen_here, candidates_here, eligible_here, quality_here, Quality, is_better, quality_in, candidates_of, eligible, first_unbeaten, best, best_with}
+use Rattle.dutch_candidates.specs.Wishes.{is_wished}
 use Rattle.dutch_choice.specs.Prelude.{IsBest, is_better_here, best_wished}
 use Rattle.dutch_passes.specs.Prelude.{kept_lists, wins, IsKept, beats, loses, is_near, is_idle, is_open, is_sought, best_yet, best_near}
 use Rattle.dutch_choice.proofs.ChoiceLemmas.{IsOrder, order_of}
 use Rattle.dutch_passes.proofs.KeptBest.{behind_aim, behind_either, behind_kept, kept_at_end, kept_by, passed_by, wins_over}
 use Rattle.dutch_bracket.proofs.QualityOrder.{irreflexive, transitive, total}
 use Rattle.dutch_choice.proofs.BestLemmas.{order_in}
-use Rattle.dutch_bracket.proofs.EligibleLemmas.{eligible_is}
+use Rattle.dutch_completion.proofs.EligibleLemmas.{eligible_is}
 
 -- where each near one is better than each far one, the first unbeaten near one is the first unbeaten of all
 module _ {X : Type 0} (better : X → X → Bool) (order : IsOrder better) (near : X → Bool)

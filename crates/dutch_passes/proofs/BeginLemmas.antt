@@ -2,7 +2,7 @@
 use Rattle.std.proofs.Common.{◌≡◌, Option, None, inl, inr, refl, sym, ap, ◌∙◌, subst}
 use Rattle.dutch_order.specs.declared.bracket.Shape.{Shape}
 use Rattle.dutch_order.specs.Prelude.{Candidate, IsIn, Listing}
-use Rattle.dutch_bracket.specs.declared.greatest.Lister.{Lister}
+use Rattle.dutch_candidates.specs.declared.greatest.Lister.{Lister}
 use Rattle.dutch_bracket.specs.declared.reached.ByNumber.{ByNumber}
 use Rattle.dutch_bracket.specs.Prelude.{Context, StandsBehindFirst, candidates_here}
 use Rattle.dutch_bracket.proofs.LegalPairs.{legal_of}

@@ -6,8 +6,9 @@ use Rattle.dutch_order.specs.Prelude.{Arrangement}
 use Rattle.dutch_choice.specs.declared.finder.Best.{Best}
 use Rattle.dutch_choice.specs.Prelude.{is_better_here}
 use Rattle.dutch_bracket.specs.declared.quality.Quality.{Quality as Fields}
-use Rattle.dutch_bracket.specs.declared.wish.Wish.{Wish}
-use Rattle.dutch_bracket.specs.Prelude.{Context, can_be_chosen_here, candidates_here, quality_here, Quality, is_better, quality_in, best_with, is_wished}
+use Rattle.dutch_candidates.specs.declared.wish.Wish.{Wish}
+use Rattle.dutch_bracket.specs.Prelude.{Context, can_be_chosen_here, candidates_here, quality_here, Quality, is_better, quality_in, best_with}
+use Rattle.dutch_candidates.specs.Wishes.{is_wished}
 use Rattle.dutch_passes.specs.Kept.{kept_lists, wins}
 
 -- the aim of a pass, if it has one [own]

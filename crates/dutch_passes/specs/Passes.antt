@@ -2,7 +2,7 @@
 use Rattle.std.specs.Prelude.{◌≡◌, List, ◌∷◌, Option, None, Bool, true}
 use Rattle.std.specs.Option.{MatchOption}
 use Rattle.dutch_order.specs.Prelude.{Arrangement, down, Candidate, IsIn, Listing, Passes}
-use Rattle.dutch_bracket.specs.declared.greatest.Lister.{Lister}
+use Rattle.dutch_candidates.specs.declared.greatest.Lister.{Lister}
 use Rattle.dutch_bracket.specs.declared.reached.ByNumber.{ByNumber}
 use Rattle.dutch_bracket.specs.Prelude.{Context, Lists, candidates_here, quality_here, IsOfBracket}
 use Rattle.dutch_choice.specs.declared.finder.Best.{Best}

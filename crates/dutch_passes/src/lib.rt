@@ -12,5 +12,5 @@ mod remembered;
 
 pub use guide::{Guide, Workroom};
 pub use pass::{Pass, PassSoFar, is_barred, is_barred_with, loses};
-pub use passes::{Search, best_in_time};
+pub use passes::{PassRoom, best_in_time};
 pub use remembered::{Judge, Look, LookAhead, look_below};

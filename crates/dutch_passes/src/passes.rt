@@ -14,19 +14,20 @@ ghost use Rattle.dutch_passes.specs.Passes.{SeeksTheSame, near_of, wished_of};
 use crate::guide::Guide;
 use crate::pass::{Pass, PassSoFar, loses};
 use crate::remembered::{Judge, judge_candidate};
-use dutch_bracket::eligible::{at_most, can_be_chosen};
-use dutch_bracket::greatest::Lister;
 use dutch_bracket::reached::{BracketKind, ByNumber};
-use dutch_bracket::wish::is_wished;
+use dutch_bracket::spending::at_most;
+use dutch_candidates::greatest::Lister;
+use dutch_candidates::wish::is_wished;
 use dutch_choice::finder::Best;
 use dutch_choice::start::Start;
+use dutch_completion::eligible::can_be_chosen;
 use dutch_order::{Budget, Candidate, Stopped};
 use std::mem::take;
 
 /// What the passes over the candidates of a shape are made with: what tells the quality of candidates, and keeps the
 /// best one; and the lister that draws them, with where it stands.
 #[derive(Drop)]
-pub struct Search<'a, 'l, 'r, 'n, G: Guide> {
+pub struct PassRoom<'a, 'l, 'r, 'n, G: Guide> {
     pub judge: Judge<'a, G>,
     pub lister: &'l mut Lister<'r, ByNumber<'n>>,
     pub start: Start,
@@ -71,7 +72,7 @@ fn consider<G: Guide>(
 #[tactic(auto, using(crate::proofs::BeginLemmas::begun_anew))]
 fn begin<G: Guide>(
     pass: &Pass<'_>,
-    search: &mut Search<'_, '_, '_, '_, G>,
+    search: &mut PassRoom<'_, '_, '_, '_, G>,
     budget: &mut Budget,
 ) -> Result<(), Stopped>
     requires lister { IsLentFor pass.now search.old.start search.old.lister.now }
@@ -138,7 +139,7 @@ fn go_on<'a, G: Guide>(
 #[tactic(auto, using(crate::proofs::BeginLemmas::lent_anew))]
 fn best_near<'a, G: Guide>(
     pass: &'a Pass<'a>,
-    search: &mut Search<'_, '_, '_, '_, G>,
+    search: &mut PassRoom<'_, '_, '_, '_, G>,
     budget: &mut Budget,
 ) -> Result<(), Stopped>
     requires lister { IsLentFor pass.now search.old.start search.old.lister.now }
@@ -161,7 +162,7 @@ fn best_near<'a, G: Guide>(
 /// that can be chosen, which says nothing of the choice.
 fn best_by_aim<'a, G: Guide>(
     pass: &'a Pass<'a>,
-    search: &mut Search<'_, '_, '_, '_, G>,
+    search: &mut PassRoom<'_, '_, '_, '_, G>,
     budget: &mut Budget,
 ) -> Result<(), Stopped>
     requires lister { IsLentFor pass.now search.old.start search.old.lister.now }
@@ -186,7 +187,7 @@ fn best_by_aim<'a, G: Guide>(
 #[tactic(auto, using(crate::proofs::AimLemmas::without_aim))]
 fn best_in_passes<G: Guide>(
     pass: &mut Pass<'_>,
-    search: &mut Search<'_, '_, '_, '_, G>,
+    search: &mut PassRoom<'_, '_, '_, '_, G>,
     budget: &mut Budget,
 ) -> Result<(), Stopped>
     requires lister { IsLentFor pass.old search.old.start search.old.lister.now }
@@ -229,7 +230,7 @@ fn tells_next<G: Guide>(pass: &Pass<'_>, guide: &G) -> bool {
 /// Keeps what the passes end with in so many steps. A no says that these do not suffice.
 fn best_within<G: Guide>(
     pass: &mut Pass<'_>,
-    search: &mut Search<'_, '_, '_, '_, G>,
+    search: &mut PassRoom<'_, '_, '_, '_, G>,
     steps: u64,
     budget: &mut Budget,
 ) -> Result<bool, Stopped>
@@ -260,7 +261,7 @@ fn best_within<G: Guide>(
 #[inline(never)]
 fn best_by_weight<G: Guide>(
     pass: &mut Pass<'_>,
-    search: &mut Search<'_, '_, '_, '_, G>,
+    search: &mut PassRoom<'_, '_, '_, '_, G>,
     next: bool,
     budget: &mut Budget,
 ) -> Result<bool, Stopped>
@@ -289,7 +290,7 @@ fn best_by_weight<G: Guide>(
 /// (Nothing here depends on the limit: with a higher one the same way goes on.)
 pub fn best_in_time<G: Guide>(
     pass: &mut Pass<'_>,
-    search: &mut Search<'_, '_, '_, '_, G>,
+    search: &mut PassRoom<'_, '_, '_, '_, G>,
     budget: &mut Budget,
 ) -> Result<(), Stopped>
     requires lister { IsLentFor pass.old search.old.start search.old.lister.now }

@@ -16,9 +16,9 @@ pub(crate) struct LastBeginning {
 
 /// Adds the pairs of two lists of numbers, place by place. (There is room for all pairs of a bracket.)
 fn put_pairs(firsts: &[u16], seconds: &[u16], pairs: &mut ArrayVec<Pair, LIMIT>) {
-    for (first, second) in firsts.iter().zip(seconds.iter()) {
+    for place in 0..firsts.len().min(seconds.len()) {
         if pairs.len() < LIMIT {
-            pairs.push((*first, *second));
+            pairs.push((firsts[place], seconds[place]));
         }
     }
 }

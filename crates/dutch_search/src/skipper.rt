@@ -16,7 +16,8 @@ use crate::last_beginning::WalkNotes;
 use dual::Wide;
 use dutch_bracket::quality::Quality;
 use dutch_floors::notes::FloorQuestion;
-use dutch_order::{Bound, Exchange, Prefix};
+use dutch_listing::Bound;
+use dutch_order::{Exchange, Prefix};
 use dutch_passes::{Workroom, is_barred, is_barred_with, loses};
 
 impl<'a, 'k> Skipper<'a, 'k> {

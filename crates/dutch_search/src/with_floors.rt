@@ -1,19 +1,22 @@
 // The best candidate of a shape (C.04.3 B.8), found within floors of both kinds.
-ghost use Rattle.std.specs.Prelude.{◌≡◌};
+ghost use Rattle.std.specs.Prelude.{◌≡◌, None};
 ghost use Rattle.std.specs.Result.{MatchResult};
-ghost use Rattle.dutch_order.specs.Prelude.{Spends};
+ghost use Rattle.dutch_order.specs.Prelude.{MatchStep, Spends};
+ghost use Rattle.dutch_choice.specs.Prelude.{IsBest};
+ghost use Rattle.dutch_passes.specs.Prelude.{IsLentFor, LooksFor, wished_of};
+ghost use Rattle.dutch_search.specs.Searching.{AreFor};
 ghost use Rattle.dutch_floors.specs.Behind.{IsBasisFor};
 
 use crate::both::BothFloors;
-use dutch_bracket::eligible::at_most;
 use dutch_bracket::fault::PairFault;
-use dutch_bracket::greatest::Lister;
 use dutch_bracket::reached::{ByNumber, Seats};
 use dutch_bracket::shaped::ShapedBracket;
-use dutch_choice::finder::{Asked, Best, Finder};
+use dutch_bracket::spending::at_most;
+use dutch_candidates::greatest::Lister;
+use dutch_choice::finder::{Best, Finder, FinderRequest};
 use dutch_floors::floor::Floors;
 use dutch_order::{Budget, Step, Stopped};
-use dutch_passes::{Judge, Pass, Search, Workroom, best_in_time, look_below};
+use dutch_passes::{Judge, Pass, PassRoom, Workroom, best_in_time, look_below};
 
 /// In how many steps it is looked for what the next bracket can be at best: a step for each player of the bracket with
 /// each of the next scoregroup, and a listing.
@@ -40,6 +43,30 @@ fn floors_of<'a>(shaped: &ShapedBracket<'a>, budget: &mut Budget) -> Result<Floo
     Ok(Floors::by_counts(shaped))
 }
 
+/// What the passes end with. (Apart from where the search is made ready, as that owns much.)
+fn best_in_passes(
+    pass: &mut Pass<'_>,
+    search: &mut PassRoom<'_, '_, '_, '_, BothFloors<'_>>,
+    budget: &mut Budget,
+) -> Step<Best>
+    requires lister { IsLentFor pass.old search.old.start search.old.lister.now }
+    requires look { LooksFor pass.old search.old.judge.look }
+    requires context { search.old.judge.guide.shaped.context.now ≡ pass.old.shaped.context.now }
+    requires shape { search.old.judge.guide.shaped.shape ≡ pass.old.shaped.shape }
+    requires guide { AreFor pass.old search.old.judge.guide }
+    ensures answer { MatchStep result (IsBest pass.old.shaped.context.now (wished_of pass.old))
+        (wished_of pass.old ≡ None) (budget.new.used ≡ budget.new.limit) }
+    ensures spends { Spends budget.old budget.new }
+{
+    match best_in_time(pass, search, budget) {
+        Ok(()) => match search.judge.kept.take() {
+            Some(best) => Step::Found(best),
+            None => Step::End,
+        },
+        Err(Stopped) => Step::Undecided,
+    }
+}
+
 /// Who finds within floors by counts and by weight: what a pass with an aim ends with, or if that is nothing, one
 /// without.
 #[derive(Drop)]
@@ -47,7 +74,7 @@ pub struct WithFloors;
 
 impl Finder for WithFloors {
     fn best_of(
-        asked: &Asked<'_>,
+        asked: &FinderRequest<'_>,
         lister: &mut Lister<'_, ByNumber<'_>>,
         budget: &mut Budget,
     ) -> Result<Step<Best>, PairFault> {
@@ -72,17 +99,11 @@ impl Finder for WithFloors {
                 weights: None,
             },
         };
-        let mut search = Search {
+        let mut search = PassRoom {
             judge,
             lister,
             start: asked.start,
         };
-        match best_in_time(&mut pass, &mut search, budget) {
-            Ok(()) => match search.judge.kept.take() {
-                Some(best) => Ok(Step::Found(best)),
-                None => Ok(Step::End),
-            },
-            Err(Stopped) => Ok(Step::Undecided),
-        }
+        Ok(best_in_passes(&mut pass, &mut search, budget))
     }
 }

@@ -1,5 +1,5 @@
 -- Sums over the pairs of two lists and over those whom a list passes over, one step on.
-use Rattle.std.proofs.Common.{◌≡◌, ℕ, suc, ◌+◌, ◌-◌, ◌<◌, ◌≤◌, Bool, true, false, cond, List, drop, length, sum_by, inl, inr, sym, ap, ◌∙◌, min, arith}
+use Rattle.std.proofs.Common.{◌≡◌, ℕ, suc, ◌+◌, ◌-◌, ◌<◌, ◌≤◌, Bool, true, false, cond, List, ◌∷◌, drop, drop-cons, get_or, length, sum_by, inl, inr, sym, ap, ◌∙◌, min, arith}
 use Rattle.std.specs.List.{zip}
 use Rattle.std.proofs.lemmas.List.{drop_all, drop-drop}
 use Rattle.std.proofs.lemmas.List.Sums.{sum_by-cons}
@@ -19,6 +19,28 @@ no_pair f xs ys i done = elim (at_most (length xs) (length ys)) [
   | inr less ↦
       ap (λ (zs : List ℕ). sum_by f (zip (drop i xs) zs)) (drop_all i ys (shorter (length xs) (length ys) i done less)) ∙ ap (sum_by f) (zip_none (drop i xs))
 ]
+
+-- one pair more is of the two next numbers
+pub one_pair : (f : ℕ × ℕ → ℕ) (xs ys : List ℕ) (i count : ℕ) → i < count → count ≡ min (length xs) (length ys)
+    → sum_by f (zip (drop i xs) (drop i ys)) ≡ f (get_or xs i 0, get_or ys i 0) + sum_by f (zip (drop (i + 1) xs) (drop (i + 1) ys))
+one_pair f xs ys i count more is =
+    let x : drop i xs ≡ get_or xs i 0 ∷ drop (suc i) xs = drop-cons xs i 0 (omega (arith, more, is)) in
+    let y : drop i ys ≡ get_or ys i 0 ∷ drop (suc i) ys = drop-cons ys i 0 (omega (arith, more, is)) in
+    ap (λ (zs : List ℕ). sum_by f (zip zs (drop i ys))) x
+    ∙ ap (λ (zs : List ℕ). sum_by f (zip (get_or xs i 0 ∷ drop (suc i) xs) zs)) y
+    ∙ sum_by-cons f (get_or xs i 0, get_or ys i 0) (zip (drop (suc i) xs) (drop (suc i) ys))
+    ∙ ap (λ k. f (get_or xs i 0, get_or ys i 0) + sum_by f (zip (drop k xs) (drop k ys))) (let e : suc i ≡ i + 1 = omega arith in e)
+
+-- one number more is the next one, and none is to come at the end
+pub one_number : (f : ℕ → ℕ) (xs : List ℕ) (i : ℕ) → i < length xs → sum_by f (drop i xs) ≡ f (get_or xs i 0) + sum_by f (drop (i + 1) xs)
+one_number f xs i more =
+    let x : drop i xs ≡ get_or xs i 0 ∷ drop (suc i) xs = drop-cons xs i 0 more in
+    ap (sum_by f) x
+    ∙ sum_by-cons f (get_or xs i 0) (drop (suc i) xs)
+    ∙ ap (λ k. f (get_or xs i 0) + sum_by f (drop k xs)) (let e : suc i ≡ i + 1 = omega arith in e)
+
+pub no_number : (f : ℕ → ℕ) (xs : List ℕ) (i : ℕ) → length xs ≤ i → sum_by f (drop i xs) ≡ 0
+no_number f xs i done = ap (sum_by f) (drop_all i xs done)
 
 module _ (f : ℕ → ℕ) (list : List ℕ) (met first count : ℕ) where
   step_at : (t : Bool) → is_first first (drop met list) ≡ t

@@ -15,22 +15,23 @@ use Rattle.dutch_order.specs.Prelude.{Arrangement, Fits, down, numbers_from, IsI
 use Rattle.dutch_sequence.proofs.Lists.{map-numbers_from}
 use Rattle.dutch_sequence.proofs.Members.{length-numbers, numbers-append}
 use Rattle.dutch_player.specs.Prelude.{Facts}
-use Rattle.dutch_bracket.specs.declared.wish.Wish.{Wish}
+use Rattle.dutch_candidates.specs.declared.wish.Wish.{Wish}
 use Rattle.dutch_weights.specs.declared.scoped.Reach.TheVariants.{Lower}
 use Rattle.dutch_bracket.specs.Completion.{Completable, MayBeLeftOut}
-use Rattle.dutch_bracket.specs.Prelude.{fixed_lists, IsOf, Reached, frame_of, candidates_of, completable, downfloaters, quality_of, AllNumbers, seat_of, seats_may_be_left, seats_meet, number_pairs, is_wished}
+use Rattle.dutch_bracket.specs.Prelude.{fixed_lists, IsOf, Reached, frame_of, candidates_of, completable, downfloaters, quality_of, AllNumbers, seat_of, seats_may_be_left, seats_meet, number_pairs}
+use Rattle.dutch_candidates.specs.Wishes.{is_wished}
 use Rattle.dutch_weights.specs.Prelude.{Covers, Scope, may_stay, Order, Scoped, any_seat, both_go, both_weigh, bracket_costs, costs_in, goes_down, going_weight, is_inside, least_of, lower_costs, may_pair_out, side_in, added_in, stays_in}
 use Rattle.dutch_weighing.specs.Prelude.{Scale, weight_of, weighing}
 use Rattle.dutch_bracket.proofs.AllLemmas.{all_join}
 use Rattle.dutch_bracket.proofs.ArrangementParts.{numbers_above}
 use Rattle.dutch_weighing.proofs.C06ToC19Weights.{all_so, candidate_weighs}
 use Rattle.dutch_weighing.proofs.CandidateMatchings.{each, part_of}
-use Rattle.dutch_bracket.proofs.Covering.{completable_by_test}
+use Rattle.dutch_completion.proofs.Covering.{completable_by_test}
 use Rattle.dutch_weights.proofs.D02Orders.{pairs_cost}
 use Rattle.dutch_bracket.proofs.DownLemmas.{down_numbers}
-use Rattle.dutch_bracket.proofs.FixedListsLemmas.{has_fixed_pairs}
+use Rattle.dutch_candidates.proofs.FixedListsLemmas.{has_fixed_pairs}
 use Rattle.dutch_bracket.proofs.LegalPairs.{legal_of}
-use Rattle.dutch_bracket.proofs.PairedOut.{Meet, PairedOut, few_left, odd_one, one_by_one, paired_out, sums_rise, sums_same}
+use Rattle.dutch_candidates.proofs.PairedOut.{Meet, PairedOut, few_left, odd_one, one_by_one, paired_out, sums_rise, sums_same}
 use Rattle.dutch_weights.proofs.ScopedMatchings.{is_matching_in, s1_moved_down}
 
 -- ---- what two weigh at least

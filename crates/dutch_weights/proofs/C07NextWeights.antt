@@ -15,21 +15,22 @@ use Rattle.dutch_order.specs.Prelude.{Arrangement, Fits, down, numbers_from, IsI
 use Rattle.dutch_sequence.proofs.Members.{length-numbers, numbers-append}
 use Rattle.dutch_sequence.proofs.Orders.{member_has}
 use Rattle.dutch_player.specs.Prelude.{Facts}
-use Rattle.dutch_bracket.specs.declared.wish.Wish.{Wish}
+use Rattle.dutch_candidates.specs.declared.wish.Wish.{Wish}
 use Rattle.dutch_bracket.specs.declared.reached.BracketKind.TheVariants.{Ordinary}
 use Rattle.dutch_weights.specs.declared.scoped.Reach.TheVariants.{Next}
-use Rattle.dutch_bracket.specs.Prelude.{fixed_lists, IsNext, GoesBelow, JoinsBelow, MayPairBelow, count_below, group_below, score_below, seat_below, NextValue, Quality, IsAbove, Reached, frame_of, is_number, numbers_meet, candidates_of, quality_of, difference, difference_down, score_at, number_pairs, is_wished}
+use Rattle.dutch_bracket.specs.Prelude.{fixed_lists, IsNext, GoesBelow, JoinsBelow, MayPairBelow, count_below, group_below, score_below, seat_below, NextValue, Quality, IsAbove, Reached, frame_of, is_number, numbers_meet, candidates_of, quality_of, difference, difference_down, score_at, number_pairs}
+use Rattle.dutch_candidates.specs.Wishes.{is_wished}
 use Rattle.dutch_weights.specs.Prelude.{Covers, Scope, is_joined, may_stay, Order, Scoped, are_inside, both_go, bracket_costs, costs_in, goes_down, is_inside, is_number_below, may_meet_below, next_costs, pair_weight_below, side_in, added_in, joins_in, stays_in}
 use Rattle.dutch_weighing.specs.Prelude.{IsNextScale, IsScaleFor, NextScale, Scale, alone_by, weight_below, weight_of, weighing, alone_weight, met_weight, own_weight}
 use Rattle.dutch_bracket.proofs.AllLemmas.{all_join}
 use Rattle.dutch_bracket.proofs.ArrangementParts.{numbers_above}
-use Rattle.dutch_bracket.proofs.PairedOut.{one_by_one, sums_same}
+use Rattle.dutch_candidates.proofs.PairedOut.{one_by_one, sums_same}
 use Rattle.dutch_weighing.proofs.C06ToC19Weights.{IsSmallBelow, all_so, below_more, below_none, below_ordered, candidate_weighs}
 use Rattle.dutch_weighing.proofs.C07NextMatchings.{joins_below, next_is_small}
 use Rattle.dutch_weighing.proofs.CandidateMatchings.{each, left_over, part_of}
 use Rattle.dutch_weights.proofs.D02Orders.{pairs_cost}
 use Rattle.dutch_bracket.proofs.DownLemmas.{down_numbers}
-use Rattle.dutch_bracket.proofs.FixedListsLemmas.{has_fixed_pairs}
+use Rattle.dutch_candidates.proofs.FixedListsLemmas.{has_fixed_pairs}
 use Rattle.dutch_bracket.proofs.LegalPairs.{legal_of}
 use Rattle.dutch_bracket.proofs.NextGroups.{first_is_next}
 use Rattle.dutch_weights.proofs.ScopedMatchings.{is_matching_in, s1_moved_down}

@@ -1,7 +1,7 @@
 -- What is added to a weight where two meet, and the most that the members of an S1R add of which an exchange is known (C.04.3 D.2).
 use Rattle.std.proofs.Common.{◌≡◌, ℕ, zero, suc, ◌+◌, ◌-◌, ◌*◌, ◌<◌, ◌≤◌, ◌^◌, Bool, true, false, not, cond, if◌then◌else◌, nat_lt, List, [], ◌∷◌, ◌++◌, map, length, Option, Some, None, sum_by, inl, inr, refl, sym, ap, subst, ◌∙◌, mul_comm, mul-zero, arith}
 use Rattle.std.specs.List.{filter}
-use Rattle.std.specs.Option.{IfSome, SomeIff}
+use Rattle.std.specs.Option.{IfSome}
 use Rattle.std.proofs.Math.Nat.{mul-add}
 use Rattle.std.proofs.lemmas.Bool.{false_from_ne_true, true≢false}
 use Rattle.std.proofs.lemmas.List.Sums.{sum_by-cons}
@@ -186,11 +186,11 @@ module _ (order : Order) (top : ℕ) (below : (x : ℕ) → more_of order x ≤ 
       )
 
 -- what is left of a sum, where so much has to be left over
-pub under_rest : (order : Order) (e : ExchangeClass) (r : Option ℕ) (all short : ℕ) → SomeIff r (short ≤ all) (all - short)
+pub under_rest : (order : Order) (e : ExchangeClass) (r : Option ℕ) (all short : ℕ) → IfSome r (λ n. n + short ≡ all)
     → ((s1r : List ℕ) → IsExchange e s1r → sum_by (added order) s1r + short ≤ all)
     → IfSome r (λ n. (s1r : List ℕ) → IsExchange e s1r → sum_by (added order) s1r ≤ n)
 under_rest order e None all short left each = tt
-under_rest order e (Some n) all short left each = λ s1r is. omega (arith, left.0, left.1, each s1r is)
+under_rest order e (Some n) all short left each = λ s1r is. omega (arith, left, each s1r is)
 
 -- ---- weights with the lesser of what two add
 

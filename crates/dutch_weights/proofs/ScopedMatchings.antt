@@ -14,18 +14,19 @@ use Rattle.dutch_sequence.proofs.Orders.{in-member, member-in, IsIn-filter, all_
 use Rattle.dutch_sequence.proofs.HalfWalks.{Climbs}
 use Rattle.dutch_player.specs.Prelude.{Facts}
 use Rattle.dutch_weights.specs.declared.scoped.Reach.TheVariants.{Bracket}
-use Rattle.dutch_bracket.specs.declared.wish.Wish.{Wish}
+use Rattle.dutch_candidates.specs.declared.wish.Wish.{Wish}
 use Rattle.dutch_weights.specs.declared.scope.Standing.{Standing}
 use Rattle.dutch_weights.specs.declared.scope.Standing.TheVariants.{Any, Outside, First, Resident, FirstResident, OtherResident}
 use Rattle.dutch_weights.specs.Prelude.{Order, costs_in, Covers, CoversBy, Scope, is_joined, may_stay, moved_down_standing, resident_standing}
-use Rattle.dutch_bracket.specs.Prelude.{IsOf, Reached, frame_of, numbers_meet, candidates_of, number_pairs, fits_as_left, fits_as_pair, is_wished}
+use Rattle.dutch_bracket.specs.Prelude.{IsOf, Reached, frame_of, numbers_meet, candidates_of, number_pairs}
+use Rattle.dutch_candidates.specs.Wishes.{fits_as_left, fits_as_pair, is_wished}
 use Rattle.dutch_weighing.specs.Prelude.{Scale, numbers, weighing}
 use Rattle.dutch_bracket.proofs.AllLemmas.{all_join}
 use Rattle.dutch_bracket.proofs.ArrangementParts.{lists_of, parts_of, subset_members, tuple_members}
 use Rattle.dutch_weighing.proofs.CandidateMatchings.{candidate_is_matching, each, left_legal}
 use Rattle.dutch_bracket.proofs.LegalPairs.{legal_of}
-use Rattle.dutch_bracket.proofs.PairedOut.{one_by_one}
-use Rattle.dutch_bracket.proofs.WishFits.{left_fits, pairs_fit}
+use Rattle.dutch_candidates.proofs.PairedOut.{one_by_one}
+use Rattle.dutch_candidates.proofs.WishFits.{left_fits, pairs_fit}
 
 -- ---- where the members of the four lists stand, as far as a scope tells
 

@@ -13,8 +13,9 @@ use Rattle.dutch_order.specs.Prelude.{Arrangement, Fits, Frame, arrangements, do
 use Rattle.dutch_sequence.proofs.Members.{length-numbers}
 use Rattle.dutch_sequence.proofs.Orders.{IsIn-append, IsIn-map}
 use Rattle.dutch_player.specs.Prelude.{Facts}
-use Rattle.dutch_bracket.specs.declared.wish.Wish.{Wish}
-use Rattle.dutch_bracket.specs.Prelude.{fixed_lists, Quality, is_better, next_in, IsOf, Reached, frame_of, candidates_of, completable, downfloaters, is_penultimate, quality_of, number_pairs, is_wished}
+use Rattle.dutch_candidates.specs.declared.wish.Wish.{Wish}
+use Rattle.dutch_bracket.specs.Prelude.{fixed_lists, Quality, is_better, next_in, IsOf, Reached, frame_of, candidates_of, completable, downfloaters, is_penultimate, quality_of, number_pairs}
+use Rattle.dutch_candidates.specs.Wishes.{is_wished}
 use Rattle.dutch_weights.specs.Prelude.{Covers, Scope, Order, IsFloorBy, MeasuresNext, Scoped, all_numbers, costs_in, kept_by, without_left, AreFloors, IsChoosable, IsScaled, IsWeightFloor, ScopedFloor, Weighed, added_in, bound_behind, is_first, left_known, passed_over, weighing_of, weight_in}
 use Rattle.dutch_weighing.specs.Prelude.{HasDigits, IsOn, IsScale, IsScaleFor, Scale, numbers, weighing, weight_above, weight_of, HasNoBetterOn}
 use Rattle.dutch_weights.specs.declared.scoped.Reach.{Reach}
@@ -25,7 +26,7 @@ use Rattle.dutch_weights.proofs.C04Lower.{weighs_more_below}
 use Rattle.dutch_weights.proofs.C07NextWeights.{small_below, weighs_more_next}
 use Rattle.dutch_weighing.proofs.CandidateMatchings.{digits_are_small, each, left_over, part_of, total_sum}
 use Rattle.dutch_weights.proofs.D02Orders.{pairs_cost}
-use Rattle.dutch_bracket.proofs.FixedListsLemmas.{has_fixed_pairs}
+use Rattle.dutch_candidates.proofs.FixedListsLemmas.{has_fixed_pairs}
 use Rattle.dutch_bracket.proofs.LegalPairs.{legal_of}
 use Rattle.dutch_bracket.proofs.PsdParts.{down_parts}
 use Rattle.dutch_weights.proofs.ScopedMatchings.{is_matching_in, s1_moved_down}

@@ -7,11 +7,12 @@ use Rattle.dutch_order.specs.Prelude.{numbers_from}
 use Rattle.dutch_player.specs.Prelude.{may_meet}
 use Rattle.dutch_weights.specs.declared.scoped.Reach.{Reach}
 use Rattle.dutch_weights.specs.declared.scoped.Reach.TheVariants.{Bracket, Lower, Next}
-use Rattle.dutch_bracket.specs.declared.wish.Wish.{Wish}
+use Rattle.dutch_candidates.specs.declared.wish.Wish.{Wish}
 use Rattle.dutch_weights.specs.declared.scope.Standing.{Standing}
 use Rattle.dutch_weights.specs.Orders.{Order, with_lesser}
 use Rattle.dutch_weights.specs.Scopes.{Scope, is_joined, may_stay, standing_of}
-use Rattle.dutch_bracket.specs.Prelude.{seat_of, seats_meet, seats_may_be_left, count_below, seat_below, fits_as_left, fits_as_pair}
+use Rattle.dutch_bracket.specs.Prelude.{seat_of, seats_meet, seats_may_be_left, count_below, seat_below}
+use Rattle.dutch_candidates.specs.Wishes.{fits_as_left, fits_as_pair}
 use Rattle.dutch_weighing.specs.Prelude.{Scale, Weighing, weighing, alone_weight, met_weight}
 
 -- a bracket whose pairs are weighed, a scope of its arrangements, what is wished of them, over whom their matchings go, and what is added to

@@ -102,6 +102,25 @@ fn proposed_by(
     Ok(Some(Proposal { table, matched }))
 }
 
+/// What a cheapest matching of a graph tells, over all numbers up to a last one; none if nothing was found, or memory
+/// was refused.
+fn proposed_in(
+    alloc: Global,
+    graph: &UnpairedGraph<'_, '_>,
+    last: usize,
+    left: &mut u64,
+) -> Result<Option<Proposal>, Stopped>
+    requires { last < 65536 }
+    ensures falls { left.new ≤ left.old }
+    ensures stopped { MatchResult result (λ _. Unit {0}) (λ _. left.new ≡ 0) }
+{
+    match cheapest(alloc, graph, left) {
+        Ok(found) => Ok(proposed_by(alloc, graph, last, &found).unwrap_or(None)),
+        Err(Fault::Stopped) => Err(Stopped),
+        Err(_) => Ok(None),
+    }
+}
+
 /// The resident at a place among those who are in none of some pairs, counted from 1; none if it is no place, or the
 /// last one.
 fn nth_resident(mdps: usize, count: usize, pairs: &[Pair], place: usize) -> Option<usize>
@@ -120,11 +139,15 @@ fn nth_resident(mdps: usize, count: usize, pairs: &[Pair], place: usize) -> Opti
 }
 
 impl<'a> WeightFloors<'a> {
+    /// More than any weight; none if it does not fit.
+    fn above_weights(&self) -> Option<Wide> {
+        Wide::power_of_two(u32::try_from(self.weighing.scale().width()).ok()?)
+    }
+
     /// What being left over costs beside half of a weight: more than any weight, so that as many pairs are made as can
     /// be; nothing where C.7 is measured, since there the weights tell of it.
     fn left_over_cost(&self) -> Option<LeftOverCost> {
-        let width = u32::try_from(self.weighing.scale().width()).ok()?;
-        let most = Wide::power_of_two(width)?;
+        let most = self.above_weights()?;
         let never = most.times(NEVER_LEFT)?;
         let cost = if self.counts_next() {
             Wide::zero()
@@ -145,7 +168,6 @@ impl<'a> WeightFloors<'a> {
         ensures falls { left.new ≤ left.old }
         ensures stopped { MatchResult result (λ _. Unit {0}) (λ _. left.new ≡ 0) }
     {
-        let context = self.weighing.context();
         let Some(left_over) = self.left_over_cost() else {
             return Ok(None);
         };
@@ -157,13 +179,7 @@ impl<'a> WeightFloors<'a> {
         let Ok(graph) = UnpairedGraph::beside(&scoped, request.pairs, left_over) else {
             return Ok(None);
         };
-        match cheapest(context.alloc(), &graph, left) {
-            Ok(found) => Ok(proposed_by(context.alloc(), &graph, scoped.size(), &found).unwrap_or(
-                None,
-            )),
-            Err(Fault::Stopped) => Err(Stopped),
-            Err(_) => Ok(None),
-        }
+        proposed_in(self.weighing.context().alloc(), &graph, self.size(), left)
     }
 
     /// Looks for a cheapest matching of the players who are in none of some pairs, and keeps the floor that its
@@ -318,19 +334,13 @@ impl<'a> WeightFloors<'a> {
         ensures stopped { MatchResult result (λ _. Unit {0}) (λ _. budget.new.used ≡ budget.new.limit) }
         ensures spends { Spends budget.old budget.new }
     {
-        let alloc = self.weighing.context().alloc();
-        let Ok(pairs) = stuck.pairs.iter().copied().collect::<Vec<Pair>>(alloc) else {
-            return Ok(());
-        };
         let before = budget.used;
-        if self.tell_order(stuck.scope, &pairs, budget)? {
-            self.trail.note(before, budget.used);
-            return Ok(());
+        if !self.tell_order(stuck.scope, stuck.pairs, budget)? {
+            self.trail.turn_to(stuck.scope);
+            let place = self.trail.stuck_at(stuck.scope, stuck.pairs);
+            let asked = self.ask_behind(&place, bars, budget)?;
+            self.trail.go_on(stuck.pairs, asked);
         }
-        self.trail.turn_to(stuck.scope);
-        let place = self.trail.stuck_at(stuck.scope, pairs);
-        let asked = self.ask_behind(&place, bars, budget)?;
-        self.trail.go_on(place.pairs, asked);
         self.trail.note(before, budget.used);
         Ok(())
     }

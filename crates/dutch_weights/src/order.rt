@@ -75,6 +75,13 @@ fn least(first: Wide, second: Wide) -> Wide
     if second.is_less(first) { second } else { first }
 }
 
+/// The sum of three numbers, less a fourth one; none if it does not fit, or if that is more.
+fn sum_less(one: Wide, other: Wide, third: Wide, less: Wide) -> Option<Wide>
+    ensures { IfSome result (λ n. n + less ≡ (one + other) + third) }
+{
+    one.plus(other)?.plus(third)?.minus(less)
+}
+
 /// The greatest of some numbers.
 fn greatest(numbers: &[Wide]) -> Wide
     ensures { All (λ m. m ≤ result) numbers.now }
@@ -258,7 +265,7 @@ impl Order {
         let short = self.all_short(top, exchange.others(), exchange.held())?;
         let moved = times(self.unit, exchange.difference())?;
         let entered = times(top, exchange.size())?;
-        kept.plus(moved)?.plus(entered)?.minus(short)
+        sum_less(kept, moved, entered, short)
     }
 }
 

@@ -10,8 +10,8 @@ ghost use Rattle.dutch_order.specs.Prelude.{is_member};
 ghost use Rattle.dutch_weights.specs.Scopes.{Covers, is_joined, may_stay, moved_down_standing, resident_standing};
 ghost use Rattle.dutch_weights.specs.Scopes.{standing_of};
 
-use dutch_bracket::fixed_lists::has_s1;
 use dutch_bracket::reached::copied;
+use dutch_candidates::fixed_lists::has_s1;
 use dutch_order::{Filling, Numbers, Prefix};
 use std::marker::Model;
 

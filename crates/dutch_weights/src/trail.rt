@@ -23,10 +23,10 @@ pub(crate) struct Trail {
 
 /// Pairs behind which a floor is to be asked for in the arrangements of a scope, and how many of them are known not to
 /// be ruled out.
-#[derive(Drop)]
+#[derive(Clone, Copy)]
 pub(crate) struct Stuck<'s> {
     pub(crate) scope: &'s Scope,
-    pub pairs: Vec<Pair>,
+    pub pairs: &'s [Pair],
     pub(crate) sound: usize,
     pub(crate) depth: usize,
 }
@@ -102,8 +102,8 @@ impl Trail {
 
     /// Where a walk through the arrangements of a scope is stuck that is at the beginning with these pairs: behind
     /// those that stood since it was told last. If that is where it was told, it is to be told one pair further on.
-    pub(crate) fn stuck_at<'s>(&self, scope: &'s Scope, pairs: Vec<Pair>) -> Stuck<'s> {
-        let stood = common(&self.pairs, &pairs);
+    pub(crate) fn stuck_at<'s>(&self, scope: &'s Scope, pairs: &'s [Pair]) -> Stuck<'s> {
+        let stood = common(&self.pairs, pairs);
         let sound = if stood < self.asked { 0 } else { self.asked };
         let depth = if stood == self.asked {
             stood.saturating_add(1)
@@ -119,9 +119,16 @@ impl Trail {
         }
     }
 
-    /// Goes on from where a walk is, behind so many of whose pairs a floor did not rule them out.
-    pub(crate) fn go_on(&mut self, pairs: Vec<Pair>, asked: usize) {
-        self.pairs = pairs;
+    /// Goes on from where a walk is, behind so many of whose pairs a floor did not rule them out. (Where memory is
+    /// refused, it is as if the walk had not been told.)
+    pub(crate) fn go_on(&mut self, pairs: &[Pair], asked: usize) {
+        self.asked = 0;
+        self.pairs.clear();
+        for pair in pairs {
+            if self.pairs.push(*pair).is_err() {
+                return;
+            }
+        }
         self.asked = asked;
     }
 

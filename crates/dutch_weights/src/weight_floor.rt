@@ -19,9 +19,9 @@ use crate::scoped::{Reach, Scoped, Sought};
 use crate::trail::Trail;
 use dual::{Floor, Table, Wide};
 use dutch_bracket::context::Context;
-use dutch_bracket::fixed_lists::fixed_lists;
 use dutch_bracket::quality::Quality;
-use dutch_bracket::wish::Wish;
+use dutch_candidates::fixed_lists::fixed_lists;
+use dutch_candidates::wish::Wish;
 use dutch_order::{Exchange, Filling, LIMIT, Prefix, Shape};
 use dutch_weighing::{DigitPlan, Scale, Weighing};
 use std::alloc::AllocError;
@@ -177,9 +177,10 @@ impl ScopedFloor {
 fn drop_ordered(floors: &mut Vec<ScopedFloor>)
     ensures { (w : Weighed) → All (IsWeightFloor w) floors.old.items → All (IsWeightFloor w) floors.new.items }
 {
-    if let Some(place) = floors.iter().position(|kept| !kept.order.is_none()) {
-        floors.remove(place);
-    }
+    let Some(place) = floors.iter().position(|kept| !kept.order.is_none()) else {
+        return;
+    };
+    floors.remove(place);
 }
 
 /// Lets the oldest floor go that counts no order, but for the first one, if there is no room for one more.
@@ -443,16 +444,11 @@ impl<'a> WeightFloors<'a> {
     pub fn least_by(&self, place: usize, prefix: &Prefix<'_>) -> Option<Wide>
         ensures { IfSome result (IsLeast self.now prefix.now) }
     {
-        if place >= self.floors.len() {
+        if place >= self.floors.len() || !self.floors[place].scope.covers(prefix) {
             return None;
         }
         let kept = &self.floors[place];
-        if !kept.scope.covers(prefix) {
-            return None;
-        }
-        let mdps = self.weighing.context().reached().mdps();
-        let order = kept.of_order(prefix)?;
-        bound_behind(&kept.floor, mdps, prefix)?.minus(order)
+        self.least_less(kept, prefix, kept.of_order(prefix)?)
     }
 
     /// The same behind a beginning of which more is known of the S1R that are to come; none if the floor counts no
@@ -465,15 +461,22 @@ impl<'a> WeightFloors<'a> {
     ) -> Option<Wide>
         ensures { IfSome result (IsLeastWith self.now prefix.now exchange.now) }
     {
-        if place >= self.floors.len() {
+        if place >= self.floors.len() || !self.floors[place].scope.covers(prefix) {
             return None;
         }
         let kept = &self.floors[place];
-        if kept.order.is_none() || !kept.scope.covers(prefix) {
+        if kept.order.is_none() {
             return None;
         }
+        self.least_less(kept, prefix, kept.order.most(exchange)?)
+    }
+
+    /// What a floor says behind a beginning, less what its order adds; none if that is nothing, or if it does not fit.
+    fn least_less(&self, kept: &ScopedFloor, prefix: &Prefix<'_>, order: Wide) -> Option<Wide>
+        ensures { IfSome result (λ n. (n + order) + kept.now.floor.debt
+            ≡ bound_behind kept.now.floor self.now.reached.mdps prefix.now) }
+    {
         let mdps = self.weighing.context().reached().mdps();
-        let order = kept.order.most(exchange)?;
         bound_behind(&kept.floor, mdps, prefix)?.minus(order)
     }
 }

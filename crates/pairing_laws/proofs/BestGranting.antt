@@ -10,9 +10,10 @@ use Rattle.dutch_order.specs.Prelude.{Arrangement, Frame, down, paired, players_
 use Rattle.dutch_sequence.proofs.Orders.{in-member, member-in, IsIn-back, IsIn-filter, filter-IsIn}
 use Rattle.dutch_order.proofs.NoneTwice.{in-left, left-in}
 use Rattle.dutch_order.proofs.Once.{candidates-once, filter-once}
-use Rattle.dutch_bracket.specs.declared.wish.Wish.{Wish}
-use Rattle.dutch_bracket.specs.declared.wish.Wish.TheVariants.{LeftOver, Pair}
-use Rattle.dutch_bracket.specs.Prelude.{first_unbeaten, is_unbeaten, Context, can_be_chosen_here, candidates_here, eligible_here, frame_here, quality_here, Quality, is_better, number_may_be_left, numbers_meet, best_of_shape, candidates_of, eligible, are_these, grants}
+use Rattle.dutch_candidates.specs.declared.wish.Wish.{Wish}
+use Rattle.dutch_candidates.specs.declared.wish.Wish.TheVariants.{LeftOver, Pair}
+use Rattle.dutch_bracket.specs.Prelude.{first_unbeaten, is_unbeaten, Context, can_be_chosen_here, candidates_here, eligible_here, frame_here, quality_here, Quality, is_better, number_may_be_left, numbers_meet, best_of_shape, candidates_of, eligible}
+use Rattle.dutch_candidates.specs.Wishes.{are_these, grants}
 use Rattle.dutch_choice.specs.Prelude.{best_granting, granting, is_better_here}
 use Rattle.dutch_bracket.proofs.AnyLemmas.{any_in, found_in}
 use Rattle.dutch_choice.proofs.BestLemmas.{in_unbeaten, order_in}

@@ -7,7 +7,7 @@ use Rattle.std.proofs.lemmas.List.Elements.{All-nil, All-cons, All-head, All-tai
 use Rattle.dutch_order.specs.declared.bracket.Shape.{Shape}
 use Rattle.dutch_order.specs.Prelude.{Arrangement, IsIn, by_place}
 use Rattle.dutch_bracket.specs.Prelude.{Context, FitsHere, IsOf, candidates_of, score_at}
-use Rattle.dutch_bracket.proofs.CandidatePairs.{first_count, lists, low, other_count, s1_low}
+use Rattle.dutch_candidates.proofs.CandidatePairs.{first_count, lists, low, other_count, s1_low}
 use Rattle.dutch_bracket.proofs.LegalPairs.{IsArranged, legal_of}
 use Rattle.dutch_choice.specs.Prelude.{are_pair}
 use Rattle.dutch_choice.proofs.CandidateCosts.{all_pairs}

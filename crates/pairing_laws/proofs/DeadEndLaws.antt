@@ -6,7 +6,7 @@ use Rattle.dutch_player.specs.Prelude.{Facts}
 use Rattle.dutch_bracket.specs.declared.reached.BracketKind.TheVariants.{Penultimate}
 use Rattle.dutch_pair.specs.Prelude.{HasNoPairOf, PairOut, lower_of, Visit, round, GoesOut, HasWayOut}
 use Rattle.dutch_bracket.specs.Prelude.{Reached, Choice, bracket, choice, downfloaters, seats_meet_sym, seats_meet, seats_may_be_left}
-use Rattle.dutch_bracket.proofs.Mates.{pairs_mates}
+use Rattle.dutch_completion.proofs.Mates.{pairs_mates}
 use Rattle.dutch_pair.proofs.NoDeadEnd.{left_twice, no_mates}
 use Rattle.pairing_laws.proofs.StandsAbove.{IsPassed, all_passed}
 use Rattle.dutch_pair.proofs.WalkLemmas.{Descends}

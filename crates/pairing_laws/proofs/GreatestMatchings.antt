@@ -5,7 +5,7 @@ use Rattle.dutch_order.specs.declared.bracket.Shape.{Shape}
 use Rattle.dutch_order.specs.Prelude.{IsIn}
 use Rattle.dutch_sequence.proofs.Orders.{IsIn-filter}
 use Rattle.dutch_bracket.specs.Prelude.{Context, FitsHere, IsGreater, IsOf, can_be_chosen, candidates_of, eligible_here, has_member, is_penultimate, shape_here}
-use Rattle.dutch_bracket.proofs.EligibleLemmas.{eligible_is}
+use Rattle.dutch_completion.proofs.EligibleLemmas.{eligible_is}
 use Rattle.dutch_bracket.proofs.ShapeLaws.{has_one, has_room, none_has_one, none_is_greater}
 use Rattle.dutch_bracket.proofs.ShapeSearch.{member_of}
 use Rattle.pairing_laws.specs.GreatestMatchings.{HasGreatestMatching, IsBracketMatching, IsGreatestMatching, made_shape}

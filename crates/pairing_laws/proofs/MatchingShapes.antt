@@ -20,8 +20,8 @@ use Rattle.dutch_bracket.specs.declared.reached.BracketKind.TheVariants.{Ordinar
 use Rattle.dutch_bracket.specs.Prelude.{AllNumbers, Context, FitsHere, IsOf, completable, eligible_here, ends_round, has_member, is_penultimate, number_may_be_left, numbers_meet, numbers_meet_sym, score_at, seat_of, seats_may_be_left, seats_meet, seats_meet_sym}
 use Rattle.dutch_bracket.proofs.AllLemmas.{all_filter}
 use Rattle.dutch_bracket.proofs.ArrangementParts.{numbers_within}
-use Rattle.dutch_bracket.proofs.CandidatePairs.{high, low}
-use Rattle.dutch_bracket.proofs.Completions.{told_yes}
+use Rattle.dutch_candidates.proofs.CandidatePairs.{high, low}
+use Rattle.dutch_completion.proofs.Completions.{told_yes}
 use Rattle.pairing_laws.specs.GreatestMatchings.{IsBracketMatching, has_mdp, made_shape, pairs_here}
 use Rattle.dutch_choice.specs.ShapeCosts.{any_seat, are_pair, are_paired_out, count_all, may_stay, shape_costs}
 use Rattle.dutch_choice.proofs.CandidateCosts.{inside_mapped, lower_mapped, lowers}

@@ -1,7 +1,7 @@
 -- What the laws of weights name (C.04.3 C.6 to C.19).
 use Rattle.dual.specs.Prelude.{Costs}
 use Rattle.std.specs.Prelude.{Option}
-use Rattle.dutch_bracket.specs.declared.wish.Wish.{Wish}
+use Rattle.dutch_candidates.specs.declared.wish.Wish.{Wish}
 use Rattle.dutch_bracket.specs.Prelude.{Context}
 use Rattle.dutch_weights.specs.Prelude.{Scope, Order, costs_in}
 use Rattle.dutch_weighing.specs.Prelude.{Scale}

@@ -4,9 +4,10 @@ ghost use Rattle.std.specs.Prelude.{◌≡◌, ◌⊎◌, ◌↔◌, ℕ, List, 
 ghost use Rattle.std.specs.List.{list_any};
 ghost use Rattle.dutch_order.specs.Prelude.{Arrangement, Frame, down, players_of, pairs_by_number, IsIn};
 ghost use Rattle.dutch_order.specs.declared.bracket.Shape.{Shape};
-ghost use Rattle.dutch_bracket.specs.declared.wish.Wish.{Wish};
-ghost use Rattle.dutch_bracket.specs.declared.wish.Wish.TheVariants.{LeftOver, Pair};
-ghost use Rattle.dutch_bracket.specs.Prelude.{Context, eligible_here, best_of_shape, grants};
+ghost use Rattle.dutch_candidates.specs.declared.wish.Wish.{Wish};
+ghost use Rattle.dutch_candidates.specs.declared.wish.Wish.TheVariants.{LeftOver, Pair};
+ghost use Rattle.dutch_bracket.specs.Prelude.{Context, eligible_here, best_of_shape};
+ghost use Rattle.dutch_candidates.specs.Wishes.{grants};
 ghost use Rattle.dutch_choice.specs.Wishes.{best_granting, is_better_here};
 ghost use Rattle.pairing_laws.specs.Wishes.{ComesBefore, IsAsGoodBefore};
 

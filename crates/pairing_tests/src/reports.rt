@@ -32,6 +32,6 @@ pub(crate) fn field_of(
     initial: Option<Colour>,
 ) -> Result<Field, Fail> {
     let text = text_of(alloc, lines)?;
-    let report = trf16::read(alloc, text.as_bytes()).map_err(|_| "the report is refused")?;
+    let report = trf16_reader::read(alloc, text.as_bytes()).map_err(|_| "the report is refused")?;
     Ok(Field::new(alloc, &report, total, initial).map_err(|_| "no round is paired")?)
 }

@@ -1,3 +1,2 @@
 pub mod InputLemmas
-pub mod ControlLemmas
 pub mod TableLemmas

@@ -7,7 +7,6 @@ pub mod Questions
 pub mod Statuses
 pub mod Replies
 pub mod WrittenAnswers
-pub mod Controls
 pub mod NoteTexts
 pub mod RefusalNoteTexts
 pub mod ReportAnswers

@@ -6,7 +6,7 @@ use Rattle.report_notes.specs.Noted.{Noted, NoPlayer, PlayedLast, UnknownKind, B
 use Rattle.report_notes.specs.Noted.{LongName, RatingAbove, EarlyPoints, InRound, BehindColumn, NoGame, Byes, RoundsUnknown}
 use Rattle.report_notes.specs.declared.note.RoundNote.{RoundNote}
 use Rattle.report_notes.specs.declared.note.RoundNote.TheVariants.{NoResult, MeetsAgain, AnotherBye, HalfPoint, NoPoint, NoCell}
-use Rattle.replies.specs.Controls.{without_controls}
+use Rattle.common_texts.specs.Controls.{without_controls}
 
 -- what is told of a player's round
 unfoldable pub round_note_text : RoundNote → List ℕ

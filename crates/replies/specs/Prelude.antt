@@ -2,13 +2,11 @@
 pub use Rattle.replies.specs.Devices.{IsKept, IsUnread, Reading, reading_of}
 pub use Rattle.replies.specs.Input.{IsRead, ReadsInput, most_read}
 pub use Rattle.replies.specs.RefusalTexts.{excess_text, fault_text, field_text, line_text, memory_text, round_text, tie_text, unread_text}
-pub use Rattle.replies.specs.Texts.{accepted_text, not_of_bracket_text, not_reached_text, question_text, read_text, round_not_reached_text, undecided_text, undecided_words, word_text, write_text}
-unfoldable pub use Rattle.replies.specs.Texts.{halves_text}
+pub use Rattle.replies.specs.Texts.{accepted_text, not_of_bracket_text, not_reached_text, question_text, read_text, round_not_reached_text, word_text, write_text}
 pub use Rattle.replies.specs.Questions.{instead_fault, question_fault}
 pub use Rattle.replies.specs.Statuses.{Answer, behind, code_of, done, field_refusal, is_output, no_pairing, not_of_bracket, not_reached, out_of_memory, plain, question_refusal, read_fault, refusal, round_not_reached, tie_refusal, undecided, unread_refusal}
 pub use Rattle.replies.specs.Replies.{answer_of, note_of, text_of}
 pub use Rattle.replies.specs.WrittenAnswers.{HasInTurn, HasTextOrPart, IsCut, IsNoteCut, IsNoted, IsOnStandardError, IsPrinted, IsToldWith, IsWritten, IsWrittenTo}
-pub use Rattle.replies.specs.Controls.{holds_control, is_control, is_long_control, shown_byte, without_controls}
 pub use Rattle.replies.specs.NoteTexts.{kind_named, kind_text, line_front, note_text, notes_text, round_front}
 unfoldable pub use Rattle.replies.specs.NoteTexts.{front_text, round_note_text}
 pub use Rattle.replies.specs.RefusalNoteTexts.{cells_note, cells_text, extension_note, found, held_text, kind_or, line_in_bytes, line_note, order_text, points_note, refusal_note, wanted_text, with_note}
@@ -18,7 +16,7 @@ pub use Rattle.replies.specs.StandingsTexts.{quarter_text, quarters_text, rows_t
 unfoldable pub use Rattle.replies.specs.StandingsTexts.{row_text}
 pub use Rattle.replies.specs.Tables.{LabelFacts, gap, labels_text, left, padded, padded_by, right, table_text, widest, width, width_in, widths}
 pub use Rattle.replies.specs.GameTexts.{game_text, games_labels, games_text}
-pub use Rattle.replies.specs.WallTexts.{boards_labels, marks_labels, named_boards_text, named_rows_text, opponent_labels, paired_labels, played_boards_text, played_labels, result_labels, result_mark, rows_labels, shown, values_labels}
+pub use Rattle.replies.specs.WallTexts.{boards_labels, marks_labels, named_boards_text, named_rows_text, opponent_labels, paired_labels, played_boards_text, played_labels, result_labels, result_mark, rows_labels, values_labels}
 unfoldable pub use Rattle.replies.specs.WallTexts.{board_labels, player_labels, row_labels}
 pub use Rattle.replies.specs.StandingsAnswers.{lines_text, rounds_shown, standings_answer, table_answer}
 pub use Rattle.replies.specs.Views.{seen_before, unseen_answer}

@@ -16,10 +16,10 @@ use Rattle.report_notes.specs.declared.extension.Extension.TheVariants.{Xxr, Xxc
 use Rattle.report_notes.specs.declared.refusal.Columns.{Columns}
 use Rattle.report_notes.specs.declared.refusal.Sums.{Sums}
 use Rattle.replies.specs.RefusalTexts.{fault_text}
-use Rattle.replies.specs.Controls.{without_controls}
+use Rattle.common_texts.specs.Controls.{without_controls}
 use Rattle.replies.specs.NoteTexts.{note_text}
 use Rattle.replies.specs.Statuses.{Answer}
-use Rattle.replies.specs.Texts.{halves_text}
+use Rattle.common_texts.specs.Texts.{halves_text}
 
 -- ---- columns
 

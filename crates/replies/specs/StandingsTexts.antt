@@ -6,7 +6,7 @@ use Rattle.tables.specs.declared.key.Key.{Key}
 use Rattle.tables.specs.declared.key.Key.TheVariants.{Direct, Buchholz, SonnebornBerger}
 use Rattle.trf16.specs.Prelude.{Sheet}
 use Rattle.replies.specs.GameTexts.{games_text}
-use Rattle.replies.specs.Texts.{halves_text}
+use Rattle.common_texts.specs.Texts.{halves_text}
 
 -- the decimals of quarters of a point
 abbrev pub quarter_text : ℕ → List ℕ

@@ -7,7 +7,8 @@ use Rattle.tables.specs.declared.fault.TieFault.TheVariants.{OutOfMemory as TieM
 use Rattle.trf16.specs.declared.fault.Fault.{Fault}
 use Rattle.trf16.specs.declared.fault.Fault.TheVariants.{OutOfMemory}
 use Rattle.replies.specs.RefusalTexts.{fault_text, field_text, memory_text, tie_text, unread_text}
-use Rattle.replies.specs.Texts.{not_of_bracket_text, not_reached_text, question_text, read_text, round_not_reached_text, undecided_text}
+use Rattle.replies.specs.Texts.{not_of_bracket_text, not_reached_text, question_text, read_text, round_not_reached_text}
+use Rattle.common_texts.specs.Texts.{undecided_text}
 use Rattle.replies.specs.declared.question.QuestionFault.{QuestionFault}
 use Rattle.replies.specs.declared.reply.Status.{Status}
 use Rattle.replies.specs.declared.reply.Status.TheVariants.{Done, Refused, BadWords, NoPairing, Undecided, Trouble}

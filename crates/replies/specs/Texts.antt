@@ -1,5 +1,5 @@
 -- The texts that the program writes, apart from clap's and from why a report is refused.
-use Rattle.std.specs.Prelude.{ℕ, ◌/◌, ◌%◌, ◌==◌, if◌then◌else◌, List, ◌++◌, codes}
+use Rattle.std.specs.Prelude.{ℕ, List, ◌++◌, codes}
 use Rattle.std.specs.Fmt.{decimal}
 use Rattle.requests.specs.declared.options.WordFault.{WordFault}
 use Rattle.requests.specs.declared.options.WordFault.TheVariants.{BadColour, BadKeys, BadCursor, NamesAndReport, InsteadAlone}
@@ -31,14 +31,6 @@ question_text (NamedTwice player) = codes "words: player " ++ (decimal player ++
 abbrev pub accepted_text : ℕ → ℕ → List ℕ
 accepted_text players rounds = codes "accepted players " ++ (decimal players ++ (codes " rounds " ++ (decimal rounds ++ codes "\n")))
 
--- the steps of a bracket reached the limit before it was decided [with word_text]
-abbrev pub undecided_text : ℕ → ℕ → List ℕ
-undecided_text number used = codes "undecided bracket " ++ (decimal number ++ (codes " steps " ++ (decimal used ++ codes "\n")))
-
--- the same in a sentence [with word_text]
-abbrev pub undecided_words : ℕ → ℕ → List ℕ
-undecided_words number used = codes "Undecided: bracket " ++ (decimal number ++ (codes " needs more than " ++ (decimal used ++ codes " steps.\n")))
-
 -- the round ends before a bracket [with word_text]
 abbrev pub not_reached_text : ℕ → List ℕ
 not_reached_text number = codes "words: bracket " ++ (decimal number ++ codes " is not reached\n")
@@ -50,7 +42,3 @@ round_not_reached_text round = codes "words: round " ++ (decimal round ++ codes 
 -- a cursor is not one of a bracket [with word_text]
 abbrev pub not_of_bracket_text : ℕ → List ℕ
 not_of_bracket_text number = codes "words: cursor is not of bracket " ++ (decimal number ++ codes "\n")
-
--- half points as points with one decimal
-unfoldable pub halves_text : ℕ → List ℕ
-halves_text halves = decimal (halves / 2) ++ (if halves % 2 == 0 then codes ".0" else codes ".5")

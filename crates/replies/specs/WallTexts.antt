@@ -6,16 +6,10 @@ use Rattle.tables.specs.declared.key.Key.{Key}
 use Rattle.trf16.specs.declared.cell.Cell.{Cell}
 use Rattle.trf16.specs.declared.cell.Cell.TheVariants.{Game, Forfeit}
 use Rattle.trf16.specs.Prelude.{cell_in, name_in, outcome_letter, Sheet, points_upto, rounds_played}
-use Rattle.replies.specs.Controls.{without_controls}
 use Rattle.replies.specs.GameTexts.{games_labels}
 use Rattle.replies.specs.StandingsTexts.{value_text}
 use Rattle.replies.specs.Tables.{LabelFacts, left, right, table_text}
-use Rattle.replies.specs.Texts.{halves_text}
-
--- a name as it is shown: a question mark in place of each control character, and a dash where it is blank [with without_controls]
-abbrev pub shown : List ℕ → List ℕ
-shown [] = codes "-"
-shown (first ∷ rest) = without_controls (first ∷ rest)
+use Rattle.common_texts.specs.Texts.{halves_text, shown}
 
 -- a player: start rank, name and score
 unfoldable pub player_labels : Sheet → ℕ → ℕ → List LabelFacts

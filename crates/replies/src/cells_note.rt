@@ -3,7 +3,7 @@ ghost use Rattle.std.specs.Prelude.{◌≡◌, ◌≤◌, IfOk, string_bytes};
 ghost use Rattle.trf16.specs.declared.limits.TheConstants.{MOST_ROUNDS};
 ghost use Rattle.replies.specs.RefusalNoteTexts.{cells_note, cells_text, front_of_answer, front_of_cell};
 
-use crate::controls::put_without_controls;
+use common_texts::put_without_controls;
 use report_notes::{cell_held, opponent_held};
 use std::alloc::{AllocError, Global};
 use trf16::MOST_ROUNDS;

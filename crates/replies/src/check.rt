@@ -2,7 +2,7 @@
 ghost use Rattle.std.specs.Prelude.{◌≡◌, ℕ, ◌≤◌, ◌++◌, IfOk, Ok, string_bytes};
 ghost use Rattle.trf16.specs.Prelude.{verdict};
 ghost use Rattle.report_notes.specs.Notes.{notes_of};
-ghost use Rattle.replies.specs.ReportAnswers.{check_answer, size_text};
+ghost use Rattle.replies.specs.ReportAnswers.{check_answer};
 ghost use Rattle.replies.specs.NoteTexts.{notes_text};
 ghost use Rattle.replies.specs.Replies.{answer_of};
 ghost use Rattle.replies.specs.Statuses.{done};
@@ -26,7 +26,7 @@ pub fn check(
     ensures { IfOk result (λ reply. answer_of reply
         ≡ check_answer (verdict bytes.now bye) options.notes bytes.now bye) }
 {
-    match trf16::read_with(alloc, bytes, bye) {
+    match trf16_reader::read_with(alloc, bytes, bye) {
         Ok(report) => accepted(alloc, options, &report, bytes),
         Err(Fault::OutOfMemory) => Err(AllocError),
         Err(fault) if options.notes => refused_with_note(alloc, fault, bytes, bye),
@@ -44,19 +44,12 @@ fn accepted(
     ensures { (bye : ℕ) → IfOk result
         (λ reply. answer_of reply ≡ check_answer (Ok report.now) options.notes bytes.now bye) }
 {
-    let text = size(alloc, report)?;
+    let (players, rounds) = (report.players().len(), report.rounds_played());
+    let text = format!(in alloc; "accepted players {players} rounds {rounds}\n")?;
     if options.notes {
         return with_notes(alloc, text, report, bytes);
     }
     Ok(Reply::made(Status::Done, text))
-}
-
-// How large a report is.
-fn size(alloc: Global, report: &Report<'_>) -> Result<String, AllocError>
-    ensures { IfOk result (λ text. string_bytes text ≡ size_text report.now) }
-{
-    let (players, rounds) = (report.players().len(), report.rounds_played());
-    format!(in alloc; "accepted players {players} rounds {rounds}\n")
 }
 
 // A text, and behind it the notes of a report that stands in some bytes.

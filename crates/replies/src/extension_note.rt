@@ -1,11 +1,12 @@
 // What a refused extension line wants.
-ghost use Rattle.std.specs.Prelude.{◌≡◌, IfOk, string_bytes};
-ghost use Rattle.replies.specs.RefusalNoteTexts.{extension_note, extension_text, wanted_text};
+ghost use Rattle.std.specs.Prelude.{◌≡◌, IfOk};
+ghost use Rattle.replies.specs.RefusalNoteTexts.{extension_note, wanted_text};
 
 use report_notes::{Extension, extension_at};
 use std::alloc::{AllocError, Global};
 
 /// What a line of a text wants, if it is of the kind of an extension that is read.
+#[tactic(auto, unfolding(crate::specs::RefusalNoteTexts::extension_text))]
 pub(crate) fn extension_note(
     alloc: Global,
     bytes: &[u8],
@@ -14,17 +15,12 @@ pub(crate) fn extension_note(
     ensures { IfOk result (λ note. note.items ≡ extension_note bytes.now line) }
 {
     match extension_at(bytes, line) {
-        Some(extension) => Ok(extension_text(alloc, line, extension)?.into_bytes()),
+        Some(extension) => {
+            let wanted = wanted_text(extension);
+            Ok(format!(in alloc; "note line {line}: {wanted}")?.into_bytes())
+        }
         None => Ok(Vec::new(alloc)),
     }
-}
-
-#[tactic(auto, unfolding(crate::specs::RefusalNoteTexts::extension_text))]
-fn extension_text(alloc: Global, line: usize, extension: Extension) -> Result<String, AllocError>
-    ensures { IfOk result (λ text. string_bytes text ≡ extension_text line extension) }
-{
-    let wanted = wanted_text(extension);
-    format!(in alloc; "note line {line}: {wanted}")
 }
 
 // What an extension wants.

@@ -12,7 +12,6 @@
 
 mod cells_note;
 pub mod check;
-mod controls;
 mod extension_note;
 pub mod format;
 mod games;
@@ -33,4 +32,3 @@ pub mod wall;
 pub use input::{InputFault, read_input};
 pub use question::{QuestionFault, question_fault};
 pub use reply::{Reply, Status, Text};
-pub use table::shown;

@@ -1,12 +1,11 @@
 // The lines of `check --notes`: what of an accepted report looks like a mistake.
-ghost use Rattle.std.specs.Prelude.{◌≡◌, ◌++◌, IfOk, OnOk, Some, codes, string_bytes};
-ghost use Rattle.std.specs.Fmt.{decimal};
+ghost use Rattle.std.specs.Prelude.{◌≡◌, ◌++◌, IfOk, OnOk, Some, string_bytes};
 ghost use Rattle.report_notes.specs.Notes.{notes_of};
 ghost use Rattle.report_notes.specs.NoteOf.{noted};
 ghost use Rattle.replies.specs.NoteTexts.{front_text, kind_named, kind_text, line_front, note_text, notes_text};
-ghost use Rattle.replies.specs.NoteTexts.{round_front, round_note_text};
+ghost use Rattle.replies.specs.NoteTexts.{round_note_text};
 
-use crate::controls::put_without_controls;
+use common_texts::put_without_controls;
 use report_notes::{Note, Place, RoundNote, next_note};
 use std::alloc::{AllocError, Global};
 use std::fmt;
@@ -43,8 +42,12 @@ fn front(alloc: Global, note: Note<'_>) -> Result<String, AllocError>
     ensures { IfOk result (λ text. string_bytes text ≡ front_text (noted note.entry)) }
 {
     match note {
-        Note::NoPlayer { line, number } => no_player(alloc, line, number),
-        Note::PlayedLast { line, number } => played_last(alloc, line, number),
+        Note::NoPlayer { line, number } => {
+            format!(in alloc; "note line {line}: no player {number}")
+        }
+        Note::PlayedLast { line, number } => {
+            format!(in alloc; "note line {line}: player {number} played the last round")
+        }
         Note::UnknownKind { line, .. } => of_line(alloc, line, ": unknown kind "),
         Note::BlankBefore { line, .. } => of_line(alloc, line, ": blank before "),
         Note::OnePlayer { line } => of_line(alloc, line, ": names one player"),
@@ -55,12 +58,21 @@ fn front(alloc: Global, note: Note<'_>) -> Result<String, AllocError>
             line,
             rating,
             player,
-        } => rating_above(alloc, line, rating, player),
+        } => format!(in alloc;
+            "note line {line}: rating {rating} is above that of player {player}"
+        ),
         Note::EarlyPoints { line } => of_line(alloc, line, ": the points count a round to come"),
-        Note::InRound { line, round, what } => in_round(alloc, line, round, what),
-        Note::BehindColumn { line, column } => behind_column(alloc, line, column),
-        Note::NoGame { round } => no_game(alloc, round),
-        Note::Byes { round, players } => byes(alloc, round, players),
+        Note::InRound { line, round, what } => {
+            let what = RoundWords(what);
+            format!(in alloc; "note line {line}: round {round}{what}")
+        }
+        Note::BehindColumn { line, column } => {
+            format!(in alloc; "note line {line}: behind column {column} nothing is read")
+        }
+        Note::NoGame { round } => format!(in alloc; "note round {round}: no game"),
+        Note::Byes { round, players } => {
+            format!(in alloc; "note round {round}: {players} players have the bye")
+        }
         Note::RoundsUnknown => String::from_str(alloc, "note rounds unknown"),
     }
 }
@@ -70,54 +82,6 @@ fn of_line(alloc: Global, line: usize, what: &str) -> Result<String, AllocError>
     ensures { IfOk result (λ text. string_bytes text ≡ line_front line what.now) }
 {
     format!(in alloc; "note line {line}{what}")
-}
-
-fn no_player(alloc: Global, line: usize, number: u16) -> Result<String, AllocError>
-    ensures { IfOk result (λ text. string_bytes text ≡ line_front line (codes ": no player " ++ decimal number)) }
-{
-    format!(in alloc; "note line {line}: no player {number}")
-}
-
-fn played_last(alloc: Global, line: usize, number: u16) -> Result<String, AllocError>
-    ensures { IfOk result (λ text. string_bytes text
-        ≡ line_front line (codes ": player " ++ (decimal number ++ codes " played the last round"))) }
-{
-    format!(in alloc; "note line {line}: player {number} played the last round")
-}
-
-fn rating_above(alloc: Global, line: usize, rating: u16, player: u16) -> Result<String, AllocError>
-    ensures { IfOk result (λ text. string_bytes text ≡ line_front line
-        (codes ": rating " ++ (decimal rating ++ (codes " is above that of player " ++ decimal player)))) }
-{
-    format!(in alloc; "note line {line}: rating {rating} is above that of player {player}")
-}
-
-fn behind_column(alloc: Global, line: usize, column: usize) -> Result<String, AllocError>
-    ensures { IfOk result (λ text. string_bytes text
-        ≡ line_front line (codes ": behind column " ++ (decimal column ++ codes " nothing is read"))) }
-{
-    format!(in alloc; "note line {line}: behind column {column} nothing is read")
-}
-
-fn no_game(alloc: Global, round: u8) -> Result<String, AllocError>
-    ensures { IfOk result (λ text. string_bytes text ≡ codes "note round " ++ (decimal round ++ codes ": no game")) }
-{
-    format!(in alloc; "note round {round}: no game")
-}
-
-fn byes(alloc: Global, round: u8, players: usize) -> Result<String, AllocError>
-    ensures { IfOk result (λ text. string_bytes text ≡ codes "note round "
-        ++ (decimal round ++ (codes ": " ++ (decimal players ++ codes " players have the bye")))) }
-{
-    format!(in alloc; "note round {round}: {players} players have the bye")
-}
-
-// What is told of a round in a player's line.
-fn in_round(alloc: Global, line: usize, round: u8, what: RoundNote) -> Result<String, AllocError>
-    ensures { IfOk result (λ text. string_bytes text ≡ round_front line round (round_note_text what)) }
-{
-    let what = RoundWords(what);
-    format!(in alloc; "note line {line}: round {round}{what}")
 }
 
 // What is noted of a round, as it stands behind the round's number.

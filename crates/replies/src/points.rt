@@ -1,28 +1,10 @@
-// Points as text.
+// The values of keys as text.
 ghost use Rattle.std.specs.Prelude.{◌≡◌, Some};
 ghost use Rattle.replies.specs.StandingsTexts.{quarter_text, quarters_text, value_text};
-ghost use Rattle.replies.specs.Texts.{halves_text};
 
+use common_texts::HalfPoints;
 use std::fmt;
 use tables::Key;
-
-/// Half points, shown as points with one decimal.
-#[derive(Drop)]
-pub struct HalfPoints(pub u32);
-
-impl fmt::Display for HalfPoints {
-    ghost output = { λ half. Some (halves_text half.0) };
-
-    #[tactic(auto, unfolding(crate::specs::Texts::halves_text))]
-    fn fmt<W: fmt::Write>(&self, f: &mut fmt::Formatter<W>) -> fmt::Result {
-        let points = self.0 / 2;
-        if self.0 % 2 == 0 {
-            write!(f, "{points}.0")
-        } else {
-            write!(f, "{points}.5")
-        }
-    }
-}
 
 // Quarters of a point, shown as points with two decimals.
 #[derive(Drop)]

@@ -83,5 +83,8 @@ pub fn no_pairing() -> Reply
 pub fn undecided(alloc: Global, number: u16, used: u64) -> Result<Reply, AllocError>
     ensures { IfOk result (λ reply. answer_of reply ≡ undecided number used) }
 {
-    Ok(Reply::made(Status::Undecided, texts::undecided(alloc, number, used)?))
+    Ok(Reply::made(
+        Status::Undecided,
+        common_texts::undecided(alloc, number, used)?,
+    ))
 }

@@ -3,7 +3,7 @@ ghost use Rattle.std.specs.Prelude.{◌≡◌, ◌≢◌, ◌≤◌, ◌++◌, [
 ghost use Rattle.std.specs.Option.{option_map_or};
 ghost use Rattle.trf16.specs.Prelude.{verdict_unsummed};
 ghost use Rattle.report_notes.specs.RefusalNotes.{are_lines_read, fits_in_bytes};
-ghost use Rattle.replies.specs.RefusalNoteTexts.{bytes_text, columns_text, held_text, line_in_bytes, line_note};
+ghost use Rattle.replies.specs.RefusalNoteTexts.{columns_text, held_text, line_in_bytes, line_note};
 ghost use Rattle.replies.specs.RefusalNoteTexts.{found, kind_or, order_text, points_note, refusal_note, sums_text};
 ghost use Rattle.replies.specs.RefusalNoteTexts.{unfinished_text, with_note};
 ghost use Rattle.replies.specs.Replies.{answer_of};
@@ -11,12 +11,11 @@ ghost use Rattle.replies.specs.Statuses.{refusal};
 ghost use Rattle.replies.specs.RefusalTexts.{fault_text};
 
 use crate::cells_note::cells_note;
-use crate::controls::put_without_controls;
 use crate::extension_note::extension_note;
 use crate::notes::put_note;
-use crate::points::HalfPoints;
 use crate::refusal_texts;
 use crate::reply::{Reply, Status, Text};
+use common_texts::{HalfPoints, put_without_controls};
 use report_notes::{
     ByteOrder, Columns, Sums, are_lines_read, byte_order, columns_of, first_kind_note,
     has_characters, held, line_in, line_of, sums_of,
@@ -100,7 +99,7 @@ fn points_note(alloc: Global, player: u16, bytes: &[u8], bye: u16) -> Result<Vec
     requires { bye ≤ 2 }
     ensures { IfOk result (λ note. note.items ≡ points_note player (verdict_unsummed bytes.now bye)) }
 {
-    match trf16::read_unsummed(alloc, bytes, bye) {
+    match trf16_reader::read_unsummed(alloc, bytes, bye) {
         Ok(report) => sums_note(alloc, &report, player),
         Err(Fault::OutOfMemory) => Err(AllocError),
         Err(fault) => next_refusal(alloc, fault),
@@ -118,11 +117,21 @@ fn sums_note(alloc: Global, report: &Report<'_>, player: u16) -> Result<Vec<u8>,
 }
 
 // The sums that a points field was compared with, or nothing.
+#[tactic(auto, unfolding(crate::specs::RefusalNoteTexts::sums_text))]
 fn sums_or_nothing(alloc: Global, sums: Option<Sums>) -> Result<Vec<u8>, AllocError>
     ensures { IfOk result (λ note. note.items ≡ option_map_or sums_text sums []) }
 {
     match sums {
-        Some(sums) => Ok(sums_text(alloc, sums)?.into_bytes()),
+        Some(sums) => {
+            let player = sums.player;
+            let field = HalfPoints(u32::from(sums.field));
+            let paired = HalfPoints(u32::from(sums.paired));
+            let all = HalfPoints(u32::from(sums.all));
+            let text = format!(in alloc;
+                "note player {player}: points field {field}, rounds paired {paired}, all rounds {all}\n"
+            )?;
+            Ok(text.into_bytes())
+        }
         None => Ok(Vec::new(alloc)),
     }
 }
@@ -140,19 +149,6 @@ fn unfinished_text(alloc: Global, game: Option<(u16, usize)>) -> Result<String, 
     }
 }
 
-#[tactic(auto, unfolding(crate::specs::RefusalNoteTexts::sums_text))]
-fn sums_text(alloc: Global, sums: Sums) -> Result<String, AllocError>
-    ensures { IfOk result (λ text. string_bytes text ≡ sums_text sums) }
-{
-    let player = sums.player;
-    let field = HalfPoints(u32::from(sums.field));
-    let paired = HalfPoints(u32::from(sums.paired));
-    let all = HalfPoints(u32::from(sums.all));
-    format!(in alloc;
-        "note player {player}: points field {field}, rounds paired {paired}, all rounds {all}\n"
-    )
-}
-
 // Why a report would be refused next.
 fn next_refusal(alloc: Global, fault: Fault) -> Result<Vec<u8>, AllocError>
     ensures { IfOk result (λ note. note.items ≡ codes "note then " ++ fault_text fault) }
@@ -163,21 +159,18 @@ fn next_refusal(alloc: Global, fault: Fault) -> Result<Vec<u8>, AllocError>
 }
 
 // What was found where a line is refused.
+#[tactic(auto, unfolding(crate::specs::RefusalNoteTexts::bytes_text))]
 fn line_note(alloc: Global, fault: Fault, bytes: &[u8], bye: u16) -> Result<Vec<u8>, AllocError>
     requires { bye ≤ 2 }
     ensures { IfOk result (λ note. note.items ≡ line_note fault bytes.now bye) }
 {
     match line_in_bytes(alloc, fault, bytes, bye)? {
-        Some(line) => Ok(bytes_text(alloc, line)?.into_bytes()),
+        Some(line) => {
+            let text = format!(in alloc; "note line {line}: fits if columns are bytes\n")?;
+            Ok(text.into_bytes())
+        }
         None => held_text(alloc, columns_of(fault, bytes), bytes),
     }
-}
-
-#[tactic(auto, unfolding(crate::specs::RefusalNoteTexts::bytes_text))]
-fn bytes_text(alloc: Global, line: usize) -> Result<String, AllocError>
-    ensures { IfOk result (λ text. string_bytes text ≡ bytes_text line) }
-{
-    format!(in alloc; "note line {line}: fits if columns are bytes\n")
 }
 
 // The line whose columns are at fault, if it fits where they are bytes.
@@ -217,7 +210,7 @@ fn is_read(alloc: Global, bytes: &[u8], bye: u16) -> Result<bool, AllocError>
     requires { bye ≤ 2 }
     ensures { IfOk result (λ read. read ≡ are_lines_read (verdict_unsummed bytes.now bye)) }
 {
-    match trf16::read_unsummed(alloc, bytes, bye) {
+    match trf16_reader::read_unsummed(alloc, bytes, bye) {
         Ok(_) => Ok(true),
         Err(Fault::OutOfMemory) => Err(AllocError),
         Err(fault) => Ok(are_lines_read(fault)),

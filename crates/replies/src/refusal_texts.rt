@@ -1,7 +1,6 @@
 // The lines that tell why a report is refused, cannot be paired further, or has no standings, reason by reason.
 ghost use Rattle.std.specs.Prelude.{◌≡◌, IfOk, string_bytes};
-ghost use Rattle.trf16.specs.declared.fault.Fault.TheVariants.{BadCell, Misaligned, Points};
-ghost use Rattle.replies.specs.RefusalTexts.{excess_text, fault_text, field_text, line_text, round_text, tie_text};
+ghost use Rattle.replies.specs.RefusalTexts.{fault_text, field_text, line_text, round_text, tie_text};
 
 use dutch_player::FieldFault;
 use std::alloc::{AllocError, Global};
@@ -18,10 +17,16 @@ pub(crate) fn refused(alloc: Global, fault: Fault) -> Result<String, AllocError>
     match fault {
         Fault::BadNumber { line } => of_line(alloc, line, ": bad number\n"),
         Fault::Duplicate { line } => of_line(alloc, line, ": duplicate\n"),
-        Fault::Misaligned { line, column } => misaligned(alloc, line, column),
-        Fault::BadCell { line, round } => bad_cell(alloc, line, round),
+        Fault::Misaligned { line, column } => {
+            format!(in alloc; "refused: line {line}: column {column} must be blank\n")
+        }
+        Fault::BadCell { line, round } => {
+            format!(in alloc; "refused: line {line}: round {round}: bad cell\n")
+        }
         Fault::BadExtension { line } => of_line(alloc, line, ": bad extension\n"),
-        Fault::TooMany(excess) => too_many(alloc, excess),
+        Fault::TooMany(Excess::Bytes) => String::from_str(alloc, "refused: too many bytes\n"),
+        Fault::TooMany(Excess::Players) => String::from_str(alloc, "refused: too many players\n"),
+        Fault::TooMany(Excess::Rounds) => String::from_str(alloc, "refused: too many rounds\n"),
         Fault::NoPlayers => String::from_str(alloc, "refused: no players\n"),
         Fault::NoSuchOpponent { player, round } => {
             of_round(alloc, player, round, ": no such opponent\n")
@@ -32,7 +37,7 @@ pub(crate) fn refused(alloc: Global, fault: Fault) -> Result<String, AllocError>
         Fault::NotMutual { player, round } => of_round(alloc, player, round, ": not mutual\n"),
         Fault::Colours { player, round } => of_round(alloc, player, round, ": colours\n"),
         Fault::Results { player, round } => of_round(alloc, player, round, ": results\n"),
-        Fault::Points { player } => points(alloc, player),
+        Fault::Points { player } => format!(in alloc; "refused: player {player}: points\n"),
         Fault::OutOfMemory => String::from_str(alloc, "memory: refused\n"),
     }
 }
@@ -81,39 +86,9 @@ pub(crate) fn of_line(alloc: Global, line: usize, what: &str) -> Result<String, 
     format!(in alloc; "refused: line {line}{what}")
 }
 
-// A column that must be blank is not.
-fn misaligned(alloc: Global, line: usize, column: usize) -> Result<String, AllocError>
-    ensures { IfOk result (λ text. string_bytes text ≡ fault_text (Misaligned line column)) }
-{
-    format!(in alloc; "refused: line {line}: column {column} must be blank\n")
-}
-
-fn bad_cell(alloc: Global, line: usize, round: usize) -> Result<String, AllocError>
-    ensures { IfOk result (λ text. string_bytes text ≡ fault_text (BadCell line round)) }
-{
-    format!(in alloc; "refused: line {line}: round {round}: bad cell\n")
-}
-
-fn points(alloc: Global, player: u16) -> Result<String, AllocError>
-    ensures { IfOk result (λ text. string_bytes text ≡ fault_text (Points player)) }
-{
-    format!(in alloc; "refused: player {player}: points\n")
-}
-
 // What does not fit in a round of a player.
 fn of_round(alloc: Global, player: u16, round: usize, what: &str) -> Result<String, AllocError>
     ensures { IfOk result (λ text. string_bytes text ≡ round_text player round what.now) }
 {
     format!(in alloc; "refused: player {player} round {round}{what}")
-}
-
-fn too_many(alloc: Global, excess: Excess) -> Result<String, AllocError>
-    ensures { IfOk result (λ text. string_bytes text ≡ excess_text excess) }
-{
-    let text = match excess {
-        Excess::Bytes => "refused: too many bytes\n",
-        Excess::Players => "refused: too many players\n",
-        Excess::Rounds => "refused: too many rounds\n",
-    };
-    String::from_str(alloc, text)
 }

@@ -7,11 +7,12 @@ ghost use Rattle.replies.specs.StandingsTexts.{row_text, rows_text, value_text, 
 ghost use Rattle.replies.specs.Views.{seen_before};
 
 use crate::games::{put_games, rounds_shown};
-use crate::points::{HalfPoints, KeyValue};
+use crate::points::KeyValue;
 use crate::refusal::has_no_standings;
 use crate::reply::{Reply, Status};
 use crate::views::{not_seen, read_before};
 use crate::wall;
+use common_texts::HalfPoints;
 use requests::StandingsOptions;
 use std::alloc::{AllocError, Global};
 use tables::{Key, Row, TieFault};

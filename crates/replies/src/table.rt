@@ -1,11 +1,11 @@
 // Tables: lines of labels that stand in columns, each of them as wide as the widest of its labels.
-ghost use Rattle.std.specs.Prelude.{◌≡◌, ◌++◌, ◌∷◌, [], IfOk, OnOk, slice_index_or, string_bytes};
+ghost use Rattle.std.specs.Prelude.{◌≡◌, ◌++◌, ◌∷◌, [], IfOk, OnOk, string_bytes};
 ghost use Rattle.replies.specs.Tables.{gap, labels_text, left, padded, right, table_text, widest};
 ghost use Rattle.replies.specs.Tables.{width, width_in, widths};
-ghost use Rattle.replies.specs.WallTexts.{shown};
+ghost use Rattle.common_texts.specs.Texts.{shown};
 ghost use Rattle.trf16.specs.Prelude.{blanks};
 
-use crate::controls::without_controls;
+use common_texts::shown;
 use std::alloc::{AllocError, Global};
 use std::marker::Model;
 use trf16::column_count;
@@ -123,19 +123,6 @@ impl TableLine {
     }
 }
 
-/// A name with a question mark in place of each control character, or a dash where it is blank.
-///
-/// # Errors
-/// Memory was refused.
-pub fn shown(alloc: Global, name: &[u8]) -> Result<Vec<u8>, AllocError>
-    ensures { IfOk result (λ text. text.items ≡ shown name.now) }
-{
-    if name.is_empty() {
-        return Vec::from_slice(alloc, b"-");
-    }
-    without_controls(alloc, name)
-}
-
 fn put_blanks(text: &mut Vec<u8>, count: usize) -> Result<(), AllocError>
     ensures { OnOk result (text.new.items ≡ text.old.items ++ blanks count) }
 {
@@ -172,13 +159,6 @@ fn widths(
     Ok(all)
 }
 
-// How wide a column is, by the widths of the first columns.
-fn wide_in(widths: &[usize], column: usize) -> usize
-    ensures { result ≡ slice_index_or widths.now column 0 }
-{
-    widths.get(column).copied().unwrap_or(0)
-}
-
 // Puts what parts a label from those behind it, or the end of the line.
 fn put_gap(text: &mut Vec<u8>, behind: &[Label]) -> Result<(), AllocError>
     ensures { OnOk result (text.new.items ≡ text.old.items ++ gap behind.now) }
@@ -198,7 +178,8 @@ fn put_line(
 {
     let labels = line.labels.as_slice();
     for (i, label) in labels.iter().enumerate() {
-        label.put(text, utf8, wide_in(widths, i))?;
+        let wide = widths.get(i).copied().unwrap_or(0);
+        label.put(text, utf8, wide)?;
         put_gap(text, labels.split_at(i + 1).1)?;
     }
     Ok(())

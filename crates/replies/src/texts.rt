@@ -1,7 +1,8 @@
 // The texts of the program, apart from clap's and from why a report is refused.
 ghost use Rattle.std.specs.Prelude.{◌≡◌, ◌++◌, IfOk, string_bytes};
 ghost use Rattle.replies.specs.Texts.{not_of_bracket_text, not_reached_text};
-ghost use Rattle.replies.specs.Texts.{question_text, round_not_reached_text, undecided_text, undecided_words, word_text};
+ghost use Rattle.replies.specs.Texts.{question_text, round_not_reached_text, word_text};
+ghost use Rattle.common_texts.specs.Texts.{undecided_text, undecided_words};
 
 use crate::question::QuestionFault;
 use requests::WordFault;
@@ -32,20 +33,6 @@ pub fn bad_question(alloc: Global, fault: QuestionFault) -> Result<String, Alloc
             format!(in alloc; "words: player {player} is named twice\n")
         }
     }
-}
-
-/// The steps of a bracket reached the limit before it was decided.
-pub fn undecided(alloc: Global, number: u16, used: u64) -> Result<String, AllocError>
-    ensures { IfOk result (λ text. string_bytes text ≡ undecided_text number used) }
-{
-    format!(in alloc; "undecided bracket {number} steps {used}\n")
-}
-
-/// The same in a sentence.
-pub fn undecided_words(alloc: Global, number: u16, used: u64) -> Result<String, AllocError>
-    ensures { IfOk result (λ text. string_bytes text ≡ undecided_words number used) }
-{
-    format!(in alloc; "Undecided: bracket {number} needs more than {used} steps.\n")
 }
 
 /// The round ends before a bracket.

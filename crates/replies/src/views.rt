@@ -36,7 +36,7 @@ pub fn read_before<'a>(
     requires { bye ≤ 2 }
     ensures { IfOk result (λ seen. seen ≡ seen_before round (verdict bytes.now bye)) }
 {
-    match trf16::read_with(alloc, bytes, bye) {
+    match trf16_reader::read_with(alloc, bytes, bye) {
         Ok(report) => seen_before(alloc, report, round),
         Err(Fault::OutOfMemory) => Err(AllocError),
         Err(fault) => Ok(Err(Unseen::Refused(fault))),
@@ -56,7 +56,7 @@ pub fn read_unsummed_before<'a>(
     requires { bye ≤ 2 }
     ensures { IfOk result (λ seen. seen ≡ seen_before round (verdict_unsummed bytes.now bye)) }
 {
-    match trf16::read_unsummed(alloc, bytes, bye) {
+    match trf16_reader::read_unsummed(alloc, bytes, bye) {
         Ok(report) => seen_before(alloc, report, round),
         Err(Fault::OutOfMemory) => Err(AllocError),
         Err(fault) => Ok(Err(Unseen::Refused(fault))),

@@ -12,9 +12,10 @@ ghost use Rattle.replies.specs.WallTexts.{played_labels, player_labels, result_l
 ghost use Rattle.replies.specs.WallTexts.{rows_labels, values_labels};
 
 use crate::games::{push_games, rounds_shown};
-use crate::points::{HalfPoints, KeyValue};
+use crate::points::KeyValue;
 use crate::reply::{Reply, Status};
 use crate::table::{TableLine, table};
+use common_texts::HalfPoints;
 use requests::StandingsOptions;
 use std::alloc::{AllocError, Global};
 use tables::{Key, Row};

@@ -1,8 +1,7 @@
 // What of a player's line looks like a mistake.
-ghost use Rattle.std.specs.Prelude.{◌≡◌, ℕ, ◌∷◌, [], MatchOption, option_and_then};
-ghost use Rattle.trf16.specs.Prelude.{columns, player_of};
-ghost use Rattle.report_notes.specs.Notes.{goes_on_behind, last_column, player_notes};
-ghost use Rattle.report_notes.specs.Ratings.{rated_above};
+ghost use Rattle.std.specs.Prelude.{◌≡◌, ℕ, ◌∷◌, [], MatchOption};
+ghost use Rattle.trf16.specs.Prelude.{columns};
+ghost use Rattle.report_notes.specs.Notes.{last_column, player_notes};
 ghost use Rattle.report_notes.specs.NoteOf.{cells_left_notes, noted, player_left_notes};
 
 use crate::fields::start_in;
@@ -113,23 +112,20 @@ pub(crate) fn player_left(report: &Report<'_>, line: &[u8]) -> PlayerLeft
 {
     let utf8 = report.is_utf8();
     let start = start_in(line, utf8);
+    let (_, rest) = split_columns(line, utf8, last_column(report));
     PlayerLeft {
         before_name: !is_blank(columns_in(line, utf8, 14, 14)),
         long_name: !is_blank(columns_in(line, utf8, 48, 48)),
-        rating: line_rated_above(report, start),
+        rating: match report.player(start) {
+            Some(player) => rated_above(report, player),
+            None => None,
+        },
         early: counts_to_come(report, start),
         cells: CellsLeft {
             rounds: PlayerRoundsLeft::all(start),
-            behind: goes_on_behind(report, line),
+            behind: !is_blank(rest),
         },
     }
-}
-
-// The rating of the player with a start rank, if they come late and are rated above a player in front.
-fn line_rated_above(report: &Report<'_>, start: u16) -> Option<RatedAbove>
-    ensures { result ≡ option_and_then (rated_above report.now) (player_of report.now.players start) }
-{
-    rated_above(report, report.player(start)?)
 }
 
 // The last column of the round that comes next.
@@ -137,11 +133,4 @@ fn last_column(report: &Report<'_>) -> usize
     ensures { result ≡ last_column report.now }
 {
     101 + 10 * usize::from(report.rounds_played())
-}
-
-fn goes_on_behind(report: &Report<'_>, line: &[u8]) -> bool
-    ensures { result ≡ goes_on_behind report.now (columns report.now.utf8 line.now) }
-{
-    let (_, rest) = split_columns(line, report.is_utf8(), last_column(report));
-    !is_blank(rest)
 }

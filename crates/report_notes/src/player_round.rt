@@ -2,9 +2,9 @@
 ghost use Rattle.std.specs.Prelude.{◌≡◌, ◌<◌, ◌∷◌, [], MatchOption};
 ghost use Rattle.std.specs.List.{list_any};
 ghost use Rattle.trf16.specs.Prelude.{cells_of, is_unfinished};
-ghost use Rattle.report_notes.specs.PlayerRounds.{bars_bye, bye_note, cell_note, cells_before, few_points, is_allocated};
+ghost use Rattle.report_notes.specs.PlayerRounds.{bars_bye, bye_note, cell_note, cells_before, is_allocated};
 ghost use Rattle.report_notes.specs.PlayerRounds.{is_filled, is_game_against, meeting_note, opponent_of_game};
-ghost use Rattle.report_notes.specs.PlayerRounds.{points_note, result_note, round_notes};
+ghost use Rattle.report_notes.specs.PlayerRounds.{points_note, round_notes};
 ghost use Rattle.report_notes.specs.NoteOf.{round_left_notes};
 
 use crate::note::RoundNote;
@@ -87,7 +87,7 @@ pub(crate) fn round_left(report: &Report<'_>, start: u16, round: u8) -> RoundLef
     let cells = cells_of(report, start);
     let cell = cell_at(cells, round);
     RoundLeft {
-        result: result_note(cells, round),
+        result: is_unfinished(&cell).then_some(RoundNote::NoResult),
         meeting: meeting_note(cells, round),
         bye: bye_note(cells, round),
         points: points_note(report, &cell, round),
@@ -103,14 +103,6 @@ fn cells_of<'a>(report: &'a Report<'_>, start: u16) -> &'a [Cell]
         Some(player) => &player.cells,
         None => &[],
     }
-}
-
-// That the game of a round has no result.
-fn result_note(cells: &[Cell], round: u8) -> Option<RoundNote>
-    requires { 0 < round }
-    ensures { result ≡ result_note cells.now round }
-{
-    is_unfinished(&cell_at(cells, round)).then_some(RoundNote::NoResult)
 }
 
 // The cells of the rounds before a given one.
@@ -205,14 +197,8 @@ fn points_note(report: &Report<'_>, cell: &Cell, round: u8) -> Option<RoundNote>
     let Cell::Game { opponent, .. } = cell else {
         return None;
     };
-    few_points(cell.game_points() + report.cell(*opponent, round).game_points())
-}
-
-// That the half points that a game gives in all are less than a point.
-fn few_points(halves: u16) -> Option<RoundNote>
-    ensures { result ≡ few_points halves }
-{
-    match halves {
+    // in half points
+    match cell.game_points() + report.cell(*opponent, round).game_points() {
         0 => Some(RoundNote::NoPoint),
         1 => Some(RoundNote::HalfPoint),
         _ => None,

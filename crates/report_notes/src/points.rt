@@ -1,24 +1,18 @@
 // Which rounds a player's points field counts.
 ghost use Rattle.std.specs.Prelude.{◌≡◌, false};
 ghost use Rattle.std.specs.Option.{option_map_or};
-ghost use Rattle.trf16.specs.Prelude.{player_of, entry_of};
+ghost use Rattle.trf16.specs.Prelude.{player_of};
 ghost use Rattle.report_notes.specs.Games.{counts_to_come};
 
-use trf16::{Player, Report, front};
+use trf16::{Report, front};
 
 /// Such a points field is accepted, but may not be meant.
 pub(crate) fn counts_to_come(report: &Report<'_>, start: u16) -> bool
     ensures { result ≡ option_map_or (counts_to_come report.now) (player_of report.now.players start) false }
 {
-    match report.player(start) {
-        Some(player) => field_counts_to_come(report, player),
-        None => false,
-    }
-}
-
-fn field_counts_to_come(report: &Report<'_>, player: &Player<'_>) -> bool
-    ensures { result ≡ counts_to_come report.now (entry_of player.now) }
-{
+    let Some(player) = report.player(start) else {
+        return false;
+    };
     let Some(points) = player.points else {
         return false;
     };

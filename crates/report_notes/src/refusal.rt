@@ -2,16 +2,15 @@
 // field was compared with.
 ghost use Rattle.std.specs.Prelude.{◌≡◌, ◌≤◌, Err};
 ghost use Rattle.std.specs.Str.{is_utf8};
-ghost use Rattle.trf16.specs.Prelude.{columns, text, without_marks, entry_of};
+ghost use Rattle.trf16.specs.Prelude.{columns, text, without_marks};
 ghost use Rattle.trf16.specs.declared.limits.TheConstants.{LAST_COLUMN};
 ghost use Rattle.report_notes.specs.RefusalNotes.{are_lines_read, columns_around, columns_of, held, line_in, line_of};
-ghost use Rattle.report_notes.specs.RefusalNotes.{number_columns, sums_among, sums_of};
+ghost use Rattle.report_notes.specs.RefusalNotes.{number_columns, sums_among};
 
 use crate::fields::start_in;
 use std::str;
 use trf16::{
-    Excess, Fault, LAST_COLUMN, MOST_ROUNDS, Player, Report, front, next_line, skip_marks,
-    split_columns,
+    Excess, Fault, LAST_COLUMN, MOST_ROUNDS, Report, front, next_line, skip_marks, split_columns,
 };
 
 /// Columns of a line, `first` to `last`. Lines and columns count from 1.
@@ -164,10 +163,12 @@ pub fn are_lines_read(fault: Fault) -> bool
     }
 }
 
-// The points field of a player, and the sums that it is compared with.
-fn player_sums(report: &Report<'_>, player: &Player<'_>) -> Option<Sums>
-    ensures { result ≡ sums_of report.now (entry_of player.now) }
+/// The points field of the player with a start rank, and the sums that it is compared with; none if the field is blank,
+/// or if no player has the start rank.
+pub fn sums_of(report: &Report<'_>, start: u16) -> Option<Sums>
+    ensures { result ≡ sums_among report.now report.now.players start }
 {
+    let player = report.player(start)?;
     let field = player.points?;
     let paired = front(&player.cells, report.rounds_played());
     Some(Sums {
@@ -176,12 +177,4 @@ fn player_sums(report: &Report<'_>, player: &Player<'_>) -> Option<Sums>
         paired: report.points_over(paired),
         all: report.points_over(&player.cells),
     })
-}
-
-/// The points field of the player with a start rank, and the sums that it is compared with; none if the field is blank,
-/// or if no player has the start rank.
-pub fn sums_of(report: &Report<'_>, start: u16) -> Option<Sums>
-    ensures { result ≡ sums_among report.now report.now.players start }
-{
-    player_sums(report, report.player(start)?)
 }

@@ -12,7 +12,7 @@ use Rattle.requests.specs.declared.options.Wording.{Wording}
 use Rattle.requests.specs.declared.options.Wording.TheVariants.{Words}
 use Rattle.round_lines.specs.CandidateTexts.{rank_text}
 use Rattle.round_lines.specs.Tellings.{TellingFacts, in_wording, seats_words}
-use Rattle.replies.specs.Prelude.{halves_text}
+use Rattle.common_texts.specs.Prelude.{halves_text}
 
 -- the article of an item [with item_words]
 abbrev pub article_text : Item → List ℕ

@@ -1,4 +1,4 @@
--- What the contracts of round_lines name: the texts of rounds, brackets, candidates, items, values, boards and players, listings and obstacles.
+-- What the contracts of round_lines name: the texts of rounds, brackets, candidates, items, values and boards, and listings.
 pub mod Tellings
 pub mod CandidateTexts
 pub mod Listings
@@ -6,5 +6,3 @@ pub mod ItemTexts
 pub mod RoundTexts
 pub mod Pieces
 pub mod ValueTexts
-pub mod PlayerTexts
-pub mod Obstacles

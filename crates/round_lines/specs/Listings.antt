@@ -3,11 +3,9 @@ use Rattle.std.specs.Prelude.{◌≡◌, ℕ, ◌<◌, ◌≤◌, List, length, 
 use Rattle.std.specs.List.{flat_map}
 use Rattle.dutch_order.specs.Prelude.{Arrangement}
 use Rattle.dutch_sequence.specs.declared.steps.Budget.{Budget}
-use Rattle.replies.specs.Prelude.{undecided_text}
+use Rattle.common_texts.specs.Prelude.{undecided_text}
 use Rattle.round_lines.specs.declared.listing.Ending.{Ending}
 use Rattle.round_lines.specs.declared.listing.Ending.TheVariants.{AtEnd, AtCount, Stopped}
-use Rattle.replies.specs.declared.reply.Status.{Status}
-use Rattle.replies.specs.declared.reply.Status.TheVariants.{Done, Undecided}
 
 -- the lines of the first `count` of some candidates, by how the listing ends: all came and they are fewer; as many came; or it had used so
 -- many steps as it may, before as many came [own]
@@ -22,12 +20,6 @@ abbrev pub StopsAtLimit : Ending → Budget → Type 0
 StopsAtLimit AtEnd budget = Unit {0}
 StopsAtLimit AtCount budget = Unit {0}
 StopsAtLimit (Stopped used) budget = budget.used ≡ budget.limit
-
--- the status of a listing [with IsListing]
-abbrev pub status_of : Ending → Status
-status_of AtEnd = Done
-status_of AtCount = Done
-status_of (Stopped used) = Undecided
 
 -- the last line of a listing [with IsListing]
 abbrev pub ending_text : ℕ → Ending → List ℕ

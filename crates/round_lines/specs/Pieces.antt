@@ -10,7 +10,7 @@ use Rattle.round_lines.specs.Tellings.{TellingFacts, player_words, players_words
 use Rattle.round_lines.specs.declared.pieces.Piece.{Piece}
 use Rattle.round_lines.specs.declared.pieces.Piece.TheVariants.{Text, Number, Count, Points, Rank, Ranks, Scored, Differences}
 use Rattle.round_lines.specs.declared.pieces.Piece.TheVariants.{Player, Players, Seat, Seats, ScoredSeats, DifferencesWords}
-use Rattle.replies.specs.Prelude.{halves_text}
+use Rattle.common_texts.specs.Prelude.{halves_text}
 
 module _ (telling : TellingFacts) where
   -- a piece

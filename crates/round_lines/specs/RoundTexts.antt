@@ -8,7 +8,7 @@ use Rattle.dutch_player.specs.declared.colour_rule.ColourRule.TheVariants.{BothP
 use Rattle.dutch_bracket.specs.Prelude.{Reached, score_at}
 use Rattle.round_lines.specs.CandidateTexts.{rank_text}
 use Rattle.round_lines.specs.Tellings.{TellingFacts, in_wording, seat_words}
-use Rattle.replies.specs.Prelude.{halves_text}
+use Rattle.common_texts.specs.Prelude.{halves_text}
 
 -- E: the rule that decided the colours of two
 abbrev pub rule_text : ColourRule → List ℕ

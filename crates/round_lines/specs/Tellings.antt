@@ -7,7 +7,7 @@ use Rattle.trf16.specs.Prelude.{name_in, Sheet}
 use Rattle.dutch_player.specs.Prelude.{Facts, seat_at}
 use Rattle.requests.specs.declared.options.Wording.{Wording}
 use Rattle.requests.specs.declared.options.Wording.TheVariants.{Plain, Words}
-use Rattle.replies.specs.Prelude.{shown}
+use Rattle.common_texts.specs.Prelude.{shown}
 
 -- a round as it is told: its report, those whom it is paired from, and how the lines are worded [own]
 pub record TellingFacts : Type 0 where

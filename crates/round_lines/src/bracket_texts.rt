@@ -9,9 +9,9 @@ use crate::page::Page;
 use crate::pieces::Piece::{Count, Number, Text};
 use crate::pieces::say;
 use crate::telling::Telling;
+use common_texts::undecided;
 use dutch_bracket::{BracketKind, Reached};
 use dutch_order::Shape;
-use replies::texts;
 use std::alloc::{AllocError, Global};
 
 // What a bracket is for the round, and the same in a sentence, behind the bracket's number.
@@ -95,6 +95,6 @@ pub fn ending(alloc: Global, number: u16, ending: Ending) -> Result<String, Allo
     match ending {
         Ending::AtEnd => String::from_str(alloc, "end\n"),
         Ending::AtCount => String::from_str(alloc, "more\n"),
-        Ending::Stopped { used } => texts::undecided(alloc, number, used),
+        Ending::Stopped { used } => undecided(alloc, number, used),
     }
 }

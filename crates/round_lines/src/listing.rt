@@ -4,14 +4,14 @@ ghost use Rattle.std.specs.List.{flat_map};
 ghost use Rattle.std.specs.Fmt.{decimal};
 ghost use Rattle.dutch_order.specs.Prelude.{Spends};
 ghost use Rattle.dutch_bracket.specs.Prelude.{frame_of};
-ghost use Rattle.round_lines.specs.Listings.{IsListing, StopsAtLimit, status_of};
+ghost use Rattle.round_lines.specs.Listings.{IsListing, StopsAtLimit};
 ghost use Rattle.round_lines.specs.CandidateTexts.{down_text, candidate_text, line_text, pair_text, pairs_text};
 ghost use Rattle.round_lines.specs.CandidateTexts.{start_of};
 
 use dutch_bracket::Reached;
-use dutch_order::{Budget, Candidate, Candidates, Rule, Step};
+use dutch_listing::Candidates;
+use dutch_order::{Budget, Candidate, Rule, Step};
 use dutch_player::Field;
-use replies::Status;
 use std::alloc::{AllocError, Global};
 
 /// How a listing ended.
@@ -23,18 +23,6 @@ pub enum Ending {
     AtCount,
     /// The limit of steps, which is `used`, was reached first.
     Stopped { used: u64 },
-}
-
-impl Ending {
-    /// The status of a listing that ended so.
-    pub fn status(self) -> Status
-        ensures { result ≡ status_of self }
-    {
-        match self {
-            Ending::AtEnd | Ending::AtCount => Status::Done,
-            Ending::Stopped { .. } => Status::Undecided,
-        }
-    }
 }
 
 /// Lines of candidates, and how they ended.

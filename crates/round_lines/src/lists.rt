@@ -5,12 +5,12 @@ ghost use Rattle.dutch_bracket.specs.Prelude.{score_at};
 ghost use Rattle.round_lines.specs.CandidateTexts.{rank_text};
 ghost use Rattle.round_lines.specs.ItemTexts.{differences_text, points_text};
 ghost use Rattle.round_lines.specs.RoundTexts.{all_scored_words, scored_text, scored_words};
-ghost use Rattle.replies.specs.Prelude.{halves_text};
+ghost use Rattle.common_texts.specs.Prelude.{halves_text};
 
 use crate::page::Page;
 use crate::telling::{Telling, in_wording, put_seat, start_at};
+use common_texts::HalfPoints;
 use dutch_player::Field;
-use replies::points::HalfPoints;
 use requests::Wording;
 use std::alloc::AllocError;
 

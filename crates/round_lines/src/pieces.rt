@@ -8,7 +8,7 @@ ghost use Rattle.round_lines.specs.Tellings.{in_wording};
 use crate::lists::{put_differences, put_listed, put_ranks, put_scored, put_scored_words};
 use crate::page::Page;
 use crate::telling::{Telling, put_one, put_players, put_seat, put_seats, start_at};
-use replies::points::HalfPoints;
+use common_texts::HalfPoints;
 use requests::Wording;
 use std::alloc::AllocError;
 

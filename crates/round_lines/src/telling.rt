@@ -5,8 +5,8 @@ ghost use Rattle.dutch_player.specs.Prelude.{seat_at};
 ghost use Rattle.round_lines.specs.Tellings.{in_wording, named, player_words, players_words, seat_words, seats_words};
 
 use crate::page::Page;
+use common_texts::shown;
 use dutch_player::Field;
-use replies::shown;
 use requests::Wording;
 use std::alloc::{AllocError, Global};
 use std::marker::Model;

@@ -8,18 +8,6 @@ use Rattle.dutch_pair.specs.declared.stage.Stage.{Stage}
 use Rattle.requests.specs.declared.options.Wording.{Wording}
 use Rattle.round_lines.specs.Tellings.{TellingFacts, in_wording, player_words}
 use Rattle.round_lines.specs.ValueTexts.{candidate_text}
-use Rattle.replies.specs.Prelude.{Answer, done, plain, undecided_text, undecided_words}
-use Rattle.replies.specs.declared.reply.Status.TheVariants.{Undecided as UndecidedStatus}
-
--- ---- the steps reached the limit
-
--- the line of it
-abbrev pub undecided_told : Wording → ℕ → ℕ → List ℕ
-undecided_told wording number used = in_wording wording (undecided_text number used) (undecided_words number used)
-
--- the steps of a bracket reached the limit before it was decided
-abbrev pub undecided_in : Wording → ℕ → ℕ → Answer
-undecided_in wording number used = plain UndecidedStatus (undecided_told wording number used)
 
 -- ---- what a search in a bracket finds
 
@@ -95,12 +83,3 @@ module _ (telling : TellingFacts) (player number : ℕ) where
   abbrev pub in_bracket : Stage → Instead → List ℕ
   in_bracket stage found =
       front_text ++ (bracket_front telling.wording stage.reached.number ++ (found_text telling.wording stage found ++ codes "\n"))
-
-  -- what a search in a bracket found: none that can be chosen grants the wish, none with as many moved-down players, none with as many
-  -- pairs, or the best that does; or that its steps reached the limit [own]
-  abbrev pub search_answer : Stage → Instead → Answer
-  search_answer stage (Best candidate quality) = done (in_bracket stage (Best candidate quality))
-  search_answer stage NoneEligible = done (in_bracket stage NoneEligible)
-  search_answer stage FewerMovedDown = done (in_bracket stage FewerMovedDown)
-  search_answer stage NoneLegal = done (in_bracket stage NoneLegal)
-  search_answer stage (Undecided used) = undecided_in telling.wording stage.reached.number used

@@ -54,26 +54,36 @@ fn put_lacking(text: &mut Page, telling: &Telling<'_>) -> Result<(), AllocError>
 }
 
 // Puts the line of who blocks.
-#[tactic(auto, unfolding(crate::specs::BarrierTexts::blocked_line, crate::specs::BarrierTexts::blocked_words))]
 fn put_blocked(text: &mut Page, telling: &Telling<'_>, barrier: &Barrier) -> Result<(), AllocError>
     ensures { OnOk result (text.new ≡ text.old ++ in_wording telling.now.wording
         (blocked_line telling.now barrier.now) (blocked_words telling.now barrier.now)) }
 {
     let seats = labelled(text.allocator(), telling, barrier, 0)?;
-    if barrier.has_blockers(telling.field) {
-        let (line, words) = (Ranks(seats.as_slice()), Seats(seats.as_slice()));
-        return say(
-            text,
-            telling,
-            &[Text("blocked by"), line, Text("\n")],
-            &[Text("Blocking players: "), words, Text(".\n")],
-        );
-    }
-    let words = Seats(seats.as_slice());
+    put_blockers(text, telling, barrier, seats.as_slice())
+}
+
+// Puts the line of these who block, if anybody does.
+#[tactic(auto, unfolding(crate::specs::BarrierTexts::blocked_line, crate::specs::BarrierTexts::blocked_words))]
+fn put_blockers(
+    text: &mut Page,
+    telling: &Telling<'_>,
+    barrier: &Barrier,
+    seats: &[u16],
+) -> Result<(), AllocError>
+    requires { seats.now ≡ labelled telling.now barrier.now 0 }
+    ensures { OnOk result (text.new ≡ text.old ++ in_wording telling.now.wording
+        (blocked_line telling.now barrier.now) (blocked_words telling.now barrier.now)) }
+{
+    let line = if barrier.has_blockers(telling.field) {
+        Ranks(seats)
+    } else {
+        Text(" -")
+    };
+    let words = Seats(seats);
     say(
         text,
         telling,
-        &[Text("blocked by"), Text(" -"), Text("\n")],
+        &[Text("blocked by"), line, Text("\n")],
         &[Text("Blocking players: "), words, Text(".\n")],
     )
 }

@@ -6,8 +6,8 @@ ghost use Rattle.stage_lines.specs.ExplainTexts.{chosen_text, is_bracket_told, s
 
 use crate::board_lines::{put_byes, put_pairs};
 use crate::choice_lines::put_choice;
-use crate::item_lines::put_items;
-use dutch_pair::{Reached, Stage};
+use crate::item_lines::put_each_item;
+use dutch_pair::{ITEMS, Reached, Stage};
 use round_lines::bracket_texts::put_bracket;
 use round_lines::page::Page;
 use round_lines::pieces::Piece::Text;
@@ -67,7 +67,7 @@ fn put_stage(
 }
 
 // Puts what is chosen in a bracket, what counts against it, its boards and who is left over.
-#[tactic(auto, unfolding(crate::specs::ExplainTexts::chosen_text))]
+#[tactic(auto, unfolding(crate::specs::ExplainTexts::chosen_text, crate::specs::StageItems::items_text))]
 fn put_chosen(
     text: &mut Page,
     telling: &Telling<'_>,
@@ -78,7 +78,7 @@ fn put_chosen(
     ensures { OnOk result (text.new ≡ text.old ++ chosen_text telling.now whose stage.now) }
 {
     put_choice(text, telling, stage)?;
-    put_items(text, telling, stage)?;
+    put_each_item(text, telling, stage, &ITEMS)?;
     put_pairs(text, telling, stage, whose)?;
     put_byes(text, telling, stage, whose)
 }

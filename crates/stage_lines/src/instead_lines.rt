@@ -2,11 +2,13 @@
 ghost use Rattle.std.specs.Prelude.{◌≡◌, ◌++◌, OnOk};
 ghost use Rattle.dutch_bracket.specs.Prelude.{quality_in};
 ghost use Rattle.stage_lines.specs.InsteadTexts.{best_front, bracket_front, found_text, front_text, granted_text};
+ghost use Rattle.stage_lines.specs.InsteadTexts.{none_b1_text, none_c4_text, none_c5_text};
 ghost use Rattle.round_lines.specs.ValueTexts.{candidate_text};
 
 use dutch_bracket::quality::Quality;
 use dutch_order::Candidate;
 use dutch_pair::{Instead, Stage};
+use requests::Wording;
 use round_lines::Asked;
 use round_lines::page::Page;
 use round_lines::pieces::Piece::{Number, Player, Text};
@@ -72,6 +74,39 @@ fn put_bracket(text: &mut Page, telling: &Telling<'_>, number: u16) -> Result<()
     )
 }
 
+// None that can be chosen grants the wish.
+fn none_c4(wording: Wording) -> &'static str
+    ensures { result.now ≡ none_c4_text wording }
+{
+    in_wording(
+        wording,
+        "none C.4",
+        "candidates with as many pairs and no fewer moved-down players in them allow it, but those whom they leave over could not all be paired below (C.4).",
+    )
+}
+
+// None with as many moved-down players in as many pairs does.
+fn none_b1(wording: Wording) -> &'static str
+    ensures { result.now ≡ none_b1_text wording }
+{
+    in_wording(
+        wording,
+        "none B.1",
+        "no candidate that allows it makes as many pairs with as many moved-down players in them (B.1).",
+    )
+}
+
+// None with as many pairs does.
+fn none_c5(wording: Wording) -> &'static str
+    ensures { result.now ≡ none_c5_text wording }
+{
+    in_wording(
+        wording,
+        "none C.5",
+        "no candidate that makes as many pairs allows it (C.5).",
+    )
+}
+
 // Puts what a search in a bracket found.
 fn put_reason(
     text: &mut Page,
@@ -86,21 +121,9 @@ fn put_reason(
         Instead::Best { candidate, quality } => {
             put_best(text, telling, candidate, (quality, stage.quality()))
         }
-        Instead::NoneEligible => text.push_str(in_wording(
-            telling.wording,
-            "none C.4",
-            "candidates with as many pairs and no fewer moved-down players in them allow it, but those whom they leave over could not all be paired below (C.4).",
-        )),
-        Instead::FewerMovedDown => text.push_str(in_wording(
-            telling.wording,
-            "none B.1",
-            "no candidate that allows it makes as many pairs with as many moved-down players in them (B.1).",
-        )),
-        Instead::NoneLegal => text.push_str(in_wording(
-            telling.wording,
-            "none C.5",
-            "no candidate that makes as many pairs allows it (C.5).",
-        )),
+        Instead::NoneEligible => text.push_str(none_c4(telling.wording)),
+        Instead::FewerMovedDown => text.push_str(none_b1(telling.wording)),
+        Instead::NoneLegal => text.push_str(none_c5(telling.wording)),
         Instead::Undecided { .. } => Ok(()),
     }
 }

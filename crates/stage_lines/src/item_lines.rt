@@ -2,30 +2,21 @@
 ghost use Rattle.std.specs.Prelude.{◌≡◌, ◌++◌, OnOk};
 ghost use Rattle.std.specs.List.{flat_map};
 ghost use Rattle.dutch_pair.specs.Prelude.{IsStage};
-ghost use Rattle.stage_lines.specs.StageItems.{counted_text, item_text, items_text};
+ghost use Rattle.stage_lines.specs.StageItems.{counted_text, item_text};
 
-use dutch_pair::{ITEMS, Item, Stage, who_counts};
+use dutch_pair::{Item, Stage, who_counts};
 use round_lines::item_texts::{Counted, players_counted, put_list, put_next, put_psd, put_who};
 use round_lines::page::Page;
 use round_lines::telling::Telling;
 use std::alloc::AllocError;
 
-/// Puts what counts against the choice in a bracket, item by item in the order in which the items count: C.6 always,
-/// C.7 in an ordinary bracket, of C.8 to C.15 those that are not 0 with the players who count, and of C.16 to C.19
-/// those that are not empty.
+/// Puts what counts against the choice in a bracket, item by item, for items in the order in which they count: C.6
+/// always, C.7 in an ordinary bracket, of C.8 to C.15 those that are not 0 with the players who count, and of C.16 to
+/// C.19 those that are not empty.
 ///
 /// # Errors
 /// Memory was refused.
-#[tactic(auto, unfolding(crate::specs::StageItems::items_text))]
-pub fn put_items(text: &mut Page, telling: &Telling<'_>, stage: &Stage) -> Result<(), AllocError>
-    requires { IsStage telling.now.facts stage.now }
-    ensures { OnOk result (text.new ≡ text.old ++ items_text telling.now stage.now) }
-{
-    put_each_item(text, telling, stage, &ITEMS)
-}
-
-// Puts items, one after the other.
-fn put_each_item(
+pub fn put_each_item(
     text: &mut Page,
     telling: &Telling<'_>,
     stage: &Stage,

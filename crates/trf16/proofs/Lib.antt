@@ -3,7 +3,6 @@ pub mod ColumnLemmas
 pub mod FieldLemmas
 pub mod StepLemmas
 pub mod LineSteps
-pub mod RoundSteps
 pub mod ReadingLemmas
 pub mod ReportLemmas
 pub mod AnsweringLemmas

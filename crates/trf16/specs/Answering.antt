@@ -56,7 +56,7 @@ cells_fit sheet start round (cell ∷ rest) = do
   _ ← cell_fits sheet start round cell
   cells_fit sheet start (round + 1) rest
 
--- a line XXS says that games have other points
+-- a line XXS says that games have other points [with points_fit]
 abbrev pub has_other_points : Sheet → Bool
 has_other_points sheet = some_carried (is_kind (codes "XXS")) sheet
 

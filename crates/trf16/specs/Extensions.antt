@@ -13,7 +13,7 @@ use Rattle.trf16.specs.declared.cell.Colour.TheVariants.{White, Black}
 abbrev pub is_word : List ℕ → List ℕ → Bool
 is_word word capitals = bytes_eq (map to_ascii_lowercase word) (map to_ascii_lowercase capitals)
 
--- a line of a kind: its first three columns, in either case
+-- a line of a kind: its first three columns, in either case [TRF16, columns 1 to 3]
 abbrev pub is_kind : List ℕ → List (List ℕ) → Bool
 is_kind capitals line = is_word (text line 1 3) capitals
 
@@ -67,7 +67,7 @@ are_start_ranks all = list_all (λ word. option_map_or (λ n. nat_lt 0 n) (numbe
 abbrev pub is_named : List (List ℕ) → ℕ → Bool
 is_named all number = list_any (λ word. option_map_or (λ n. n == number) (number_of word) false) all
 
--- a line XXZ that names a start rank
+-- a line XXZ that names a start rank [TRF16 extensions]
 abbrev pub names_absent : ℕ → List (List ℕ) → Bool
 names_absent start line = is_kind (codes "XXZ") line && is_named (words_of line) start
 

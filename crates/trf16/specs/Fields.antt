@@ -53,7 +53,7 @@ abbrev pub without_last : {X : Type 0} → (X → Bool) → List X → List X
 without_last test [] = []
 without_last test (x ∷ rest) = if list_all test (x ∷ rest) then [] else x ∷ without_last test rest
 
--- a text without the blanks at its end
+-- a text without the blanks at its end [own]
 abbrev pub trimmed : List ℕ → List ℕ
 trimmed bytes = without_last (λ b. b == byte " ") bytes
 

@@ -17,11 +17,11 @@ use Rattle.trf16.specs.declared.apart.Apart.{Apart}
 abbrev pub has_start : StartRanks → ℕ → Bool
 has_start starts start = slice_index_or starts.marks.items start false
 
--- whether a start rank is noted as that of somebody absent
+-- whether a start rank is noted as that of somebody absent [with Tells]
 abbrev pub is_marked : Notes → ℕ → Bool
 is_marked notes start = has_start notes.absent start
 
--- the first line of a kind that is noted
+-- the first line of a kind that is noted [with Tells]
 abbrev pub first_noted : Notes → LineKind → Option ℕ
 first_noted notes Xxa = notes.xxa
 first_noted notes Xxs = notes.xxs
@@ -44,7 +44,7 @@ abbrev pub is_kind_of : Option LineKind → LineKind → Bool
 is_kind_of None kind = false
 is_kind_of (Some found) kind = is_same_kind found kind
 
--- the first line of a kind behind line n, of that in front of it
+-- the first line of a kind behind line n, of that in front of it [with Tells]
 abbrev pub noted_first : Option ℕ → Bool → ℕ → Option ℕ
 noted_first before here n = option_or before (if here then Some n else None)
 
@@ -54,7 +54,7 @@ earlier (Some a) (Some b) = Some (if nat_lt b a then b else a)
 earlier None found = found
 earlier found None = found
 
--- what is noted is what the carried lines of a report say
+-- what is noted is what the carried lines of a report say [own]
 pub record Tells (notes : Notes) (sheet : Sheet) : Type 0 where
   pub absent : (start : ℕ) → is_marked notes start ≡ is_named_absent sheet start
   pub first : (kind : LineKind) → first_noted notes kind ≡ first_of (kind ∷ []) sheet
@@ -68,7 +68,7 @@ are_marked apart i j = slice_index_or apart.marks.items (apart.count * i + j) fa
 abbrev pub start_at : List ℕ → ℕ → ℕ
 start_at starts i = slice_index_or starts i 0
 
--- what is marked is which players the lines XXP of a report name together
+-- what is marked is which players the lines XXP of a report name together [own]
 pub record TellsApart (apart : Apart) (sheet : Sheet) : Type 0 where
   pub count : apart.count ≡ length sheet.players
   pub both : (i j : ℕ) → i < apart.count → j < apart.count

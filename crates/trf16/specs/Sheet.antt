@@ -35,7 +35,7 @@ pub record Sheet : Type 0 where
 abbrev pub entry_of : Player → Entry
 entry_of p = record { start = p.start; line = p.line; points = p.points; left = p.left.now; right = p.right.now; cells = p.cells.items }
 
--- a report with one more player
+-- a report with one more player [own]
 abbrev pub with_player : Sheet → Entry → Sheet
 with_player sheet entry = record sheet { players = sheet.players ++ entry ∷ [] }
 

@@ -132,7 +132,7 @@ lines_onto sheet n (line ∷ rest) = do
 abbrev pub carried_line : Bool → List ℕ → Option (List ℕ)
 carried_line utf8 line = if is_player (columns utf8 line) then None else Some line
 
--- a report whose players are still to be read, where the pairing-allocated bye gives so many half points
+-- a report whose players are still to be read, where the pairing-allocated bye gives so many half points [own]
 abbrev pub without_players : Bool → List (List ℕ) → ℕ → Sheet
 without_players utf8 all bye =
     record { utf8 = utf8; carried = map (carried_line utf8) all; players = []; total = None; initial = None; bye = bye }
@@ -141,7 +141,7 @@ without_players utf8 all bye =
 abbrev pub has_too_many_rounds : Bool → List (List ℕ) → Bool
 has_too_many_rounds utf8 all = list_any (λ line. is_player (columns utf8 line) && is_too_long (columns utf8 line)) all
 
--- more rounds are named than there can be
+-- more rounds are named than there can be [own]
 abbrev pub names_too_many_rounds : Sheet → Bool
 names_too_many_rounds sheet = option_map_or (λ total. nat_lt MOST_ROUNDS total) sheet.total false
 

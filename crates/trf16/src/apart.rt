@@ -4,7 +4,7 @@ ghost use Rattle.trf16.specs.declared.limits.TheConstants.{MOST_PLAYERS};
 
 /// A mark for each two players, by their places in the order of the lines; no mark at all if no line names two.
 #[derive(Drop)]
-pub(crate) struct Apart {
+pub struct Apart {
     // how many players there are
     pub(crate) count: usize,
     // the row of one player after the other, of a place for each player

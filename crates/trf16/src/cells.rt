@@ -1,6 +1,8 @@
 // The cells of a player, which stand for the rounds from 1 on: one of them, the first of them, and what they come to.
 ghost use Rattle.std.specs.Prelude.{◌≡◌, ◌<◌, ◌≤◌, ◌*◌, length, sum_by, take};
 ghost use Rattle.trf16.specs.Sheet.{cell_at, half_points, is_paired, last_paired};
+ghost use Rattle.trf16.specs.Fields.{without_last};
+ghost use Rattle.trf16.specs.Verdict.{is_blank_cell};
 ghost use Rattle.trf16.specs.Unfinished.{is_unfinished, first_unfinished};
 ghost use Rattle.trf16.specs.declared.limits.TheConstants.{MOST_ROUNDS};
 
@@ -87,4 +89,27 @@ pub(crate) fn first_unfinished(cells: &[Cell]) -> Option<usize>
         }
     }
     None
+}
+
+fn is_blank_cell(cell: &Cell) -> bool
+    ensures { result ≡ is_blank_cell cell.now }
+{
+    match cell {
+        Cell::Blank => true,
+        _ => false,
+    }
+}
+
+/// How many cells there are up to the last that is not blank.
+pub fn said_len(cells: &[Cell]) -> usize
+    ensures value { take result cells.now ≡ without_last is_blank_cell cells.now }
+    ensures within { result ≤ length cells.now }
+{
+    let mut len = 0;
+    for (i, cell) in cells.iter().enumerate() {
+        if !is_blank_cell(cell) {
+            len = i + 1;
+        }
+    }
+    len
 }

@@ -12,7 +12,7 @@ use std::marker::Model;
 
 /// The columns of a line up to the one that ends the last round that there can be, found once.
 #[derive(Drop)]
-pub(crate) struct Line<'a> {
+pub struct Line<'a> {
     bytes: &'a [u8],
     utf8: bool,
     // where each of these columns begins, and the one behind them; where the line ends before, no further place
@@ -60,7 +60,7 @@ fn place_at(starts: &[usize], k: usize, end: usize) -> usize
 
 impl<'a> Line<'a> {
     /// Finds the columns of a line.
-    pub(crate) fn new(alloc: Global, bytes: &'a [u8], utf8: bool) -> Result<Line<'a>, AllocError>
+    pub fn new(alloc: Global, bytes: &'a [u8], utf8: bool) -> Result<Line<'a>, AllocError>
         ensures { IfOk result (λ line. line ≡ columns utf8 bytes.now) }
     {
         let mut starts = Vec::with_capacity(alloc, bytes.len().min(LAST_COLUMN + 1))?;
@@ -78,7 +78,7 @@ impl<'a> Line<'a> {
     }
 
     /// The bytes of the columns `first` to `last`, which count from 1.
-    pub(crate) fn text(&self, first: usize, last: usize) -> &'a [u8]
+    pub fn text(&self, first: usize, last: usize) -> &'a [u8]
         requires from_one { 0 < first }
         requires in_order { first ≤ last + 1 }
         requires in_reach { last ≤ LAST_COLUMN }
@@ -90,7 +90,7 @@ impl<'a> Line<'a> {
     }
 
     /// A no is certain; a column that is not known to be missing is taken to be there.
-    pub(crate) fn reaches(&self, column: usize) -> bool
+    pub fn reaches(&self, column: usize) -> bool
         requires from_one { 0 < column }
         requires in_reach { column ≤ LAST_COLUMN }
         ensures { result ≡ false → drop (column - 1) self.now ≡ [] }
@@ -100,7 +100,7 @@ impl<'a> Line<'a> {
     }
 
     /// Blanks behind the last column that is read are allowed.
-    pub(crate) fn is_too_long(&self) -> bool
+    pub fn is_too_long(&self) -> bool
         ensures { result ≡ not (is_blank (joined (drop LAST_COLUMN self.now))) }
     {
         let end = place_at(&self.starts, LAST_COLUMN, self.bytes.len());

@@ -21,7 +21,7 @@ use std::marker::Model;
 
 // The same as a report, but for its limits, which are looked at after all lines.
 #[derive(Drop)]
-pub(crate) struct Draft<'a> {
+pub struct Draft<'a> {
     utf8: bool,
     // everything behind the byte order marks
     text: &'a [u8],
@@ -55,7 +55,7 @@ impl<'a> Model for Draft<'a> {
 
 impl<'a> Draft<'a> {
     /// A report of which no line is read yet.
-    pub(crate) fn new(alloc: Global, text: &'a [u8], utf8: bool, bye: u16) -> Draft<'a>
+    pub fn new(alloc: Global, text: &'a [u8], utf8: bool, bye: u16) -> Draft<'a>
         requires { bye ≤ 2 }
         ensures { result ≡ without_players utf8 (lines text.now) bye }
     {
@@ -70,27 +70,27 @@ impl<'a> Draft<'a> {
     }
 
     /// If so, a column is a character; otherwise it is a byte.
-    pub(crate) fn is_utf8(&self) -> bool
+    pub fn is_utf8(&self) -> bool
         ensures { result ≡ self.now.utf8 }
     {
         self.utf8
     }
 
-    pub(crate) fn knows(&self, start: u16) -> bool
+    pub fn knows(&self, start: u16) -> bool
         ensures { result ≡ known self.now start }
     {
         self.players.contains_key(&start)
     }
 
     /// How many players there are.
-    pub(crate) fn count(&self) -> usize
+    pub fn count(&self) -> usize
         ensures { result ≡ length self.now.players }
     {
         self.players.len()
     }
 
     /// Adds the player of the next line.
-    pub(crate) fn enter(&mut self, player: Player<'a>) -> Result<(), Fault>
+    pub fn enter(&mut self, player: Player<'a>) -> Result<(), Fault>
         requires { known self.old player.start ≡ false }
         ensures { Gives (λ _. self.new) result (Ok (with_player self.old (entry_of player.entry))) }
     {
@@ -98,34 +98,34 @@ impl<'a> Draft<'a> {
         Ok(())
     }
 
-    pub(crate) fn has_total(&self) -> bool
+    pub fn has_total(&self) -> bool
         ensures { result ≡ is_some self.now.total }
     {
         self.total.is_some()
     }
 
     /// Names the total of rounds.
-    pub(crate) fn set_total(&mut self, rounds: u16)
+    pub fn set_total(&mut self, rounds: u16)
         ensures { self.new ≡ record self.old { total = Some rounds } }
     {
         self.total = Some(rounds);
     }
 
     /// The initial colour that the lines so far name.
-    pub(crate) fn initial(&self) -> Option<Colour>
+    pub fn initial(&self) -> Option<Colour>
         ensures { result ≡ self.now.initial }
     {
         self.initial
     }
 
     /// Names the initial colour, or none.
-    pub(crate) fn set_initial(&mut self, initial: Option<Colour>)
+    pub fn set_initial(&mut self, initial: Option<Colour>)
         ensures { self.new ≡ record self.old { initial = initial } }
     {
         self.initial = initial;
     }
 
-    pub(crate) fn names_too_many_rounds(&self) -> bool
+    pub fn names_too_many_rounds(&self) -> bool
         ensures { result ≡ names_too_many_rounds self.now }
     {
         match self.total {
@@ -135,7 +135,7 @@ impl<'a> Draft<'a> {
     }
 
     /// Who is named together by lines `XXP`, where it is noted whether there is one.
-    pub(crate) fn apart(&self, alloc: Global, notes: &Notes) -> Result<Apart, AllocError>
+    pub fn apart(&self, alloc: Global, notes: &Notes) -> Result<Apart, AllocError>
         requires noted { Tells notes.now self.now }
         requires few { length self.now.players ≤ MOST_PLAYERS }
         ensures { IfOk result (λ apart. TellsApart apart self.now) }
@@ -148,7 +148,7 @@ impl<'a> Draft<'a> {
     }
 
     /// The report, once its limits are looked at and all of its lines are noted.
-    pub(crate) fn into_report(self, notes: Notes, apart: Apart) -> Report<'a>
+    pub fn into_report(self, notes: Notes, apart: Apart) -> Report<'a>
         requires noted { Tells notes self }
         requires told_apart { TellsApart apart self }
         requires few_players { length self.players ≤ MOST_PLAYERS }

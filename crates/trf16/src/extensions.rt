@@ -18,7 +18,7 @@ pub fn is_word(word: &[u8], capitals: &[u8]) -> bool
 }
 
 /// The number of rounds of a line `XXR`.
-pub(crate) fn rounds_in(rest: &[u8]) -> Option<u16>
+pub fn rounds_in(rest: &[u8]) -> Option<u16>
     ensures { result ≡ rounds_in (words rest.now) }
 {
     match number_in(rest)? {
@@ -76,7 +76,7 @@ fn colour_behind_all(initial: Option<Colour>, bytes: &[u8]) -> Option<Option<Col
 }
 
 /// The initial colour behind a line `XXC`, of that in front of it; the line has at least one word.
-pub(crate) fn colour_in(initial: Option<Colour>, rest: &[u8]) -> Option<Option<Colour>>
+pub fn colour_in(initial: Option<Colour>, rest: &[u8]) -> Option<Option<Colour>>
     ensures { result ≡ colour_in initial (words rest.now) }
 {
     next_word(rest)?;
@@ -84,7 +84,7 @@ pub(crate) fn colour_in(initial: Option<Colour>, rest: &[u8]) -> Option<Option<C
 }
 
 /// A line `XXZ` or `XXP` with another word is refused.
-pub(crate) fn are_start_ranks(bytes: &[u8]) -> bool
+pub fn are_start_ranks(bytes: &[u8]) -> bool
     ensures { result ≡ are_start_ranks (words bytes.now) }
 {
     let mut rest = bytes;

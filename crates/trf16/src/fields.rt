@@ -86,7 +86,7 @@ pub fn number_of(word: &[u8]) -> Option<u16>
 }
 
 /// The one number of a field, 0 to 9999.
-pub(crate) fn number_in(field: &[u8]) -> Option<u16>
+pub fn number_in(field: &[u8]) -> Option<u16>
     ensures value { result ≡ number_in (words field.now) }
     ensures bound { IfSome result (λ n. n < 10000) }
 {
@@ -142,7 +142,7 @@ pub(crate) fn points_of(word: &[u8]) -> Option<u16>
 }
 
 /// The points of a field in half points, none if it is blank; no answer if it is neither.
-pub(crate) fn points_in(field: &[u8]) -> Option<Option<u16>>
+pub fn points_in(field: &[u8]) -> Option<Option<u16>>
     ensures value { result ≡ points_in (words field.now) }
     ensures bound { IfSome result (λ points. IfSome points (λ p. p < 20000)) }
 {
@@ -156,7 +156,7 @@ pub(crate) fn points_in(field: &[u8]) -> Option<Option<u16>>
 }
 
 /// A text without the blanks at its end.
-pub(crate) fn trimmed(bytes: &[u8]) -> &[u8]
+pub fn trimmed(bytes: &[u8]) -> &[u8]
     ensures { result.now ≡ trimmed bytes.now }
 {
     let mut len = 0;

@@ -5,7 +5,7 @@ use crate::start_ranks::StartRanks;
 
 /// Who is absent by a line `XXZ`, the first line of each kind that is not supported, and whether there is a line `XXP`.
 #[derive(Drop)]
-pub(crate) struct Notes {
+pub struct Notes {
     // a line may name the start rank of nobody, or of a player whose line comes later
     pub(crate) absent: StartRanks,
     // numbers of lines, from 1
@@ -13,5 +13,5 @@ pub(crate) struct Notes {
     pub(crate) xxs: Option<usize>,
     pub(crate) rank: Option<usize>,
     // whether some line `XXP` names players together
-    pub(crate) together: bool,
+    pub together: bool,
 }

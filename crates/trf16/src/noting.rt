@@ -15,7 +15,7 @@ use std::alloc::{AllocError, Global};
 
 impl Notes {
     /// Nothing is noted.
-    pub(crate) fn new(alloc: Global) -> Result<Notes, AllocError>
+    pub fn new(alloc: Global) -> Result<Notes, AllocError>
         ensures absent { IfOk result (λ notes. (start : ℕ) → is_marked notes start ≡ false) }
         ensures firsts { IfOk result (λ notes. (kind : LineKind) → first_noted notes kind ≡ None) }
         ensures together { IfOk result (λ notes. notes.together ≡ false) }
@@ -105,7 +105,7 @@ impl Notes {
     }
 
     /// Notes what line n says. Most lines are no extensions, and their first byte tells it.
-    pub(crate) fn note(&mut self, n: usize, line: &[u8], utf8: bool)
+    pub fn note(&mut self, n: usize, line: &[u8], utf8: bool)
         ensures absent { (i : ℕ) → is_marked self.new i
             ≡ (is_marked self.old i || names_absent i (columns utf8 line.now)) }
         ensures firsts { (kind : LineKind) → first_noted self.new kind

@@ -42,7 +42,7 @@ impl<'a> Report<'a> {
     }
 
     // A line `XXS` gives games other points: then a points field need not be the sum of the cells.
-    pub(crate) fn has_other_points(&self) -> bool
+    pub fn has_other_points(&self) -> bool
         ensures { result ≡ has_other_points self.now }
     {
         self.first_line(LineKind::Xxs).is_some()

@@ -25,7 +25,7 @@ use Rattle.trf16_laws.proofs.WrittenRounds.{blank_ok, blanks_ok, tail_of, tail-r
 use Rattle.trf16_laws.proofs.WrittenText.{is_inside, utf8_split, utf8_nil, utf8_behind, utf8_front}
 use Rattle.trf16.proofs.FieldLemmas.{without_last-append}
 use Rattle.trf16.proofs.ReadingLemmas.{all_are_blank}
-use Rattle.trf16.proofs.RoundSteps.{text-behind, blank_from, blanks_from}
+use Rattle.trf16_reader.proofs.RoundSteps.{text-behind, blank_from, blanks_from}
 use Rattle.trf16_laws.proofs.WrittenFields.{without_last-twice, cut, all_cut, length_cut, IsCarried, carried_is, filled, inside-plain, are_small, points_field_is, ascii-points, ascii-number}
 use Rattle.trf16.specs.declared.limits.TheConstants.{MOST_ROUNDS, LAST_COLUMN}
 

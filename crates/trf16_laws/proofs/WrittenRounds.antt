@@ -18,7 +18,7 @@ use Rattle.trf16.proofs.StepLemmas.{then_ok, same_ok}
 use Rattle.trf16.proofs.WrittenColumns.{each}
 use Rattle.trf16.proofs.ColumnLemmas.{joined-append}
 use Rattle.trf16_laws.proofs.WrittenCells.{is_sound, fields_of, four_are, list_all-append, ascii-digits}
-use Rattle.trf16.proofs.RoundSteps.{text-behind, IsRound, round_from, none_written, next_columns}
+use Rattle.trf16_reader.proofs.RoundSteps.{text-behind, IsRound, round_from, none_written, next_columns}
 use Rattle.trf16_writer.proofs.ReadStarts.{number_is, ok_or_ok}
 
 pub then_some : {A B : Type 0} (o : Option A) (next : A → Option B) (y : B) → option_and_then next o ≡ Some y → (x : A) × (o ≡ Some x) × (next x ≡ Some y)

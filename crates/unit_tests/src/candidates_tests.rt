@@ -3,9 +3,8 @@ ghost use Rattle.std.specs.Prelude.{◌≡◌, ◌≤◌};
 ghost use Rattle.dutch_order.specs.Prelude.{Fits};
 
 use crate::free::{AMPLE, Free, raised};
-use dutch_order::{
-    Bound, Bracket, Budget, Candidate, Candidates, Exchange, Filling, Prefix, Rule, Shape, Step,
-};
+use dutch_listing::{Bound, Candidates};
+use dutch_order::{Bracket, Budget, Candidate, Exchange, Filling, Prefix, Rule, Shape, Step};
 use std::alloc::Global;
 use std::test::Fail;
 

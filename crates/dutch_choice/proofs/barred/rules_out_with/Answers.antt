@@ -1,7 +1,8 @@
 -- Two residents of whom each S1R of a class has both or neither do not meet.
 use Rattle.std.proofs.Common.{ap, ◌∙◌, arith}
-use Rattle.dutch_bracket.specs.declared.wish.Wish.{Wish}
-use Rattle.dutch_bracket.specs.Prelude.{Reached, frame_of, grants}
+use Rattle.dutch_candidates.specs.declared.wish.Wish.{Wish}
+use Rattle.dutch_bracket.specs.Prelude.{Reached, frame_of}
+use Rattle.dutch_candidates.specs.Wishes.{grants}
 use Rattle.dutch_bracket.proofs.LegalPairs.{legal_of}
 use Rattle.dutch_choice.proofs.RuledOutLemmas.{halves_out}
 use Rattle.dutch_choice.proofs.barred.rules_out_with.Goals as goal

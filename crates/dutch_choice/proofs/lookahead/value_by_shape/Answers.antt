@@ -3,7 +3,7 @@ use Rattle.std.proofs.Common.{◌≡◌, ℕ, ◌+◌, List, refl, sym, ap, ◌�
 use Rattle.dutch_order.specs.Prelude.{numbers_from}
 use Rattle.dutch_bracket.specs.Prelude.{psd_with, NextValue, frame_of, score_at, seat_of}
 use Rattle.dutch_choice.proofs.AlwaysShapes.{always_fits}
-use Rattle.dutch_bracket.proofs.ShapeNumbers.{first_length, has_room, small_mdps}
+use Rattle.dutch_candidates.proofs.ShapeNumbers.{first_length, has_room, small_mdps}
 use Rattle.dutch_choice.proofs.UniformShapes.{value_of_uniform}
 use Rattle.dutch_choice.proofs.lookahead.value_by_shape.Goals as goal
 

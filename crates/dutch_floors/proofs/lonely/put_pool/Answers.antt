@@ -3,7 +3,7 @@ use Rattle.std.proofs.Common.{◌≡◌, ◌∙◌, ◌+◌, ◌≤◌, ◌||◌
 use Rattle.std.proofs.lemmas.List.{length-map}
 use Rattle.dutch_order.specs.Prelude.{Arrangement, is_member, numbers_from}
 use Rattle.dutch_bracket.specs.Prelude.{has_bit, Reached, score_at}
-use Rattle.dutch_bracket.proofs.BitLemmas.{none_set}
+use Rattle.dutch_candidates.proofs.BitLemmas.{none_set}
 use Rattle.dutch_floors.proofs.LonelyLemmas.{pool_is}
 use Rattle.dutch_floors.proofs.lonely.put_pool.Goals as goal
 

@@ -2,7 +2,8 @@
 use Rattle.std.proofs.Common.{◌≡◌, length}
 use Rattle.std.specs.List.{list_any}
 use Rattle.dutch_order.specs.Prelude.{Spends}
-use Rattle.dutch_bracket.specs.Prelude.{candidates_in, frame_here, grants}
+use Rattle.dutch_bracket.specs.Prelude.{candidates_in, frame_here}
+use Rattle.dutch_candidates.specs.Wishes.{grants}
 use Rattle.dutch_pair.proofs.instead.is_granted.Given as goal
 
 abbrev pub decreases-loop-candidate : goal.decreases-loop-candidate

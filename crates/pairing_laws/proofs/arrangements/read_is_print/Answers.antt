@@ -1,4 +1,4 @@
-use Rattle.dutch_order.proofs.CursorReads.{read-is, is-read}
+use Rattle.dutch_listing.proofs.CursorReads.{read-is, is-read}
 use Rattle.pairing_laws.proofs.arrangements.read_is_print.Goals as goal
 
 pub returns : goal.returns

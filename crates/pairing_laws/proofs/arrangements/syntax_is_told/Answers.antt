@@ -1,5 +1,5 @@
 use Rattle.dutch_order.specs.Prelude.{parsed}
-use Rattle.dutch_order.proofs.CursorReads.{told}
+use Rattle.dutch_listing.proofs.CursorReads.{told}
 use Rattle.pairing_laws.proofs.arrangements.syntax_is_told.Goals as goal
 
 pub returns : goal.returns

@@ -1,13 +1,14 @@
+use Rattle.std.proofs.Common.{rules}
 use Rattle.replies.specs.Prelude.{front_text}
 use Rattle.replies.proofs.notes.front.Goals as goal
 
 pub returns-in-NoPlayer : goal.returns-in-NoPlayer
 unfolding front_text
-returns-in-NoPlayer c = rw c.in-NoPlayer.is c.no_player.ensures
+returns-in-NoPlayer c = rw c.in-NoPlayer.is (search rules)
 
 pub returns-in-PlayedLast : goal.returns-in-PlayedLast
 unfolding front_text
-returns-in-PlayedLast c = rw c.in-PlayedLast.is c.played_last.ensures
+returns-in-PlayedLast c = rw c.in-PlayedLast.is (search rules)
 
 pub returns-in-OnePlayer : goal.returns-in-OnePlayer
 unfolding front_text
@@ -27,7 +28,7 @@ returns-in-LongName c = rw c.in-LongName.is c.of_line-in-LongName.ensures
 
 pub returns-in-RatingAbove : goal.returns-in-RatingAbove
 unfolding front_text
-returns-in-RatingAbove c = rw c.in-RatingAbove.is c.rating_above.ensures
+returns-in-RatingAbove c = rw c.in-RatingAbove.is (search rules)
 
 pub returns-in-EarlyPoints : goal.returns-in-EarlyPoints
 unfolding front_text
@@ -35,16 +36,16 @@ returns-in-EarlyPoints c = rw c.in-EarlyPoints.is c.of_line-in-EarlyPoints.ensur
 
 pub returns-in-InRound : goal.returns-in-InRound
 unfolding front_text
-returns-in-InRound c = rw c.in-InRound.is c.in_round.ensures
+returns-in-InRound c = rw c.in-InRound.is (search rules)
 
 pub returns-in-BehindColumn : goal.returns-in-BehindColumn
 unfolding front_text
-returns-in-BehindColumn c = rw c.in-BehindColumn.is c.behind_column.ensures
+returns-in-BehindColumn c = rw c.in-BehindColumn.is (search rules)
 
 pub returns-in-NoGame : goal.returns-in-NoGame
 unfolding front_text
-returns-in-NoGame c = rw c.in-NoGame.is c.no_game.ensures
+returns-in-NoGame c = rw c.in-NoGame.is (search rules)
 
 pub returns-in-Byes : goal.returns-in-Byes
 unfolding front_text
-returns-in-Byes c = rw c.in-Byes.is c.byes.ensures
+returns-in-Byes c = rw c.in-Byes.is (search rules)

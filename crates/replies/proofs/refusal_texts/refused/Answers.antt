@@ -1,3 +1,4 @@
+use Rattle.std.proofs.Common.{rules}
 use Rattle.replies.proofs.refusal_texts.refused.Goals as goal
 
 pub returns-in-BadNumber : goal.returns-in-BadNumber
@@ -7,10 +8,10 @@ pub returns-in-Duplicate : goal.returns-in-Duplicate
 returns-in-Duplicate c = rw c.in-Duplicate.is c.of_line-in-Duplicate.ensures
 
 pub returns-in-Misaligned : goal.returns-in-Misaligned
-returns-in-Misaligned c = rw c.in-Misaligned.is c.misaligned.ensures
+returns-in-Misaligned c = rw c.in-Misaligned.is (search rules)
 
 pub returns-in-BadCell : goal.returns-in-BadCell
-returns-in-BadCell c = rw c.in-BadCell.is c.bad_cell.ensures
+returns-in-BadCell c = rw c.in-BadCell.is (search rules)
 
 pub returns-in-BadExtension : goal.returns-in-BadExtension
 returns-in-BadExtension c = rw c.in-BadExtension.is c.of_line-in-BadExtension.ensures
@@ -31,4 +32,4 @@ pub returns-in-Results : goal.returns-in-Results
 returns-in-Results c = rw c.in-Results.is c.of_round-in-Results.ensures
 
 pub returns-in-Points : goal.returns-in-Points
-returns-in-Points c = rw c.in-Points.is c.points.ensures
+returns-in-Points c = rw c.in-Points.is (search rules)

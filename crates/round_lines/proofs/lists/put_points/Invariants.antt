@@ -1,6 +1,6 @@
 -- The points so far and those to come make all of them.
 use Rattle.std.proofs.Common.{◌≡◌, ◌++◌, drop, flat_map}
-use Rattle.replies.specs.Prelude.{halves_text}
+use Rattle.common_texts.specs.Prelude.{halves_text}
 use Rattle.round_lines.proofs.lists.put_points.Given as goal
 
 abbrev pub invariant-loop-half : goal.invariant-loop-half

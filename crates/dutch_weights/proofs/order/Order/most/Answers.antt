@@ -1,5 +1,5 @@
 -- The sum of what is known is no less than what the members of each such S1R add.
-use Rattle.std.proofs.Common.{ℕ, ◌*◌, List, ap, subst, sum_by, arith}
+use Rattle.std.proofs.Common.{ℕ, ◌+◌, ◌*◌, List, ap, subst, sum_by, arith}
 use Rattle.dutch_order.specs.Prelude.{ExchangeClass, IsIn}
 use Rattle.dutch_weights.specs.Prelude.{Order, kept, short_of}
 use Rattle.dutch_weights.proofs.OrderLemmas.{most_added, under_rest}
@@ -17,7 +17,7 @@ returns c =
     let unit = ap (λ (o : Order). o.unit * c.difference.result) c.self.view_is in
     let moved = ap (λ (n : ℕ). order.unit * n) c.difference.ensures in
     let entered = ap (λ (n : ℕ). top * n) c.size.ensures in
-    under_rest order e c.minus.result c.in_ok-plus-2.field-0 c.in_ok-short.short c.minus.ensures
+    under_rest order e c.sum_less.result ((c.in_ok-kept.kept + c.in_ok-moved.moved) + c.in_ok-entered.entered) c.in_ok-short.short c.sum_less.ensures
     (λ s1r is.
     omega (
       arith,
@@ -32,6 +32,4 @@ returns c =
       c.in_ok-short.ensures,
       c.in_ok-moved.ensures,
       c.in_ok-entered.ensures,
-      c.in_ok-plus.ensures.1,
-      c.in_ok-plus-2.ensures.1,
     ))

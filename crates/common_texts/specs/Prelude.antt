@@ -1,0 +1,4 @@
+-- The words of common_texts by one name: for its proofs, and for the crates above.
+pub use Rattle.common_texts.specs.Controls.{holds_control, is_control, is_long_control, shown_byte, without_controls}
+unfoldable pub use Rattle.common_texts.specs.Texts.{halves_text}
+pub use Rattle.common_texts.specs.Texts.{shown, undecided_text, undecided_words}

@@ -1,0 +1,19 @@
+// Names as text.
+ghost use Rattle.std.specs.Prelude.{◌≡◌, IfOk};
+ghost use Rattle.common_texts.specs.Texts.{shown};
+
+use crate::controls::without_controls;
+use std::alloc::{AllocError, Global};
+
+/// A name with a question mark in place of each control character, or a dash where it is blank.
+///
+/// # Errors
+/// Memory was refused.
+pub fn shown(alloc: Global, name: &[u8]) -> Result<Vec<u8>, AllocError>
+    ensures { IfOk result (λ text. text.items ≡ shown name.now) }
+{
+    if name.is_empty() {
+        return Vec::from_slice(alloc, b"-");
+    }
+    without_controls(alloc, name)
+}

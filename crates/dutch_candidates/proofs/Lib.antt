@@ -1,0 +1,10 @@
+pub mod BitLemmas
+pub mod C06Psd
+pub mod FixedListsLemmas
+pub mod PairedOut
+pub mod ShapeNumbers
+pub mod WishFits
+pub mod WishLemmas
+pub mod CandidatePairs
+pub mod MateLists
+pub mod TakenSteps

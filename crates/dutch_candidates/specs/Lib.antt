@@ -1,0 +1,2 @@
+-- What the contracts of dutch_candidates name beside the words of dutch_bracket: wishes.
+pub mod Wishes

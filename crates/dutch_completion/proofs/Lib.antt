@@ -1,0 +1,9 @@
+pub mod Partners
+pub mod AllPairings
+pub mod Covering
+pub mod Completions
+pub mod Turned
+pub mod PairSearch
+pub mod TellLemmas
+pub mod EligibleLemmas
+pub mod Mates

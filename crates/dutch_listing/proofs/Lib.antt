@@ -1,0 +1,9 @@
+pub mod Nexts
+pub mod TooManyLeft
+pub mod CursorNumbers
+pub mod CursorTexts
+pub mod CursorReads
+pub mod Passing
+pub mod Blocks
+pub mod FormArrangements
+pub mod FormInsertions

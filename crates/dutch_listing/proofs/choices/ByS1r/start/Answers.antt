@@ -1,0 +1,34 @@
+use Rattle.std.proofs.Common.{◌≡◌, ◌∙◌, ap, sym, ℕ, Bool, List, Option, option_copied}
+use Rattle.dutch_order.specs.Prelude.{Arrangement, left_of, from_on, exchanges, choices_from, in_s2, joined, s1r_blocks}
+use Rattle.dutch_order.specs.contracts.cursor.Cursor.{the_view}
+use Rattle.dutch_listing.proofs.choices.ByS1r.start.Goals as goal
+
+-- the same lists have the same blocks
+filled : (meets : ℕ → ℕ → Bool) (s1 s1' s2 s2' left left' : List ℕ) (own : Option Arrangement) (sets sets' : List (List ℕ)) → s1 ≡ s1' → s2 ≡ s2' → left ≡ left' → sets ≡ sets'
+    → joined (s1r_blocks meets s1 s2 left own sets) ≡ joined (s1r_blocks meets s1' s2' left' own sets')
+filled meets s1 s1' s2 s2' left left' own sets sets' is_s1 is_s2 is_left is_sets = cc
+
+pub returns-in-Some : goal.returns-in-Some
+unfolding in_s2
+returns-in-Some g c =
+    let k = c.args.from.now.k in
+    let own = c.in-Some.cursor.now in
+    let at_s1r = ap (λ i. (the_view i).s1r) c.cursor-inside.view_is ∙ ap (λ (a : Arrangement). a.s1r) c.cursor.view_is in
+    let residents = c.args.from.now.residents.now.items in
+    let left = c.put_left_of.ensures.items ∙ ap (λ numbers. left_of numbers c.deref-2.result.now) c.deref.ensures.0 ∙ ap (left_of residents) c.deref-2.ensures.0 in
+    filled _ _ _ _ _ _ _ _ _ _ c.refill.ensures c.refill-2.ensures left
+    (c.start_from.ensures
+    ∙ ap (λ set. from_on set (exchanges c.deref-3.result.now k)) (c.deref-in-Some.ensures.0 ∙ at_s1r)
+    ∙ ap (λ pool. from_on own.s1r (exchanges pool k)) (c.deref-3.ensures.0 ∙ left)
+    ∙ ap (λ other. choices_from (λ a. a.s1r) other (exchanges (left_of residents c.args.from.now.s2.now.items) k)) (sym (ap (λ lent. option_copied lent) c.in-Some.is)))
+
+pub returns-in-None : goal.returns-in-None
+unfolding in_s2
+returns-in-None g c =
+    let k = c.args.from.now.k in
+    let residents = c.args.from.now.residents.now.items in
+    let left = c.put_left_of.ensures.items ∙ ap (λ numbers. left_of numbers c.deref-2.result.now) c.deref.ensures.0 ∙ ap (left_of residents) c.deref-2.ensures.0 in
+    filled _ _ _ _ _ _ _ _ _ _ c.refill.ensures c.refill-2.ensures left
+    (c.start.ensures.coming
+    ∙ ap (λ pool. exchanges pool k) (c.deref-3.ensures.0 ∙ left)
+    ∙ ap (λ other. choices_from (λ a. a.s1r) other (exchanges (left_of residents c.args.from.now.s2.now.items) k)) (sym (ap (λ lent. option_copied lent) c.in-None.is)))

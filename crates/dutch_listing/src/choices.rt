@@ -1,0 +1,562 @@
+// The levels of a bracket's arrangements, innermost first: the choice of S2R, of S1R, of S2, and of S1 (C.04.3 B.6,
+// B.7).
+//
+// Each level begins anew in place, for the choice that the level above it has made: it copies that choice into lists of
+// its own, so that no block makes a list. Behind a cursor only the first choice of each level can be the cursor's own.
+// In that choice the level below begins behind the cursor too; in all later ones it begins at its first choice.
+ghost use Rattle.std.specs.Prelude.{◌≡◌, ◌+◌, ◌≤◌, ℕ, List, None, [], ◌∷◌, length, option_copied, true};
+ghost use Rattle.std.specs.List.{AllByRecursion};
+ghost use Rattle.std.specs.List.Sorted.{IsStrictlyIncreasing};
+ghost use Rattle.dutch_order.specs.Arrangements.{Arrangement, arrangements};
+ghost use Rattle.dutch_sequence.specs.Choices.{left_of, joined};
+ghost use Rattle.dutch_sequence.specs.Keys.{IsIn};
+ghost use Rattle.dutch_order.specs.Levels.{HasS1r, HasS2, HasS2r, Of, if_own, in_bracket, in_s1, in_s1r, in_s2};
+ghost use Rattle.dutch_order.specs.Levels.{without_own};
+ghost use Rattle.dutch_order.specs.Past.{IsPassedTuple};
+ghost use Rattle.dutch_sequence.specs.Steps.{MatchDrawn, Passes, Spends};
+
+use crate::cuts::Cuts;
+use crate::levels::{Arranges, Blocks, Level};
+use crate::past::{Chooser, Chosen, choose_next, choose_set, choose_tuple};
+use dutch_order::{Arrangement, Cursor, Filling, FittingShape, Prefix};
+use dutch_sequence::numbers::{is_same, put_left_of, refill};
+use dutch_sequence::{
+    Budget, Drawn, Exchanges, Generator, LimboExchanges, Meeting, Numbers, Rule, Sides,
+    Transpositions,
+};
+use std::marker::Model;
+
+/// Arrangements with the same S1, S2 and S1R: one for each S2R, by article D.1.
+#[derive(Drop)]
+pub struct ByS2r<'a, R: Rule> {
+    s1: Numbers,
+    s2: Numbers,
+    s1r: Numbers,
+    // who is left for S2R
+    pool: Numbers,
+    others: Others<'a, R>,
+}
+
+/// Lists S2R, all but a cursor's own.
+#[derive(Drop)]
+struct Others<'a, R: Rule> {
+    s2r: Chooser<Transpositions<'a, R>>,
+    // the cursor behind which the lists begin, until the first one has come
+    resume: Option<&'a Cursor>,
+}
+
+/// An S1, an S2 and an S1R out of the remainder, from which a level begins.
+#[derive(Drop)]
+struct InS1r<'s> {
+    s1: &'s Numbers,
+    s2: &'s Numbers,
+    remainder: &'s Numbers,
+    s1r: &'s Numbers,
+    ghost ascends: { IsStrictlyIncreasing remainder.now.items },
+}
+
+impl<'a, R: Rule> Model for ByS2r<'a, R> {
+    ghost use Rattle.std.specs.Prelude.{List, map, option_copied};
+    ghost use Rattle.dutch_order.specs.Arrangements.{Arrangement};
+    ghost use Rattle.dutch_order.specs.Levels.{arranged, without_own};
+
+    ghost Value = { List Arrangement };
+
+    ghost view = { λ l. map (arranged l.s1.items l.s2.items l.s1r.items)
+        (without_own (option_copied l.others.resume) l.others.s2r.choices.coming) };
+}
+
+impl<'a, R: Rule> ByS2r<'a, R> {
+    /// A place for such arrangements, in which there are none.
+    fn ended(rule: &'a R) -> ByS2r<'a, R>
+        ensures { result ≡ [] }
+    {
+        ByS2r {
+            s1: Numbers::new(),
+            s2: Numbers::new(),
+            s1r: Numbers::new(),
+            pool: Numbers::new(),
+            others: Others {
+                s2r: Chooser {
+                    choices: Transpositions::ended(rule),
+                    latest: Numbers::new(),
+                },
+                resume: None,
+            },
+        }
+    }
+
+    /// Begins anew.
+    #[tactic(auto, unfolding(dutch_order::specs::Levels::in_s1r))]
+    fn start(&mut self, from: &InS1r<'_>, own: Option<&'a Cursor>, rule: &'a R)
+        requires same { Of (λ cursor. cursor.s1r ≡ from.now.s1r.now.items) (option_copied own) }
+        requires given { Of (HasS2r from.now.remainder.now.items) (option_copied own) }
+        ensures { self.new ≡ in_s1r (R.meets rule.now) from.now.s1.now.items from.now.s2.now.items
+            from.now.remainder.now.items (option_copied own.entry) from.now.s1r.now.items }
+    {
+        refill(&mut self.s1, from.s1);
+        refill(&mut self.s2, from.s2);
+        refill(&mut self.s1r, from.s1r);
+        put_left_of(from.remainder, from.s1r, &mut self.pool);
+        self.others.resume = own;
+        let meeting = Meeting {
+            first: from.s1r,
+            pool: &self.pool,
+        };
+        match own {
+            Some(cursor) => self
+                .others
+                .s2r
+                .choices
+                .start_from(&meeting, rule, &cursor.lists.s2r),
+            None => self.others.s2r.choices.start(&meeting, rule),
+        }
+    }
+}
+
+/// Goes on to the next one, except a cursor's own, which may come first. None is skipped before the first one has come.
+fn choose_other<R: Rule, C: Cuts>(
+    others: &mut Others<'_, R>,
+    chosen: &Chosen<'_>,
+    cuts: &mut C,
+    budget: &mut Budget,
+) -> Drawn
+    ensures answer { let IsPassed = IsPassedTuple (C.Idle cuts.old) chosen.now.lists chosen.now.very_next in
+        MatchDrawn result
+        (Passes IsPassed (without_own (option_copied others.old.resume) others.old.s2r.choices.coming)
+        (others.new.s2r.latest.items ∷ without_own (option_copied others.new.resume) others.new.s2r.choices.coming))
+        (Passes IsPassed (without_own (option_copied others.old.resume) others.old.s2r.choices.coming) [])
+        (Passes IsPassed (without_own (option_copied others.old.resume) others.old.s2r.choices.coming)
+        (without_own (option_copied others.new.resume) others.new.s2r.choices.coming)
+        × (budget.new.used ≡ budget.new.limit)) }
+    ensures keeps { (a : Arrangement) → C.Idle cuts.new a → C.Idle cuts.old a }
+    ensures spends { Spends budget.old budget.new }
+{
+    let Some(cursor) = others.resume else {
+        return choose_tuple(&mut others.s2r, chosen, cuts, budget);
+    };
+    if !choose_next(&mut others.s2r, budget)? {
+        return Ok(false);
+    }
+    let is_own = is_same(&others.s2r.latest, &cursor.lists.s2r);
+    others.resume = None;
+    if !is_own {
+        return Ok(true);
+    }
+    choose_tuple(&mut others.s2r, chosen, cuts, budget)
+}
+
+impl<'a, R: Rule> Arranges for ByS2r<'a, R> {
+    ghost coming = { λ l. l };
+
+    fn next<C: Cuts>(
+        &mut self,
+        cuts: &mut C,
+        lists: &mut Arrangement,
+        budget: &mut Budget,
+    ) -> Drawn {
+        let chosen = Chosen {
+            lists: Prefix {
+                filling: Filling::S2r,
+                s1: &self.s1,
+                s2: &self.s2,
+                s1r: &self.s1r,
+                s2r: &[],
+            },
+            very_next: false,
+        };
+        if !choose_other(&mut self.others, &chosen, cuts, budget)? {
+            return Ok(false);
+        }
+        refill(&mut lists.s1, &self.s1);
+        refill(&mut lists.s2, &self.s2);
+        refill(&mut lists.s1r, &self.s1r);
+        refill(&mut lists.s2r, &self.others.s2r.latest);
+        Ok(true)
+    }
+}
+
+/// Arrangements with the same S1 and S2: a block for each S1R, by article D.2.
+#[derive(Drop)]
+pub struct ByS1r<'a, R: Rule> {
+    s1: Numbers,
+    s2: Numbers,
+    remainder: Numbers,
+    // the S1R of the block is the one that came last
+    s1r: Chooser<Exchanges>,
+    rule: &'a R,
+    // the cursor behind which the blocks begin, until the first one has come
+    resume: Option<&'a Cursor>,
+}
+
+/// An S1 and an S2 out of the residents, from which a level begins; the remainder makes `k` pairs.
+#[derive(Drop)]
+struct InS2<'s> {
+    k: usize,
+    s1: &'s Numbers,
+    residents: &'s Numbers,
+    s2: &'s Numbers,
+    ghost ascends: { IsStrictlyIncreasing residents.now.items },
+    ghost enough: { k ≤ length (left_of residents.now.items s2.now.items) },
+}
+
+impl<'a, R: Rule> Model for ByS1r<'a, R> {
+    ghost use Rattle.std.specs.Prelude.{List, option_copied};
+    ghost use Rattle.std.specs.List.Sorted.{IsStrictlyIncreasing};
+    ghost use Rattle.dutch_order.specs.Arrangements.{Arrangement};
+    ghost use Rattle.dutch_order.specs.Levels.{HasS2r, Of, s1r_blocks};
+
+    ghost Value = { List (List Arrangement) };
+
+    ghost view = { λ l. s1r_blocks (R.meets l.rule.now) l.s1.items l.s2.items l.remainder.items
+        (option_copied l.resume) l.s1r.choices.coming };
+
+    ghost invariant = { λ l. IsStrictlyIncreasing l.remainder.items
+        × Of (HasS2r l.remainder.items) (option_copied l.resume) };
+}
+
+impl<'a, R: Rule> ByS1r<'a, R> {
+    /// A place for such blocks, in which there are none.
+    fn ended(rule: &'a R) -> ByS1r<'a, R>
+        ensures { result ≡ [] }
+    {
+        ByS1r {
+            s1: Numbers::new(),
+            s2: Numbers::new(),
+            remainder: Numbers::new(),
+            s1r: Chooser {
+                choices: Exchanges::ended(),
+                latest: Numbers::new(),
+            },
+            rule,
+            resume: None,
+        }
+    }
+
+    /// Begins anew.
+    #[tactic(auto, unfolding(dutch_order::specs::Levels::in_s2))]
+    fn start(&mut self, from: &InS2<'_>, own: Option<&'a Cursor>, rule: &'a R)
+        requires given { Of (HasS1r from.now.k (left_of from.now.residents.now.items from.now.s2.now.items))
+            (option_copied own) }
+        ensures { joined self.new ≡ in_s2 (R.meets rule.now) from.now.k from.now.s1.now.items
+            from.now.residents.now.items (option_copied own.entry) from.now.s2.now.items }
+    {
+        refill(&mut self.s1, from.s1);
+        refill(&mut self.s2, from.s2);
+        put_left_of(from.residents, from.s2, &mut self.remainder);
+        self.rule = rule;
+        self.resume = own;
+        let sides = Sides {
+            pool: &self.remainder,
+            k: from.k,
+        };
+        match own {
+            Some(cursor) => self.s1r.choices.start_from(&sides, &cursor.lists.s1r),
+            None => self.s1r.choices.start(&sides),
+        }
+    }
+}
+
+/// The cursor, if an S1R is its own.
+fn take_by_s1r<'a>(resume: &mut Option<&'a Cursor>, s1r: &Numbers) -> Option<&'a Cursor>
+    ensures own { option_copied result ≡ if_own (λ a. a.s1r) (option_copied resume.old) s1r.now.items }
+    ensures taken { resume.new ≡ None }
+{
+    let cursor = resume.take()?;
+    if is_same(s1r, &cursor.lists.s1r) {
+        Some(cursor)
+    } else {
+        None
+    }
+}
+
+impl<'a, R: Rule> Blocks for ByS1r<'a, R> {
+    type Block = ByS2r<'a, R>;
+
+    ghost blocks = { λ l. l };
+
+    fn next_block<C: Cuts>(
+        &mut self,
+        cuts: &mut C,
+        block: &mut ByS2r<'a, R>,
+        budget: &mut Budget,
+    ) -> Drawn {
+        let chosen = Chosen {
+            lists: Prefix {
+                filling: Filling::S2,
+                s1: &self.s1,
+                s2: &self.s2,
+                s1r: &[],
+                s2r: &[],
+            },
+            very_next: self.resume.is_some(),
+        };
+        if cuts.cuts_at_first(&chosen.lists) {
+            return Ok(false);
+        }
+        if !choose_set(&mut self.s1r, &chosen, cuts, budget)? {
+            return Ok(false);
+        }
+        let own = take_by_s1r(&mut self.resume, &self.s1r.latest);
+        let from = InS1r {
+            s1: &self.s1,
+            s2: &self.s2,
+            remainder: &self.remainder,
+            s1r: &self.s1r.latest,
+        };
+        block.start(&from, own, self.rule);
+        Ok(true)
+    }
+}
+
+/// Arrangements with the same S1: a block for each S2 whose players those of S1 may meet, by article D.1.
+#[derive(Drop)]
+pub struct ByS2<'a, R: Rule> {
+    k: usize,
+    s1: Numbers,
+    residents: Numbers,
+    // the S2 of the block is the one that came last
+    s2: Chooser<Transpositions<'a, R>>,
+    rule: &'a R,
+    // the cursor behind which the blocks begin, until the first one has come
+    resume: Option<&'a Cursor>,
+}
+
+/// An S1 and the residents, from which a level begins; the remainder makes `k` pairs.
+#[derive(Drop)]
+struct InS1<'s> {
+    k: usize,
+    residents: &'s Numbers,
+    s1: &'s Numbers,
+    ghost ascends: { IsStrictlyIncreasing residents.now.items },
+    ghost enough: { length s1.now.items + k ≤ length residents.now.items },
+}
+
+impl<'a, R: Rule> Model for ByS2<'a, R> {
+    ghost use Rattle.std.specs.Prelude.{◌≤◌, List, length, option_copied};
+    ghost use Rattle.std.specs.List.{AllByRecursion};
+    ghost use Rattle.std.specs.List.Sorted.{IsStrictlyIncreasing};
+    ghost use Rattle.dutch_order.specs.Arrangements.{Arrangement};
+    ghost use Rattle.dutch_sequence.specs.Choices.{left_of};
+    ghost use Rattle.dutch_order.specs.Levels.{HasS1r, Of, s2_blocks};
+
+    ghost Value = { List (List Arrangement) };
+
+    ghost view = { λ l. s2_blocks (R.meets l.rule.now) l.k l.s1.items l.residents.items
+        (option_copied l.resume) l.s2.choices.coming };
+
+    ghost invariant = { λ l.
+        IsStrictlyIncreasing l.residents.items
+        × AllByRecursion (λ s2. l.k ≤ length (left_of l.residents.items s2)) l.s2.choices.coming
+        × Of (λ own. HasS1r l.k (left_of l.residents.items own.s2) own) (option_copied l.resume) };
+}
+
+impl<'a, R: Rule> ByS2<'a, R> {
+    /// A place for such blocks, in which there are none.
+    fn ended(rule: &'a R) -> ByS2<'a, R>
+        ensures { result ≡ [] }
+    {
+        ByS2 {
+            k: 0,
+            s1: Numbers::new(),
+            residents: Numbers::new(),
+            s2: Chooser {
+                choices: Transpositions::ended(rule),
+                latest: Numbers::new(),
+            },
+            rule,
+            resume: None,
+        }
+    }
+
+    /// Begins anew.
+    #[tactic(auto, unfolding(dutch_order::specs::Levels::in_s1))]
+    fn start(&mut self, from: &InS1<'_>, own: Option<&'a Cursor>, rule: &'a R)
+        requires same { Of (λ cursor. cursor.s1 ≡ from.now.s1.now.items) (option_copied own) }
+        requires given { Of (HasS2 from.now.k from.now.residents.now.items) (option_copied own) }
+        ensures { joined self.new ≡ in_s1 (R.meets rule.now) from.now.k from.now.residents.now.items
+            (option_copied own.entry) from.now.s1.now.items }
+    {
+        self.k = from.k;
+        refill(&mut self.s1, from.s1);
+        refill(&mut self.residents, from.residents);
+        self.rule = rule;
+        self.resume = own;
+        let meeting = Meeting {
+            first: from.s1,
+            pool: from.residents,
+        };
+        match own {
+            Some(cursor) => self.s2.choices.start_from(&meeting, rule, &cursor.lists.s2),
+            None => self.s2.choices.start(&meeting, rule),
+        }
+    }
+}
+
+/// The cursor, if an S2 is its own.
+fn take_by_s2<'a>(resume: &mut Option<&'a Cursor>, s2: &Numbers) -> Option<&'a Cursor>
+    ensures own { option_copied result ≡ if_own (λ a. a.s2) (option_copied resume.old) s2.now.items }
+    ensures taken { resume.new ≡ None }
+{
+    let cursor = resume.take()?;
+    if is_same(s2, &cursor.lists.s2) {
+        Some(cursor)
+    } else {
+        None
+    }
+}
+
+impl<'a, R: Rule> Blocks for ByS2<'a, R> {
+    type Block = Level<ByS1r<'a, R>>;
+
+    ghost blocks = { λ l. l };
+
+    fn next_block<C: Cuts>(
+        &mut self,
+        cuts: &mut C,
+        block: &mut Level<ByS1r<'a, R>>,
+        budget: &mut Budget,
+    ) -> Drawn {
+        let chosen = Chosen {
+            lists: Prefix {
+                filling: Filling::S2,
+                s1: &self.s1,
+                s2: &[],
+                s1r: &[],
+                s2r: &[],
+            },
+            very_next: self.resume.is_some(),
+        };
+        if !choose_tuple(&mut self.s2, &chosen, cuts, budget)? {
+            return Ok(false);
+        }
+        let own = take_by_s2(&mut self.resume, &self.s2.latest);
+        let from = InS2 {
+            k: self.k,
+            s1: &self.s1,
+            residents: &self.residents,
+            s2: &self.s2.latest,
+        };
+        block.block.has_begun = false;
+        block.blocks.start(&from, own, self.rule);
+        Ok(true)
+    }
+}
+
+/// All arrangements: a block for each S1, by article D.3.
+#[derive(Drop)]
+pub struct ByS1<'a, R: Rule> {
+    k: usize,
+    residents: Numbers,
+    // the S1 of the block
+    s1: Numbers,
+    sets: LimboExchanges,
+    rule: &'a R,
+    // the cursor behind which the blocks begin, until the first one has come
+    resume: Option<&'a Cursor>,
+}
+
+impl<'a, R: Rule> Model for ByS1<'a, R> {
+    ghost use Rattle.std.specs.Prelude.{◌+◌, ◌≤◌, List, length, option_copied};
+    ghost use Rattle.std.specs.List.{AllByRecursion};
+    ghost use Rattle.std.specs.List.Sorted.{IsStrictlyIncreasing};
+    ghost use Rattle.dutch_order.specs.Arrangements.{Arrangement};
+    ghost use Rattle.dutch_order.specs.Levels.{HasS2, Of, s1_blocks};
+
+    ghost Value = { List (List Arrangement) };
+
+    ghost view = { λ l. s1_blocks (R.meets l.rule.now) l.k l.residents.items (option_copied l.resume) l.sets.coming };
+
+    ghost invariant = { λ l.
+        IsStrictlyIncreasing l.residents.items
+        × AllByRecursion (λ s1. length s1 + l.k ≤ length l.residents.items) l.sets.coming
+        × Of (HasS2 l.k l.residents.items) (option_copied l.resume) };
+}
+
+impl<'a, R: Rule> ByS1<'a, R> {
+    /// A place for such blocks, in which there are none.
+    fn ended(rule: &'a R) -> ByS1<'a, R>
+        ensures { result ≡ [] }
+    {
+        ByS1 {
+            k: 0,
+            residents: Numbers::new(),
+            s1: Numbers::new(),
+            sets: LimboExchanges::ended(),
+            rule,
+            resume: None,
+        }
+    }
+
+    /// Begins anew: all arrangements, or those that stand behind a cursor.
+    #[tactic(auto, unfolding(dutch_order::specs::Levels::in_bracket))]
+    pub fn start(&mut self, from: &FittingShape<'_>, own: Option<&'a Cursor>, rule: &'a R)
+        requires given { Of (λ cursor. IsIn cursor (arrangements from.now.bracket.now from.now.shape))
+            (option_copied own) }
+        ensures { joined self.new
+            ≡ in_bracket (R.meets rule.now) from.now.bracket.now from.now.shape (option_copied own.entry) }
+    {
+        let scores = &from.bracket.scores()[..from.bracket.mdps()];
+        self.k = from.shape.pairs - from.shape.mdps;
+        from.bracket.put_residents(&mut self.residents);
+        self.rule = rule;
+        self.resume = own;
+        match own {
+            Some(cursor) => self
+                .sets
+                .start_from(scores, from.shape.mdps, &cursor.lists.s1),
+            None => self.sets.start(scores, from.shape.mdps),
+        }
+    }
+}
+
+/// The cursor, if an S1 is its own.
+fn take_by_s1<'a>(resume: &mut Option<&'a Cursor>, s1: &Numbers) -> Option<&'a Cursor>
+    ensures own { option_copied result ≡ if_own (λ a. a.s1) (option_copied resume.old) s1.now.items }
+    ensures taken { resume.new ≡ None }
+{
+    let cursor = resume.take()?;
+    if is_same(s1, &cursor.lists.s1) {
+        Some(cursor)
+    } else {
+        None
+    }
+}
+
+impl<'a, R: Rule> Blocks for ByS1<'a, R> {
+    type Block = Level<ByS2<'a, R>>;
+
+    ghost blocks = { λ l. l };
+
+    fn next_block<C: Cuts>(
+        &mut self,
+        _cuts: &mut C,
+        block: &mut Level<ByS2<'a, R>>,
+        budget: &mut Budget,
+    ) -> Drawn {
+        if !self.sets.put_next(&mut self.s1, budget)? {
+            return Ok(false);
+        }
+        let own = take_by_s1(&mut self.resume, &self.s1);
+        let from = InS1 {
+            k: self.k,
+            residents: &self.residents,
+            s1: &self.s1,
+        };
+        block.block.has_begun = false;
+        block.blocks.start(&from, own, self.rule);
+        Ok(true)
+    }
+}
+
+/// The levels of a bracket's arrangements, one in another.
+pub type Levels<'a, R> = Level<ByS1<'a, R>>;
+
+/// Levels in which there are no arrangements.
+pub fn no_levels<'a, R: Rule>(rule: &'a R) -> Levels<'a, R>
+    ensures { result ≡ [] }
+{
+    let of_s2 = Level::new(ByS1r::ended(rule), ByS2r::ended(rule));
+    let of_s1 = Level::new(ByS2::ended(rule), of_s2);
+    Level::new(ByS1::ended(rule), of_s1)
+}

@@ -1,0 +1,2 @@
+pub mod PlayerLemmas
+pub mod ObstacleLemmas

@@ -1,0 +1,204 @@
+// The command `candidates`: a bracket, its shape, and the candidates of that shape in the order of article D.
+ghost use Rattle.std.specs.Prelude.{◌≡◌, ◌≤◌, ◌++◌, IfOk, Ok, string_bytes};
+ghost use Rattle.trf16.specs.Prelude.{verdict};
+ghost use Rattle.dutch_order.specs.Prelude.{Fits};
+ghost use Rattle.dutch_bracket.specs.Prelude.{IsOf, frame_of};
+ghost use Rattle.round_commands.specs.CandidateAnswers.{AnswersCandidates, InField, Lists, AnswersFound, coming_of, status_of};
+ghost use Rattle.round_commands.specs.Known.{CanBeListed};
+ghost use Rattle.round_lines.specs.Listings.{ending_text};
+ghost use Rattle.replies.specs.Prelude.{answer_of, not_of_bracket, not_reached, seen_before};
+
+use dutch_choice::finder::Finder;
+use dutch_listing::Candidates;
+use dutch_order::{Budget, Cursor, Rule, Shape};
+use dutch_pair::{BracketAt, Reached, bracket_at};
+use dutch_player::{Field, FieldFault};
+use replies::refusal::{cannot_be_paired, no_pairing, undecided};
+use replies::views::{not_seen, read_before};
+use replies::{Reply, Status, texts};
+use requests::CandidatesOptions;
+use round_lines::bracket_texts;
+use round_lines::listing::{Bracket, Ending, Listed, RemainingCandidates, lines};
+use std::alloc::{AllocError, Global};
+use trf16::Report;
+
+/// What `candidates` says of the bytes of a report in which the pairing-allocated bye gives `bye` half points.
+pub fn candidates<F: Finder>(
+    alloc: Global,
+    options: &CandidatesOptions<'_>,
+    bytes: &[u8],
+    bye: u16,
+) -> Result<Reply, AllocError>
+    requires { bye ≤ 2 }
+    ensures { IfOk result (λ reply. AnswersCandidates options.now
+        (seen_before options.now.round (verdict bytes.now bye)) (answer_of reply)) }
+{
+    match read_before(alloc, bytes, bye, options.round)? {
+        Ok(report) => of_report::<F>(alloc, options, &report),
+        Err(why) => not_seen(alloc, why),
+    }
+}
+
+// The same of an accepted report.
+fn of_report<F: Finder>(
+    alloc: Global,
+    options: &CandidatesOptions<'_>,
+    report: &Report<'_>,
+) -> Result<Reply, AllocError>
+    ensures { IfOk result (λ reply. AnswersCandidates options.now (Ok report.now) (answer_of reply)) }
+{
+    match Field::new(alloc, report, options.rounds, options.initial) {
+        Ok(field) => of_field::<F>(alloc, options, &field),
+        Err(FieldFault::OutOfMemory) => Err(AllocError),
+        Err(fault) => cannot_be_paired(alloc, fault),
+    }
+}
+
+// The same of those whom the next round is paired from.
+#[tactic(auto, using(crate::proofs::CandidateLemmas::told, crate::proofs::CandidateLemmas::can_be_listed))]
+fn of_field<F: Finder>(
+    alloc: Global,
+    options: &CandidatesOptions<'_>,
+    field: &Field,
+) -> Result<Reply, AllocError>
+    ensures { IfOk result (λ reply. InField options.now (Ok field.now) (answer_of reply)) }
+{
+    let found = bracket_at::<F>(alloc, field, options.steps, options.bracket)?;
+    tell(alloc, options, field, &found)
+}
+
+// What is said of it.
+fn tell(
+    alloc: Global,
+    options: &CandidatesOptions<'_>,
+    field: &Field,
+    found: &BracketAt,
+) -> Result<Reply, AllocError>
+    requires { CanBeListed field.now found.now }
+    ensures { IfOk result (λ reply. AnswersFound options.now field.now found.now (answer_of reply)) }
+{
+    match found {
+        BracketAt::Bracket { reached, shape } => {
+            let shape = *shape;
+            let asked = ListedBracket {
+                field,
+                reached,
+                shape,
+            };
+            list(alloc, options, &asked)
+        }
+        BracketAt::NotReached => not_reached(alloc, options.bracket),
+        BracketAt::NoPairing => Ok(no_pairing()),
+        BracketAt::Undecided { bracket, used } => undecided(alloc, *bracket, *used),
+    }
+}
+
+// A bracket whose candidates are asked for: one of a field, and the shape in which they are listed.
+#[derive(Drop)]
+struct ListedBracket<'a> {
+    field: &'a Field,
+    reached: &'a Reached,
+    shape: Shape,
+}
+
+// A bracket and its candidates, all or those behind the cursor.
+#[tactic(auto, using(crate::proofs::CandidateLemmas::cursor_is_in, crate::proofs::CandidateLemmas::not_listed))]
+fn list(
+    alloc: Global,
+    options: &CandidatesOptions<'_>,
+    asked: &ListedBracket<'_>,
+) -> Result<Reply, AllocError>
+    requires of { IsOf asked.now.field.now asked.now.reached.now }
+    requires fits { Fits (frame_of asked.now.field.now asked.now.reached.now) asked.now.shape }
+    ensures { IfOk result (λ reply. Lists options.now asked.now.field.now asked.now.reached.now asked.now.shape
+        (coming_of asked.now.field.now asked.now.reached.now asked.now.shape options.now.from) (answer_of reply)) }
+{
+    let ListedBracket {
+        field,
+        reached,
+        shape,
+    } = *asked;
+    let frame = reached.frame(field);
+    let rule = reached.rule(field);
+    match &options.from {
+        None => {
+            let coming = Candidates::new(&frame, shape, &rule);
+            list_coming(alloc, options, asked, coming)
+        }
+        Some(from) => match Cursor::read(from.as_str(), &frame, shape) {
+            Ok(cursor) => {
+                let coming = Candidates::from(&frame, shape, &rule, &cursor);
+                list_coming(alloc, options, asked, coming)
+            }
+            Err(_) => not_of_bracket(alloc, options.bracket),
+        },
+    }
+}
+
+// A bracket and the candidates to come.
+#[tactic(auto, using(crate::proofs::CandidateLemmas::listed))]
+fn list_coming<'a, R: Rule>(
+    alloc: Global,
+    options: &CandidatesOptions<'_>,
+    asked: &ListedBracket<'a>,
+    candidates: Candidates<'a, R>,
+) -> Result<Reply, AllocError>
+    requires frame { candidates.frame ≡ frame_of asked.now.field.now asked.now.reached.now }
+    requires coming { coming_of asked.now.field.now asked.now.reached.now asked.now.shape options.now.from
+        ≡ Ok candidates.coming }
+    ensures { IfOk result (λ reply. Lists options.now asked.now.field.now asked.now.reached.now asked.now.shape
+        (coming_of asked.now.field.now asked.now.reached.now asked.now.shape options.now.from) (answer_of reply)) }
+{
+    let mut budget = Budget {
+        limit: options.steps,
+        used: 0,
+    };
+    let bracket = Bracket {
+        field: asked.field,
+        reached: asked.reached,
+    };
+    let coming = RemainingCandidates {
+        bracket,
+        candidates,
+    };
+    let listed = lines(alloc, coming, options.count, &mut budget)?;
+    let first = bracket_texts::bracket(alloc, options.bracket, asked.reached.kind(), asked.shape)?;
+    let text = listing(alloc, options.bracket, first, &listed)?;
+    Ok(Reply::made(status_of(listed.ending), text))
+}
+
+// The status of a listing that ended so.
+fn status_of(ending: Ending) -> Status
+    ensures { result ≡ status_of ending }
+{
+    match ending {
+        Ending::AtEnd | Ending::AtCount => Status::Done,
+        Ending::Stopped { .. } => Status::Undecided,
+    }
+}
+
+// A first line, the lines of the candidates of the bracket of a number, and how they ended.
+fn listing(alloc: Global, number: u16, first: String, listed: &Listed) -> Result<String, AllocError>
+    ensures { IfOk result (λ text. string_bytes text
+        ≡ string_bytes first ++ (string_bytes listed.now.text ++ ending_text number listed.now.ending)) }
+{
+    let mut text = first;
+    text.push_str(listed.text.as_str())?;
+    let last = bracket_texts::ending(alloc, number, listed.ending)?;
+    text.push_str(last.as_str())?;
+    Ok(text)
+}
+
+// The round ends before the bracket that is asked for.
+fn not_reached(alloc: Global, number: u16) -> Result<Reply, AllocError>
+    ensures { IfOk result (λ reply. answer_of reply ≡ not_reached number) }
+{
+    Ok(Reply::made(Status::BadWords, texts::not_reached(alloc, number)?))
+}
+
+// The cursor is not one of the bracket that is asked for.
+fn not_of_bracket(alloc: Global, number: u16) -> Result<Reply, AllocError>
+    ensures { IfOk result (λ reply. answer_of reply ≡ not_of_bracket number) }
+{
+    Ok(Reply::made(Status::BadWords, texts::not_of_bracket(alloc, number)?))
+}

@@ -1,0 +1,148 @@
+// The command `pair`: the boards of the next round, or the report with that round.
+ghost use Rattle.std.specs.Prelude.{◌≡◌, ◌≤◌, ◌++◌, IfOk, Ok, OnOk, string_bytes};
+ghost use Rattle.dutch_player.specs.Prelude.{facts_of};
+ghost use Rattle.trf16.specs.Prelude.{verdict, CanBePaired, HasOwnStarts, with_round};
+ghost use Rattle.round_commands.specs.PairAnswers.{AnswersPair, PairsField, TellsBoards, TellsOutcome, TellsReport};
+ghost use Rattle.round_commands.specs.PairAnswers.{board_text, boards_text};
+ghost use Rattle.round_commands.specs.Known.{CanBeTold, HasFewRounds};
+ghost use Rattle.replies.specs.Prelude.{answer_of, done, seen_before};
+
+use dutch_choice::finder::Finder;
+use dutch_pair::boards::Board;
+use dutch_pair::laws::boards_can_be_the_next_round;
+use dutch_pair::{Outcome, pair_round};
+use dutch_player::{Field, FieldFault};
+use replies::format::rewritten;
+use replies::refusal::{cannot_be_paired, no_pairing, undecided};
+use replies::views::{not_seen, read_before};
+use replies::{Reply, Status, wall};
+use requests::{PairOptions, Shown};
+use std::alloc::{AllocError, Global};
+use trf16::Report;
+use trf16_writer::with_round;
+
+/// What `pair` says of the bytes of a report in which the pairing-allocated bye gives `bye` half points.
+pub fn pair<F: Finder>(
+    alloc: Global,
+    options: PairOptions,
+    bytes: &[u8],
+    bye: u16,
+) -> Result<Reply, AllocError>
+    requires rounds { HasFewRounds options }
+    requires worth { bye ≤ 2 }
+    ensures { IfOk result
+        (λ reply. AnswersPair options (seen_before options.round (verdict bytes.now bye)) (answer_of reply)) }
+{
+    match read_before(alloc, bytes, bye, options.round)? {
+        Ok(report) => of_report::<F>(alloc, options, &report),
+        Err(why) => not_seen(alloc, why),
+    }
+}
+
+// The same of an accepted report, or of one as it stood before a round.
+fn of_report<F: Finder>(
+    alloc: Global,
+    options: PairOptions,
+    report: &Report<'_>,
+) -> Result<Reply, AllocError>
+    requires few { HasFewRounds options }
+    requires own { HasOwnStarts report.now }
+    ensures { IfOk result (λ reply. AnswersPair options (Ok report.now) (answer_of reply)) }
+{
+    match Field::new(alloc, report, options.rounds, options.initial) {
+        Ok(field) => of_field::<F>(alloc, options, report, &field),
+        Err(FieldFault::OutOfMemory) => Err(AllocError),
+        Err(fault) => cannot_be_paired(alloc, fault),
+    }
+}
+
+// The same of those whom the next round is paired from.
+#[tactic(auto, using(crate::proofs::PairLemmas::can_be_told))]
+fn of_field<F: Finder>(
+    alloc: Global,
+    options: PairOptions,
+    report: &Report<'_>,
+    field: &Field,
+) -> Result<Reply, AllocError>
+    requires few { HasFewRounds options }
+    requires own { HasOwnStarts report.now }
+    requires field { facts_of report.now options.rounds options.initial ≡ Ok field.now }
+    ensures { IfOk result (λ reply. PairsField options report.now (Ok field.now) (answer_of reply)) }
+{
+    // So `tell` may put them into the report.
+    boards_can_be_the_next_round();
+    let outcome = pair_round::<F>(alloc, field, options.steps)?;
+    tell(alloc, options, report, &outcome)
+}
+
+// What is said of the outcome of pairing.
+fn tell(
+    alloc: Global,
+    options: PairOptions,
+    report: &Report<'_>,
+    outcome: &Outcome,
+) -> Result<Reply, AllocError>
+    requires { CanBeTold report.now outcome.now }
+    ensures { IfOk result (λ reply. TellsOutcome options report.now outcome.now (answer_of reply)) }
+{
+    match outcome {
+        Outcome::Paired(boards) => tell_boards(alloc, options.shown, report, boards.as_slice()),
+        Outcome::NoPairing => Ok(no_pairing()),
+        Outcome::Undecided { bracket, used } => undecided(alloc, *bracket, *used),
+    }
+}
+
+// The boards, the boards with names and scores, or the report with them.
+fn tell_boards(
+    alloc: Global,
+    shown: Shown,
+    report: &Report<'_>,
+    boards: &[Board],
+) -> Result<Reply, AllocError>
+    requires { CanBePaired boards.now report.now }
+    ensures { IfOk result (λ reply. TellsBoards shown report.now boards.now (answer_of reply)) }
+{
+    match shown {
+        Shown::Boards => tell_ranks(alloc, boards),
+        Shown::Names => wall::boards(alloc, report, boards),
+        Shown::Report => tell_report(alloc, report, boards),
+    }
+}
+
+/// The boards in start ranks.
+pub(crate) fn tell_ranks(alloc: Global, boards: &[Board]) -> Result<Reply, AllocError>
+    ensures { IfOk result (λ reply. answer_of reply ≡ done (boards_text boards.now)) }
+{
+    Ok(Reply::made(Status::Done, board_lines(alloc, boards)?))
+}
+
+// The report whose next round the boards are.
+fn tell_report(alloc: Global, report: &Report<'_>, boards: &[Board]) -> Result<Reply, AllocError>
+    requires { CanBePaired boards.now report.now }
+    ensures { IfOk result (λ reply. TellsReport report.now boards.now (answer_of reply)) }
+{
+    let paired = with_round(alloc, report, boards)?;
+    rewritten(alloc, &paired)
+}
+
+// How many boards there are, and a line for each.
+fn board_lines(alloc: Global, boards: &[Board]) -> Result<String, AllocError>
+    ensures { IfOk result (λ text. string_bytes text ≡ boards_text boards.now) }
+{
+    let count = boards.len();
+    let mut text = format!(in alloc; "{count}\n")?;
+    for board in boards {
+        put_board(alloc, &mut text, *board)?;
+    }
+    Ok(text)
+}
+
+// Puts the line of a board.
+#[tactic(auto, unfolding(crate::specs::PairAnswers::board_text))]
+fn put_board(alloc: Global, text: &mut String, board: Board) -> Result<(), AllocError>
+    ensures { OnOk result (string_bytes text.new ≡ string_bytes text.old ++ board_text board) }
+{
+    let (white, black) = board;
+    let line = format!(in alloc; "{white} {black}\n")?;
+    text.push_str(line.as_str())
+}

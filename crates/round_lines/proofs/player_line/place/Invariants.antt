@@ -1,7 +1,0 @@
-use Rattle.std.proofs.Common.{◌≡◌}
-use Rattle.round_lines.specs.PlayerTexts.{placed}
-use Rattle.round_lines.proofs.PlayerLemmas.{along}
-use Rattle.round_lines.proofs.player_line.place.Given as goal
-
-abbrev pub invariant-loop-at : goal.invariant-loop-at
-invariant-loop-at l = (placed l.number l.numbers.items ≡ along l.number l.numbers.items l.at) × (l.numbers.items ≡ l.initial.numbers.items)

@@ -1,6 +1,0 @@
-use Rattle.std.proofs.Common.{◌≡◌, ◌++◌}
-use Rattle.round_lines.specs.PlayerTexts.{games_text}
-use Rattle.round_lines.proofs.player_line.put_games.Given as goal
-
-abbrev pub invariant-loop-round : goal.invariant-loop-round
-invariant-loop-round l = l.text ≡ l.initial.text ++ games_text l.report l.start l.round
