@@ -28,7 +28,7 @@ module _ (meets meets' : ℕ → ℕ → Bool) (left left' : ℕ → Bool) (more
   one_weaker (x ∷ y ∷ rest) e = e
 
   -- what is legal by the stronger rule is legal by the weaker
-  legal_weaker : (frame : Frame) (a : Arrangement) → is_legal meets left frame a ≡ true → is_legal meets' left' frame a ≡ true
+  pub legal_weaker : (frame : Frame) (a : Arrangement) → is_legal meets left frame a ≡ true → is_legal meets' left' frame a ≡ true
   legal_weaker frame a e =
       and_weaker (all_meet meets a.s1 a.s2) (all_meet meets a.s1r a.s2r && (not frame.last || leaves_one left (down frame a)))
       (all_meet meets' a.s1 a.s2) (all_meet meets' a.s1r a.s2r && (not frame.last || leaves_one left' (down frame a)))

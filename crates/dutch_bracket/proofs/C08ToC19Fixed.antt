@@ -1,7 +1,7 @@
 -- What the pairs of a beginning make is the least that an arrangement with it makes (C.04.3 C.8, C.9, C.12 to C.19): the pairs that
 -- it adds and its downfloaters only add to it. So C.8, C.9 and C.12 to C.15 count no fewer players. In the lists of C.16 to
 -- C.19 no difference stands less often; of two such lists, the highest first, the one with more members stands behind.
-use Rattle.std.proofs.Common.{◌≡◌, ℕ, ◌≤◌, Bool, false, List, [], map, filter, length, ap, ◌∙◌, arith, length-append}
+use Rattle.std.proofs.Common.{◌≡◌, ℕ, ◌≤◌, Bool, false, List, map, filter, length, ap, ◌∙◌, arith, length-append}
 use Rattle.std.specs.Prelude.{sum_by}
 use Rattle.std.proofs.lemmas.List.{map-append}
 use Rattle.std.proofs.lemmas.List.Elements.{filter-append}
@@ -13,9 +13,9 @@ use Rattle.dutch_player.specs.Prelude.{SeatFacts, Facts}
 use Rattle.trf16.specs.declared.cell.Colour.{Colour}
 use Rattle.dutch_bracket.specs.declared.seated.Floater.{Floater}
 use Rattle.dutch_bracket.specs.declared.colours_missed.Miss.TheVariants.{Wide, Third}
-use Rattle.dutch_bracket.specs.Prelude.{HasPairsOf, fixed, seated_so, NotBelow, is_lower, quality, again, count_in, count_with_topscorers, differences, has_topscorer, highest_first, misses, quality_with, Reached, frame_of, downfloaters, quality_of, Seated, all_pairs, by_seats, floats_down, goes_down, goes_up, going_down, going_up, is_uneven, seat_of}
+use Rattle.dutch_bracket.specs.Prelude.{seated_so, NotBelow, is_lower, quality, again, count_in, count_with_topscorers, differences, has_topscorer, highest_first, misses, quality_with, Reached, frame_of, downfloaters, quality_of, Seated, all_pairs, by_seats, floats_down, goes_down, goes_up, going_down, going_up, is_uneven, seat_of}
 use Rattle.dutch_bracket.proofs.Copies.{copies, copies_append, highest_first_copies, highest_first_falls, not_lower}
-use Rattle.dutch_bracket.proofs.FixedPairs.{AddsUp, Beside, beside, none_known}
+use Rattle.dutch_bracket.proofs.FixedPairs.{AddsUp, Beside}
 use Rattle.dutch_bracket.proofs.PairsWithBeginning.{no_less}
 
 -- a list in which each number stands no less often is not lower
@@ -109,7 +109,3 @@ least_of_known facts reached lower known gone a others left =
       down_again_before_by = no_lower facts Down _ _ down' 2;
       up_again_before_by = no_lower facts Up _ _ up 2;
     }
-
-pub least_of_beginning : (facts : Facts) (reached : Reached) (lower : List ℕ) (b a : Arrangement) → HasPairsOf b a → NotBelow facts (fixed facts reached b) (quality_of facts reached lower a)
-least_of_beginning facts reached lower b a begins =
-    least_of_known facts reached lower (all_pairs reached.seats b) [] a (beside reached.seats b a begins) (none_known (downfloaters facts reached a))

@@ -110,17 +110,6 @@ in_legal facts reached shape lists rest e =
     in_filter (is_legal (numbers_meet facts reached) (number_may_be_left facts reached) (frame_of facts reached)) lists (arrangements (frame_of facts reached) shape)
     (subst (IsIn lists) (sym e) (inl refl))
 
--- a listing that has begun, in the words of the bracket
-pub listed_as : (facts facts' : Facts) (reached reached' : Reached) (frame : Frame) (shape : Shape) (coming rest : List Arrangement)
-    → coming ≡ candidates (numbers_meet facts' reached') (number_may_be_left facts' reached') frame shape
-    → facts' ≡ facts → reached' ≡ reached → frame ≡ frame_of facts reached → coming ≡ rest → legal_in facts reached shape ≡ rest
-listed_as facts facts' reached reached' frame shape coming rest given f s b e =
-    sym (given
-    ∙ ap (λ (g : Facts). candidates (numbers_meet g reached') (number_may_be_left g reached') frame shape) f
-    ∙ ap (λ (t : Reached). candidates (numbers_meet facts t) (number_may_be_left facts t) frame shape) s
-    ∙ ap (λ (frame : Frame). candidates (numbers_meet facts reached) (number_may_be_left facts reached) frame shape) b)
-    ∙ e
-
 -- the greatest shape of a bracket by a rule, and its first arrangement
 abbrev pub IsGreatest : Facts → Reached → Frame → Shape → Candidate → Type 0
 IsGreatest facts reached frame shape candidate =

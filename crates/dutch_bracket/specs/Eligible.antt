@@ -1,7 +1,6 @@
 -- Which candidates of a bracket can be chosen, as a test of each (C.04.3 C.4).
 use Rattle.std.specs.Prelude.{◌≡◌, ℕ, true, List}
-use Rattle.dutch_order.specs.Prelude.{Fits, Listing}
-use Rattle.dutch_bracket.specs.declared.reached.ByNumber.{ByNumber}
+use Rattle.dutch_order.specs.Prelude.{Fits}
 use Rattle.dutch_order.specs.declared.bracket.Shape.{Shape}
 use Rattle.dutch_player.specs.Prelude.{Facts}
 use Rattle.dutch_bracket.specs.Reached.{Reached, frame_of}
@@ -14,9 +13,3 @@ pub record HasCandidate (facts : Facts) (reached : Reached) (lower : List ℕ) :
   pub shape : Shape
   pub room : Fits (frame_of facts reached) shape
   pub candidate : has_member (eligible facts reached lower shape) ≡ true
-
--- a listing is of a bracket of a field, by the rules on its numbers
-pub record Lists (facts : Facts) (reached : Reached) (listing : Listing ByNumber) : Type 0 where
-  pub frame : listing.frame ≡ frame_of facts reached
-  pub field : listing.rule.field.now ≡ facts
-  pub bracket : listing.rule.reached.now ≡ reached

@@ -1,11 +1,9 @@
 -- What is said of a bracket above its lower seats, by the one record that holds its field, the bracket and those seats: each word here is
 -- the definition of the same name over the three.
-use Rattle.std.specs.Prelude.{◌≡◌, ℕ, Bool, false, List, ◌∷◌, Option}
-use Rattle.dutch_order.specs.Prelude.{Frame, Arrangement, Candidate, Fits, Listing, Passes, down}
+use Rattle.std.specs.Prelude.{ℕ, Bool, List, Option}
+use Rattle.dutch_order.specs.Prelude.{Frame, Arrangement, Fits}
 use Rattle.dutch_order.specs.declared.bracket.Shape.{Shape}
-use Rattle.dutch_bracket.specs.declared.reached.ByNumber.{ByNumber}
 use Rattle.dutch_bracket.specs.Context.{Context}
-use Rattle.dutch_bracket.specs.Eligible.{Lists}
 use Rattle.dutch_bracket.specs.Quality.{Quality}
 use Rattle.dutch_bracket.specs.Reached.{frame_of}
 use Rattle.dutch_bracket.specs.Brackets.{candidates_of, can_be_chosen, eligible, first_group, quality_of, scoregroups, shape_of}
@@ -38,17 +36,6 @@ eligible_here context shape = eligible context.facts context.reached context.low
 abbrev pub shape_here : Context → Option Shape
 shape_here context = shape_of context.facts context.reached context.lower
 
--- a listing is of it [own]
-abbrev pub ListsHere : Context → Listing ByNumber → Type 0
-ListsHere context listing = Lists context.facts context.reached listing
-
 -- the quality of a candidate in it [with Context]
 abbrev pub quality_here : Context → Arrangement → Quality
 quality_here context a = quality_of context.facts context.reached context.lower a
-
--- of its candidates of a shape the first that can be chosen is drawn: a listing stands behind it, and all candidates before it cannot be
--- chosen [C.4; own]
-pub record StandsBehindFirst (context : Context) (shape : Shape) (listing : Listing ByNumber) (drawn : Candidate) : Type 0 where
-  pub shape_is : listing.shape ≡ shape
-  pub passes : Passes (λ a. can_be_chosen_here context a ≡ false) (candidates_here context shape) (drawn.lists ∷ listing.coming)
-  pub down_is : drawn.down ≡ down (frame_here context) drawn.lists

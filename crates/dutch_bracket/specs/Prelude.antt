@@ -20,14 +20,14 @@ pub use Rattle.dutch_bracket.specs.Stops.{Decides}
 pub use Rattle.dutch_bracket.specs.Reached.{IsAbove, IsOf, Reached, ends_round, frame_of, is_number}
 unfoldable pub use Rattle.dutch_bracket.specs.Reached.{number_may_be_left, numbers_meet}
 pub use Rattle.dutch_bracket.specs.Context.{Context, IsRead}
-pub use Rattle.dutch_bracket.specs.InContext.{FitsHere, ListsHere, StandsBehindFirst, can_be_chosen_here, candidates_here, eligible_here, frame_here, group_here, quality_here, shape_here}
+pub use Rattle.dutch_bracket.specs.InContext.{FitsHere, can_be_chosen_here, candidates_here, eligible_here, frame_here, group_here, quality_here, shape_here}
 pub use Rattle.dutch_bracket.specs.Shaped.{OfEachWithBeginning, candidates_in, eligible_in}
 pub use Rattle.dutch_bracket.specs.Choice.{best, best_with, first_unbeaten, is_unbeaten}
 pub use Rattle.dutch_bracket.specs.Brackets.{Choice, bracket, can_be_chosen, downfloaters, first_group, is_better_in, is_penultimate, onto_group, scoregroups}
 unfoldable pub use Rattle.dutch_bracket.specs.Brackets.{best_of_shape, candidates_of, choice, completable, eligible, quality_of, shape_of}
 pub use Rattle.dutch_bracket.specs.Groups.{IsScoregroup, NeighboursDiffer, front_with, group_score}
 pub use Rattle.dutch_bracket.specs.SeatLaws.{equal_sym, numbers_meet_sym, seats_meet_sym}
-pub use Rattle.dutch_bracket.specs.Eligible.{HasCandidate, Lists}
+pub use Rattle.dutch_bracket.specs.Eligible.{HasCandidate}
 pub use Rattle.dutch_bracket.specs.Beginnings.{HasFewPairs, HasPairsOf, LacksEndOfS2r, fixed, fixed_lists, free, has_s1, in_both, is_of_shape, lists_by, most_served, seated_so}
 pub use Rattle.dutch_bracket.specs.ColourFloors.{adds_top, beyond, collide, is_firm, more_missed, more_missed_strong, pool, residents_down, surplus, surplus_firm, waiting, wants, wants_firmly}
 unfoldable pub use Rattle.dutch_bracket.specs.ColourFloors.{lonely, lonely_first, lonely_second, suits}

@@ -3,6 +3,7 @@ pub mod C06Psd
 pub mod FixedListsLemmas
 pub mod PairedOut
 pub mod ShapeNumbers
+pub mod NarrowedCandidates
 pub mod WishFits
 pub mod WishLemmas
 pub mod CandidatePairs

@@ -1,6 +1,6 @@
 -- Mates among the players of a bracket, of whom no two are moved down, are the pairs of an arrangement; its downfloaters are their
 -- own mates.
-use Rattle.std.proofs.Common.{◌≡◌, ℕ, ◌+◌, ◌-◌, ◌<◌, ◌≤◌, Bool, true, false, not, cond, ◌||◌, ◌==◌, ltb, List, [], ◌∷◌, ◌++◌, map, length, refl, sym, ap, ◌∙◌, arith, subst, inl, inr}
+use Rattle.std.proofs.Common.{◌≡◌, ℕ, ◌+◌, ◌-◌, ◌<◌, ◌≤◌, Bool, true, not, cond, ◌||◌, ◌==◌, ltb, List, [], ◌∷◌, ◌++◌, map, length, refl, sym, ap, ◌∙◌, arith, subst, inl, inr}
 use Rattle.std.specs.List.{filter}
 use Rattle.std.proofs.lemmas.List.{length-map}
 use Rattle.std.proofs.lemmas.Bool.{false_from_ne_true, cases_eq, cases_order, cases_lt, eq-eqb, ne_eqb, ltb-true, lt-ltb, not_from_false, not-true, and_from, true≢false, or_right}
@@ -258,7 +258,3 @@ module _ (frame : Frame) (mate : ℕ → ℕ) (within : frame.mdps ≤ length fr
         (rises-twice (down frame of_mates) (Rises-filter (λ x. not (is_member x (paired of_mates))) (players_of frame) (numbers_rise 1 (length frame.scores))))
         (λ x m. let h = down_alone x m in may x h.0 h.1)
         (λ x y m n. let h = down_alone x m in let g = down_alone y n in one x y h.0 g.0 h.1 g.1)))
-
-    -- where any number may be left over, mates who meet are enough
-    pub mates_open : frame.last ≡ false → has_member (candidates meets may_be_left frame mates_shape) ≡ true
-    mates_open open' = legal_if (ap (λ t. not t || leaves_one may_be_left (down frame of_mates)) open')

@@ -64,7 +64,7 @@ same_pair z one other [] once m n h g = absurd m
 same_pair z one other (x ∷ pairs) once m n h g = grind (arith, same_pair z one other pairs once.1.1, player_in z one pairs, player_in z other pairs)
 
 -- so of two who meet neither has another opponent
-pub none_parted : (p q : ℕ) (pairs : List (ℕ × ℕ)) → NoneTwice (players_in pairs) → list_any (are_these p q) pairs ≡ true
+none_parted : (p q : ℕ) (pairs : List (ℕ × ℕ)) → NoneTwice (players_in pairs) → list_any (are_these p q) pairs ≡ true
     → (other : ℕ × ℕ) → IsIn other pairs → parts p q other ≡ false
 none_parted p q pairs once some other n =
     let found = found_in (are_these p q) pairs some in

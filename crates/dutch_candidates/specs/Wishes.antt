@@ -41,3 +41,12 @@ abbrev pub fits_as_left : Option Wish → ℕ → Bool
 fits_as_left None a = true
 fits_as_left (Some (Pair p q)) a = not (a == p) && not (a == q)
 fits_as_left (Some (LeftOver p)) a = true
+
+-- a rule that is narrowed to what is wished: two meet by it who may meet, and may be a pair of an arrangement that grants that [with
+-- fits_as_pair]
+abbrev pub meets_narrowed : Option Wish → (ℕ → ℕ → Bool) → ℕ → ℕ → Bool
+meets_narrowed wish meets a b = fits_as_pair wish a b && meets a b
+
+-- and one may be left over by it who may be left over, also by such an arrangement [with fits_as_pair]
+abbrev pub left_narrowed : Option Wish → (ℕ → Bool) → ℕ → Bool
+left_narrowed wish may_be_left a = fits_as_left wish a && may_be_left a

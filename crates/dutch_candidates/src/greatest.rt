@@ -4,7 +4,7 @@
 ghost use Rattle.std.specs.Prelude.{◌≡◌, ◌&&◌, List, Some, None, true, false, filter, IfOk, IfSome};
 ghost use Rattle.dutch_order.specs.declared.bracket.Shape.{Shape};
 ghost use Rattle.dutch_order.specs.Prelude.{Arrangement, Candidate, Fits, Frame, candidates, Listing, MatchDrawn};
-ghost use Rattle.dutch_order.specs.Prelude.{MatchFound, MatchStep, Spends};
+ghost use Rattle.dutch_order.specs.Prelude.{MatchFound, Spends};
 ghost use Rattle.dutch_bracket.specs.Shapes.{IsFirst, fits, shapes_with, has_member, first_with, greatest_shape};
 
 use dutch_listing::Candidates;

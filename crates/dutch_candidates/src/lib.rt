@@ -9,6 +9,7 @@ mod conditions;
 pub mod few_steps;
 pub mod fixed_lists;
 pub mod greatest;
+pub mod narrowed;
 pub mod psd_floor;
 pub mod wish;
 

@@ -6,7 +6,7 @@ ghost use Rattle.dutch_order.specs.Prelude.{left_of, remainder_pairs, numbers_fr
 ghost use Rattle.dutch_bracket.specs.Seated.{seat_of, score_at};
 ghost use Rattle.dutch_bracket.specs.Quality.{placed_all};
 ghost use Rattle.dutch_bracket.specs.ColourFloors.{residents_down};
-ghost use Rattle.dutch_bracket.specs.PsdFloors.{is_uniform, repeated, psd_with};
+ghost use Rattle.dutch_bracket.specs.PsdFloors.{is_uniform, psd_with};
 
 use dutch_bracket::differences::{put, put_times};
 use dutch_bracket::reached::ByNumber;

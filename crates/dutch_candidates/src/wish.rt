@@ -7,7 +7,6 @@ ghost use Rattle.std.specs.List.{list_any, zip};
 ghost use Rattle.dutch_order.specs.Prelude.{paired, is_member, pairs_by_number};
 ghost use Rattle.dutch_candidates.specs.Wishes.{are_these, fits_as_left, fits_as_pair, grants, has_player, is_wished};
 ghost use Rattle.dutch_candidates.specs.Wishes.{parts};
-ghost use Rattle.dutch_candidates.specs.declared.wish.Wish.TheVariants.{LeftOver};
 
 use crate::fixed_lists::FixedLists;
 use dutch_order::Candidate;
@@ -47,7 +46,7 @@ fn has_player(p: u16, pair: (u16, u16)) -> bool
 }
 
 /// Yes if the pair has one of the two players, with another one.
-pub fn parts(p: u16, q: u16, pair: (u16, u16)) -> bool
+fn parts(p: u16, q: u16, pair: (u16, u16)) -> bool
     ensures { result ≡ parts p q pair }
 {
     !are_these(p, q, pair) && (has_player(p, pair) || has_player(q, pair))
@@ -79,13 +78,6 @@ fn is_paired(p: u16, lists: &FixedLists<'_>) -> bool
         || lists.s2r.contains(&p)
 }
 
-/// Yes if no pair of the lists has the player.
-pub fn leave_over(p: u16, lists: &FixedLists<'_>) -> bool
-    ensures { result ≡ grants (LeftOver p) lists.now }
-{
-    !is_paired(p, lists)
-}
-
 impl Wish {
     /// Yes if the candidate has the pair that is wished, or leaves over the player of whom that is wished (B.3).
     pub fn is_granted(self, candidate: &Candidate) -> bool
@@ -94,7 +86,7 @@ impl Wish {
         let lists = lists_of(candidate);
         match self {
             Wish::Pair(p, q) => meet(p, q, &lists),
-            Wish::LeftOver(p) => leave_over(p, &lists),
+            Wish::LeftOver(p) => !is_paired(p, &lists),
         }
     }
 }

@@ -6,6 +6,7 @@ pub mod AlwaysShapes
 pub mod UniformShapes
 pub mod AllPaired
 pub mod ExchangeClasses
+pub mod Listings
 pub mod RuledOutLemmas
 pub mod BestLemmas
 pub mod ChoiceLemmas

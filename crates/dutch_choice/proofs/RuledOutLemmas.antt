@@ -1,25 +1,22 @@
 -- A beginning that rules a wish out has no arrangement that grants it (C.04.3 B.2, B.3).
-use Rattle.std.proofs.Common.{◌≡◌, ℕ, ◌<◌, ◌≤◌, ◌⊎◌, Bool, true, false, not, ◌&&◌, ◌||◌, List, [], ◌∷◌, ◌++◌, length, inl, inr, refl, sym, ap, ◌∙◌, subst, arith}
+use Rattle.std.proofs.Common.{◌≡◌, ℕ, ◌<◌, ◌≤◌, ◌⊎◌, Bool, true, false, not, ◌&&◌, ◌||◌, List, ◌++◌, length, inl, inr, refl, sym, ap, ◌∙◌, subst, arith}
 use Rattle.std.specs.Prelude.{nat_le}
-use Rattle.std.specs.List.{list_any}
-use Rattle.std.proofs.lemmas.Bool.{leb-true, or_cases, not-true, false_from_ne_true, true≢false}
+use Rattle.std.proofs.lemmas.Bool.{leb-true, not-true, false_from_ne_true, true≢false}
 use Rattle.std.proofs.lemmas.Bool.Decides.{nat_tests}
 use Rattle.dutch_order.specs.declared.bracket.Shape.{Shape}
 use Rattle.dutch_order.specs.declared.prefix.Filling.{Filling}
 use Rattle.dutch_order.specs.declared.prefix.Filling.TheVariants.{S1, S2, S2r}
-use Rattle.dutch_order.specs.Prelude.{Frame, Arrangement, arrangements, left_of, paired, residents_of, is_member, by_place, pairs_by_number, IsIn, Begins, BeginsAt, Beginning, GoesOn}
+use Rattle.dutch_order.specs.Prelude.{Frame, Arrangement, arrangements, left_of, paired, residents_of, is_member, by_place, pairs_by_number, IsIn, Begins, BeginsAt, Beginning}
 use Rattle.dutch_order.proofs.CursorSets.{AreLists}
 use Rattle.dutch_sequence.proofs.Orders.{member-in, in-member, IsIn-append, IsIn-front, IsIn-back}
-use Rattle.dutch_listing.proofs.FormArrangements.{form-of, in-moved_down, in-residents, lists-in}
+use Rattle.dutch_listing.proofs.FormArrangements.{in-moved_down, in-residents, lists-in}
 use Rattle.dutch_order.proofs.NoneTwice.{in-left}
 use Rattle.dutch_candidates.specs.declared.wish.Wish.{Wish}
 use Rattle.dutch_candidates.specs.declared.wish.Wish.TheVariants.{Pair, LeftOver}
-use Rattle.dutch_bracket.specs.Prelude.{fixed_lists, lists_by}
-use Rattle.dutch_candidates.specs.Wishes.{parts, are_these, grants}
-use Rattle.dutch_choice.specs.Prelude.{has_one_of, s1_bars, s1r_bars, halves_bar, rules_out}
+use Rattle.dutch_candidates.specs.Wishes.{are_these, grants}
+use Rattle.dutch_choice.specs.Prelude.{half_pairs, has_one_of, s1_bars, s1r_bars, halves_bar, rules_out}
 use Rattle.dutch_bracket.proofs.AnyLemmas.{found_in}
-use Rattle.dutch_candidates.proofs.WishFits.{none_parted, place_of}
-use Rattle.dutch_listing.proofs.Blocks.{goes-whole}
+use Rattle.dutch_candidates.proofs.WishFits.{place_of}
 
 -- a pair that is of two players, in one order or the other
 abbrev pub Are : ℕ → ℕ → ℕ × ℕ → Type 0
@@ -27,51 +24,6 @@ Are p q pair = ((pair.0 ≡ p) × (pair.1 ≡ q)) ⊎ ((pair.0 ≡ q) × (pair.1
 
 pub are_so : (p q : ℕ) (pair : ℕ × ℕ) → are_these p q pair ≡ true → Are p q pair
 are_so p q pair h = grind (arith, nat_tests)
-
--- ---- the pairs of a beginning are pairs of each arrangement that begins so
-
-place_on : (pair : ℕ × ℕ) (xs ys rest : List ℕ) → IsIn pair (by_place xs ys) → IsIn pair (by_place xs (ys ++ rest))
-place_on pair [] ys rest m = absurd m
-place_on pair (x ∷ xs) [] rest m = absurd m
-place_on pair (x ∷ xs) (y ∷ ys) rest m = grind (arith, place_on pair xs ys rest)
-
-goes_on : (pair : ℕ × ℕ) (xs ys xs' ys' : List ℕ) → xs ≡ xs' → GoesOn ys ys' → IsIn pair (by_place xs ys) → IsIn pair (by_place xs' ys')
-goes_on pair xs ys xs' ys' same on m =
-    subst (λ zs. IsIn pair (by_place zs ys')) same (subst (λ zs. IsIn pair (by_place xs zs)) (sym on.is) (place_on pair xs ys on.rest m))
-
-pairs_stay : (filling : Filling) (lists a : Arrangement) (pair : ℕ × ℕ) → BeginsAt filling lists a → IsIn pair (pairs_by_number (lists_by filling lists))
-    → IsIn pair (pairs_by_number a)
-pairs_stay S1 lists a pair h m = absurd m
-pairs_stay S2 lists a pair h m =
-    elim (IsIn-append pair (by_place lists.s1 lists.s2) [] m) [
-      | inl first ↦ IsIn-front pair (by_place a.s1 a.s2) (by_place a.s1r a.s2r) (goes_on pair lists.s1 lists.s2 a.s1 a.s2 h.0 h.1 first)
-      | inr none ↦ absurd none
-    ]
-pairs_stay S2r lists a pair h m =
-    elim (IsIn-append pair (by_place lists.s1 lists.s2) (by_place lists.s1r lists.s2r) m) [
-      | inl first ↦
-          IsIn-front pair (by_place a.s1 a.s2) (by_place a.s1r a.s2r) (goes_on pair lists.s1 lists.s2 a.s1 a.s2 h.0 (goes-whole lists.s2 a.s2 h.1) first)
-      | inr second ↦
-          IsIn-back pair (by_place a.s1 a.s2) (by_place a.s1r a.s2r) (goes_on pair lists.s1r lists.s2r a.s1r a.s2r h.2 h.3 second)
-    ]
-
-front_of : (z : ℕ) (xs ys : List ℕ) → GoesOn xs ys → IsIn z xs → IsIn z ys
-front_of z xs ys on m = subst (IsIn z) (sym on.is) (IsIn-front z xs on.rest m)
-
--- so are its players
-join : (z : ℕ) (xs ys xs' ys' : List ℕ) → (IsIn z xs → IsIn z xs') → (IsIn z ys → IsIn z ys') → IsIn z (xs ++ ys) → IsIn z (xs' ++ ys')
-join z xs ys xs' ys' f g m =
-    elim (IsIn-append z xs ys m) [ inl first ↦ IsIn-front z xs' ys' (f first) | inr second ↦ IsIn-back z xs' ys' (g second) ]
-
-players_stay : (filling : Filling) (lists a : Arrangement) (z : ℕ) → BeginsAt filling lists a → IsIn z (paired (lists_by filling lists)) → IsIn z (paired a)
-players_stay S1 lists a z h m = absurd m
-players_stay S2 lists a z h m =
-    join z lists.s1 (lists.s2 ++ []) a.s1 (a.s2 ++ (a.s1r ++ a.s2r)) (λ n. subst (IsIn z) h.0 n)
-    (join z lists.s2 [] a.s2 (a.s1r ++ a.s2r) (front_of z lists.s2 a.s2 h.1) (λ none. absurd none)) m
-players_stay S2r lists a z h m =
-    join z lists.s1 (lists.s2 ++ (lists.s1r ++ lists.s2r)) a.s1 (a.s2 ++ (a.s1r ++ a.s2r)) (λ n. subst (IsIn z) h.0 n)
-    (join z lists.s2 (lists.s1r ++ lists.s2r) a.s2 (a.s1r ++ a.s2r) (λ n. subst (IsIn z) h.1 n)
-    (join z lists.s1r lists.s2r a.s1r a.s2r (λ n. subst (IsIn z) h.2 n) (front_of z lists.s2r a.s2r h.3))) m
 
 -- ---- who is where in the pairs of an arrangement
 
@@ -173,30 +125,25 @@ module _ (frame : Frame) (shape : Shape) (a : Arrangement) (within : frame.mdps 
     halves_apart false false h g filling beginning begins bars = s1r_apart filling beginning begins (high_first (beyond p h) (beyond q g)) bars
 
 -- where a beginning rules a wish out, no arrangement that begins so grants it
-pair_out : (frame : Frame) (shape : Shape) (p q : ℕ) (b : Beginning) (a : Arrangement) → frame.mdps ≤ length frame.scores → shape.mdps ≤ shape.pairs
-    → IsIn a (arrangements frame shape) → Begins b a → rules_out frame.mdps (Pair p q) b ≡ true → grants (Pair p q) a ≡ true → ⊥
-pair_out frame shape p q b a within fewer m begins out granted =
-    let lists = lists-in frame shape a within m in
+pair_out : (frame : Frame) (shape : Shape) (p q : ℕ) (b : Beginning) (a : Arrangement) → frame.mdps ≤ length frame.scores → IsIn a (arrangements frame shape) → Begins b a
+    → rules_out frame.mdps (Pair p q) b ≡ true → grants (Pair p q) a ≡ true → ⊥
+pair_out frame shape p q b a within m begins out granted =
     let found = found_in (are_these p q) (pairs_by_number a) granted in
-    let are = are_so p q found.0 found.2 in
-    elim (or_cases (list_any (parts p q) (pairs_by_number (fixed_lists b))) _ out) [
-      | inl others ↦
-          let other = found_in (parts p q) (pairs_by_number (fixed_lists b)) others in
-          true≢false (sym other.2 ∙ none_parted p q (pairs_by_number a) (form-of frame shape a within fewer m).none_twice granted other.0
-          (pairs_stay b.filling b.lists a other.0 begins other.1))
-      | inr halves ↦
-          halves_apart frame shape a within lists p q found.0 found.1 are (nat_le p frame.mdps) (nat_le q frame.mdps) refl refl b.filling b.lists begins halves
-    ]
+    halves_apart frame shape a within (lists-in frame shape a within m) p q found.0 found.1 (are_so p q found.0 found.2) (nat_le p frame.mdps) (nat_le q frame.mdps) refl refl b.filling b.lists
+    begins out
 
-over_out : (p : ℕ) (b : Beginning) (a : Arrangement) → Begins b a → is_member p (paired (fixed_lists b)) ≡ true → grants (LeftOver p) a ≡ false
-over_out p b a begins out =
-    ap not (in-member p (paired a) (players_stay b.filling b.lists a p begins (member-in p (paired (fixed_lists b)) out)))
+half_in : (filling : Filling) (lists a : Arrangement) (p : ℕ) → BeginsAt filling lists a → half_pairs filling p lists ≡ true → IsIn p (paired a)
+half_in S1 lists a p h out = absurd (true≢false (sym out))
+half_in S2 lists a p h out = IsIn-front p a.s1 (a.s2 ++ (a.s1r ++ a.s2r)) (subst (IsIn p) h.0 (member-in p lists.s1 out))
+half_in S2r lists a p h out =
+    IsIn-back p a.s1 (a.s2 ++ (a.s1r ++ a.s2r))
+    (IsIn-back p a.s2 (a.s1r ++ a.s2r) (IsIn-front p a.s1r a.s2r (subst (IsIn p) h.2 (member-in p lists.s1r out))))
 
-pub ruled_out : (frame : Frame) (shape : Shape) (wish : Wish) (b : Beginning) (a : Arrangement) → frame.mdps ≤ length frame.scores → shape.mdps ≤ shape.pairs
+pub ruled_out : (frame : Frame) (shape : Shape) (wish : Wish) (b : Beginning) (a : Arrangement) → frame.mdps ≤ length frame.scores
     → IsIn a (arrangements frame shape) → Begins b a → rules_out frame.mdps wish b ≡ true → grants wish a ≡ false
-ruled_out frame shape (Pair p q) b a within fewer m begins out =
-    false_from_ne_true (grants (Pair p q) a) (pair_out frame shape p q b a within fewer m begins out)
-ruled_out frame shape (LeftOver p) b a within fewer m begins out = over_out p b a begins out
+ruled_out frame shape (Pair p q) b a within m begins out =
+    false_from_ne_true (grants (Pair p q) a) (pair_out frame shape p q b a within m begins out)
+ruled_out frame shape (LeftOver p) b a within m begins out = ap not (in-member p (paired a) (half_in b.filling b.lists a p begins out))
 
 -- two residents of whom S1R has both or neither do not meet
 pub halves_out : (frame : Frame) (shape : Shape) (p q : ℕ) (a : Arrangement) → frame.mdps ≤ length frame.scores → IsIn a (arrangements frame shape) → frame.mdps < p → frame.mdps < q

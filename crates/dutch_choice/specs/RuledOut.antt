@@ -1,14 +1,11 @@
--- Beginnings of arrangements that rule a wish out (C.04.3 B.6, B.7). What skips candidates stands on these; a reader of its promise may
--- pass them by.
+-- Beginnings of arrangements that rule a wish out by their first halves (C.04.3 B.6, B.7). What skips candidates stands on these; a reader
+-- of its promise may pass them by.
 use Rattle.std.specs.Prelude.{ℕ, Bool, true, false, not, ◌&&◌, ◌||◌, nat_le, List}
-use Rattle.std.specs.List.{list_any}
 use Rattle.dutch_order.specs.declared.prefix.Filling.{Filling}
 use Rattle.dutch_order.specs.declared.prefix.Filling.TheVariants.{S1, S2, S2r}
-use Rattle.dutch_order.specs.Prelude.{Arrangement, paired, is_member, pairs_by_number, Beginning}
+use Rattle.dutch_order.specs.Prelude.{Arrangement, is_member, Beginning}
 use Rattle.dutch_candidates.specs.declared.wish.Wish.{Wish}
 use Rattle.dutch_candidates.specs.declared.wish.Wish.TheVariants.{Pair, LeftOver}
-use Rattle.dutch_bracket.specs.Prelude.{fixed_lists}
-use Rattle.dutch_candidates.specs.Wishes.{parts}
 
 -- of two players one alone is in a list
 abbrev pub has_one_of : ℕ → ℕ → List ℕ → Bool
@@ -34,9 +31,13 @@ halves_bar true false filling p q lists = s1_bars filling p q lists
 halves_bar false true filling p q lists = s1_bars filling p q lists
 halves_bar false false filling p q lists = s1r_bars filling p q lists
 
--- a beginning in a bracket with so many moved-down players rules a wish out: one of the two has another opponent already, or the first
--- halves keep them apart; the one is paired
+-- whoever is in a first half is in a pair
+abbrev pub half_pairs : Filling → ℕ → Arrangement → Bool
+half_pairs S1 p lists = false
+half_pairs S2 p lists = is_member p lists.s1
+half_pairs S2r p lists = is_member p lists.s1r
+
+-- a beginning in a bracket with so many moved-down players rules a wish out by its first halves: they keep the two apart; they have the one
 abbrev pub rules_out : ℕ → Wish → Beginning → Bool
-rules_out mdps (Pair p q) b =
-    list_any (parts p q) (pairs_by_number (fixed_lists b)) || halves_bar (nat_le p mdps) (nat_le q mdps) b.filling p q b.lists
-rules_out mdps (LeftOver p) b = is_member p (paired (fixed_lists b))
+rules_out mdps (Pair p q) b = halves_bar (nat_le p mdps) (nat_le q mdps) b.filling p q b.lists
+rules_out mdps (LeftOver p) b = half_pairs b.filling p b.lists

@@ -1,19 +1,20 @@
 // The choice in a bracket (C.04.3 B.8): its shape, and the first candidate of it that none is better than, by any
 // finder.
-ghost use Rattle.std.specs.Prelude.{◌≡◌, IfOk};
+ghost use Rattle.std.specs.Prelude.{◌≡◌, IfOk, None};
 ghost use Rattle.dutch_order.specs.Prelude.{Spends};
-ghost use Rattle.dutch_bracket.specs.Prelude.{IsAbove, HasCandidate, ListsHere};
+ghost use Rattle.dutch_bracket.specs.Prelude.{IsAbove, HasCandidate};
 ghost use Rattle.dutch_choice.specs.Chosen.{IsChoice};
+ghost use Rattle.dutch_choice.specs.Starts.{ListsHere};
 
 use crate::finder::{Finder, FinderRequest};
 use crate::shape::found_shape;
-use dutch_bracket::ByNumber;
 use dutch_bracket::context::Context;
 use dutch_bracket::fault::PairFault;
 use dutch_bracket::quality::Quality;
 use dutch_bracket::reached::Reached;
 use dutch_bracket::shaped::ShapedBracket;
 use dutch_candidates::greatest::Lister;
+use dutch_candidates::narrowed::NarrowedRule;
 use dutch_order::{Budget, Candidate, Shape, Step, Stopped};
 use dutch_player::Field;
 use std::alloc::Global;
@@ -35,11 +36,11 @@ pub enum Choice {
 #[tactic(auto, using(crate::proofs::BestLemmas::choice_is_best, crate::proofs::BestLemmas::shape_has_one))]
 fn chosen_by<F: Finder>(
     context: &Context<'_>,
-    lister: &mut Lister<'_, ByNumber<'_>>,
+    lister: &mut Lister<'_, NarrowedRule<'_>>,
     budget: &mut Budget,
 ) -> Result<Choice, PairFault>
     requires candidate { HasCandidate context.now.facts context.now.reached context.now.lower }
-    requires lists { ListsHere context.now lister.old.listing }
+    requires lists { ListsHere context.now None lister.old.listing }
     ensures answer { IfOk result (IsChoice context.now (budget.new.used ≡ budget.new.limit)) }
     ensures spends { Spends budget.old budget.new }
 {
@@ -72,7 +73,10 @@ pub fn choose_in<F: Finder>(context: &Context<'_>, budget: &mut Budget) -> Resul
     ensures answer { IfOk result (IsChoice context.now (budget.new.used ≡ budget.new.limit)) }
     ensures spends { Spends budget.old budget.new }
 {
-    let rule = context.rule();
+    let rule = NarrowedRule {
+        rule: context.rule(),
+        wish: None,
+    };
     let mut lister = Lister::new(context.frame(), &rule);
     chosen_by::<F>(context, &mut lister, budget)
 }

@@ -8,11 +8,11 @@ ghost use Rattle.dutch_choice.specs.Found.{IsBest, best_wished};
 ghost use Rattle.dutch_choice.specs.Starts.{IsLent};
 
 use crate::start::Start;
-use dutch_bracket::ByNumber;
 use dutch_bracket::fault::PairFault;
 use dutch_bracket::quality::Quality;
 use dutch_bracket::shaped::ShapedBracket;
 use dutch_candidates::greatest::Lister;
+use dutch_candidates::narrowed::NarrowedRule;
 use dutch_candidates::wish::Wish;
 use dutch_order::{Budget, Candidate, Step};
 
@@ -24,7 +24,7 @@ pub struct Best {
 }
 
 /// What a finder is asked for: the best candidate of a shape, of those that grant the wish if there is one. The lister
-/// that is lent with it stands so.
+/// that is lent with it lists by the rules as they are narrowed to the wish, and stands so.
 #[derive(Clone, Copy)]
 pub struct FinderRequest<'a> {
     pub shaped: ShapedBracket<'a>,
@@ -38,10 +38,11 @@ pub trait Finder {
     /// them is better than. `End` says that there is none.
     fn best_of(
         asked: &FinderRequest<'_>,
-        lister: &mut Lister<'_, ByNumber<'_>>,
+        lister: &mut Lister<'_, NarrowedRule<'_>>,
         budget: &mut Budget,
     ) -> Result<Step<Best>, PairFault>
-        requires lister { IsLent asked.now.shaped.context.now asked.now.shaped.shape asked.now.start lister.old }
+        requires lister { IsLent asked.now.shaped.context.now asked.now.wish asked.now.shaped.shape asked.now.start
+            lister.old }
         ensures answer { let context = asked.now.shaped.context.now in
             let best = best_wished context asked.now.wish asked.now.shaped.shape in IfOk result (λ step. MatchStep step
             (IsBest context best) (best ≡ None) (budget.new.used ≡ budget.new.limit)) }
@@ -61,7 +62,10 @@ pub fn best_by<F: Finder>(
         (IsBest context best) (best ≡ None) (budget.new.used ≡ budget.new.limit)) }
     ensures spends { Spends budget.old budget.new }
 {
-    let rule = shaped.context.rule();
+    let rule = NarrowedRule {
+        rule: shaped.context.rule(),
+        wish,
+    };
     let mut lister = Lister::new(shaped.context.frame(), &rule);
     let asked = FinderRequest {
         shaped: *shaped,

@@ -5,7 +5,7 @@
 // a little more: so what costs least has the most pairs, and then the most moved-down players in them. In the
 // penultimate bracket those that a candidate leaves over are paired out with all lower players (C.4), and one has the
 // bye if the number is odd.
-ghost use Rattle.std.specs.Prelude.{◌≡◌, ◌≤◌, ◌*◌, ◌%◌, if◌then◌else◌, slice_index};
+ghost use Rattle.std.specs.Prelude.{◌≡◌, ◌≤◌, ◌*◌, ◌%◌};
 ghost use Rattle.dutch_sequence.specs.declared.numbers.TheConstants.{LIMIT};
 ghost use Rattle.dutch_bracket.specs.Prelude.{IsOf, is_penultimate};
 ghost use Rattle.dutch_choice.specs.ShapeCosts.{alone_cost, any_seat, are_paired_out, are_pair, bye_cost, count_all};

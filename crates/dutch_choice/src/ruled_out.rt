@@ -1,24 +1,12 @@
-// Which beginnings rule a wish out (C.04.3 B.3), by the pairs that they have, and by their first halves: of two who
-// meet, one is in S1 or in S1R, and the other is not. So behind halves that keep the two apart no permutation is looked
-// at.
+// Which beginnings rule a wish out (C.04.3 B.3) by their first halves: of two who meet, one is in S1 or in S1R, and the
+// other is not; whoever is left over is in neither. So behind halves that keep the two apart no permutation is looked
+// at. The pairs of a beginning need no look, as they are listed by rules that are narrowed to the wish.
 ghost use Rattle.std.specs.Prelude.{◌≡◌, ℕ, List, false, nat_le, true};
-ghost use Rattle.std.specs.List.{list_any, zip};
 ghost use Rattle.dutch_order.specs.Prelude.{IsExchange, IsIn};
-ghost use Rattle.dutch_candidates.specs.Wishes.{parts};
-ghost use Rattle.dutch_choice.specs.RuledOut.{has_one_of, s1_bars, s1r_bars, halves_bar, rules_out};
+ghost use Rattle.dutch_choice.specs.RuledOut.{half_pairs, has_one_of, s1_bars, s1r_bars, halves_bar, rules_out};
 
-use dutch_candidates::fixed_lists::fixed_lists;
-use dutch_candidates::wish::{Wish, leave_over, parts};
+use dutch_candidates::wish::Wish;
 use dutch_order::{Exchange, Filling, Prefix};
-
-fn part_in(p: u16, q: u16, firsts: &[u16], seconds: &[u16]) -> bool
-    ensures { result ≡ list_any (parts p q) (zip firsts.now seconds.now) }
-{
-    firsts
-        .iter()
-        .zip(seconds.iter())
-        .any(|(first, second)| parts(p, q, (*first, *second)))
-}
 
 fn has_one_of(p: u16, q: u16, numbers: &[u16]) -> bool
     ensures { result ≡ has_one_of p q numbers.now }
@@ -58,18 +46,23 @@ fn halves_bar(mdps: usize, p: u16, q: u16, prefix: &Prefix<'_>) -> bool
     }
 }
 
-#[tactic(auto, using(dutch_candidates::proofs::WishLemmas::pairs_found))]
+/// Whoever is in a first half is in a pair.
+fn half_pairs(p: u16, prefix: &Prefix<'_>) -> bool
+    ensures { result ≡ half_pairs prefix.now.filling p prefix.now.lists }
+{
+    match prefix.filling() {
+        Filling::S1 => false,
+        Filling::S2 => prefix.s1().contains(&p),
+        Filling::S2r => prefix.s1r().contains(&p),
+    }
+}
+
 pub(crate) fn is_ruled_out(wish: Wish, mdps: usize, prefix: &Prefix<'_>) -> bool
     ensures { result ≡ rules_out mdps wish prefix.now }
 {
-    let lists = fixed_lists(prefix);
     match wish {
-        Wish::Pair(p, q) => {
-            part_in(p, q, lists.s1, lists.s2)
-                || part_in(p, q, lists.s1r, lists.s2r)
-                || halves_bar(mdps, p, q, prefix)
-        }
-        Wish::LeftOver(p) => !leave_over(p, &lists),
+        Wish::Pair(p, q) => halves_bar(mdps, p, q, prefix),
+        Wish::LeftOver(p) => half_pairs(p, prefix),
     }
 }
 

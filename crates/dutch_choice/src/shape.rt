@@ -3,20 +3,20 @@
 ghost use Rattle.std.specs.Prelude.{◌≡◌, Some, None, true, false, filter, IfSome};
 ghost use Rattle.std.specs.Result.{MatchResult};
 ghost use Rattle.dutch_order.specs.Prelude.{MatchFound, Spends};
-ghost use Rattle.dutch_bracket.specs.Prelude.{FitsHere, IsFound, ListsHere, StandsBehindFirst, eligible_here, first_with};
+ghost use Rattle.dutch_bracket.specs.Prelude.{FitsHere, IsFound, eligible_here, first_with};
 ghost use Rattle.dutch_bracket.specs.Prelude.{fits, frame_here, shape_here, shapes_with};
 ghost use Rattle.dutch_choice.specs.ShapeCosts.{IsTooCheap, IsShapeFloor};
-ghost use Rattle.dutch_choice.specs.Starts.{IsFoundShape};
+ghost use Rattle.dutch_choice.specs.Starts.{IsFoundShape, ListsHere, StandsBehindFirst};
 
 use crate::certified::{ShapeFloor, steps_before, told_by_cost};
 use crate::first_candidate::first_eligible;
 use crate::players::Players;
 use crate::start::{FoundShape, Start};
-use dutch_bracket::ByNumber;
 use dutch_bracket::context::Context;
 use dutch_bracket::shaped::ShapedBracket;
 use dutch_candidates::few_steps::decided_in_few_steps;
 use dutch_candidates::greatest::{Lister, Shapes, greatest_shape};
+use dutch_candidates::narrowed::NarrowedRule;
 use dutch_order::{Bracket, Budget, Shape, Stopped};
 
 /// A bracket whose shape is looked for, and what every shape that counts costs at least.
@@ -36,14 +36,16 @@ impl<'a, 'b> ShapesAboveFloor<'a, 'b> {
     }
 }
 
-impl<'a, 'b, 'c> Shapes<ByNumber<'c>> for ShapesAboveFloor<'a, 'b> {
-    ghost use Rattle.dutch_bracket.specs.Prelude.{ListsHere, StandsBehindFirst, eligible_here, frame_here};
+impl<'a, 'b, 'c> Shapes<NarrowedRule<'c>> for ShapesAboveFloor<'a, 'b> {
+    ghost use Rattle.std.specs.Prelude.{None};
+    ghost use Rattle.dutch_bracket.specs.Prelude.{eligible_here, frame_here};
+    ghost use Rattle.dutch_choice.specs.Starts.{ListsHere, StandsBehindFirst};
 
     ghost counting = { λ b. eligible_here b.context.now };
 
     ghost frame = { λ b. frame_here b.context.now };
 
-    ghost lists = { λ b. ListsHere b.context.now };
+    ghost lists = { λ b. ListsHere b.context.now None };
 
     ghost stands = { λ b. StandsBehindFirst b.context.now };
 
@@ -64,7 +66,7 @@ impl<'a, 'b, 'c> Shapes<ByNumber<'c>> for ShapesAboveFloor<'a, 'b> {
 
     fn first(
         &self,
-        lister: &mut Lister<'_, ByNumber<'c>>,
+        lister: &mut Lister<'_, NarrowedRule<'c>>,
         shape: Shape,
         budget: &mut Budget,
     ) -> Result<bool, Stopped> {
@@ -84,12 +86,12 @@ impl<'a, 'b, 'c> Shapes<ByNumber<'c>> for ShapesAboveFloor<'a, 'b> {
 fn drawn(
     context: &Context<'_>,
     found: Option<Shape>,
-    lister: &Lister<'_, ByNumber<'_>>,
+    lister: &Lister<'_, NarrowedRule<'_>>,
 ) -> Option<FoundShape>
     requires found { IsFound (eligible_here context.now) (frame_here context.now) found lister.now.drawn }
     requires stands { IfSome found
         (λ shape. StandsBehindFirst context.now shape lister.now.listing lister.now.drawn) }
-    requires lists { ListsHere context.now lister.now.listing }
+    requires lists { ListsHere context.now None lister.now.listing }
     ensures { IsFoundShape context.now lister.now result }
 {
     match found {
@@ -106,10 +108,10 @@ fn drawn(
 #[tactic(auto, unfolding(dutch_bracket::specs::Brackets::shape_of))]
 pub(crate) fn found_shape<'b>(
     context: &Context<'_>,
-    lister: &mut Lister<'_, ByNumber<'b>>,
+    lister: &mut Lister<'_, NarrowedRule<'b>>,
     budget: &mut Budget,
 ) -> Result<Option<FoundShape>, Stopped>
-    requires lists { ListsHere context.now lister.old.listing }
+    requires lists { ListsHere context.now None lister.old.listing }
     ensures answer { MatchResult result (IsFoundShape context.now lister.new)
         (λ _. budget.new.used ≡ budget.new.limit) }
     ensures spends { Spends budget.old budget.new }
@@ -145,7 +147,10 @@ pub fn shape_of(context: &Context<'_>, budget: &mut Budget) -> Result<Option<Sha
         (budget.new.used ≡ budget.new.limit) }
     ensures spends { Spends budget.old budget.new }
 {
-    let rule = context.rule();
+    let rule = NarrowedRule {
+        rule: context.rule(),
+        wish: None,
+    };
     let mut lister = Lister::new(context.frame(), &rule);
     // One way out, as each one more clears the place of a lister more.
     match found_shape(context, &mut lister, budget) {

@@ -2,7 +2,7 @@
 use Rattle.std.proofs.Common.{◌≡◌, ℕ, Bool, true, false, true≢false, not, ◌||◌, List, ◌++◌, map, Result, Ok, Err, sym, subst}
 use Rattle.std.specs.Result.{IsErr}
 use Rattle.std.proofs.lemmas.Bool.{false_from_ne_true}
-use Rattle.dutch_order.specs.Prelude.{Arrangement, down, MatchDrawn}
+use Rattle.dutch_order.specs.Prelude.{Arrangement, down}
 use Rattle.dutch_sequence.specs.declared.steps.Stopped.{Stopped}
 use Rattle.dutch_player.specs.Prelude.{Facts}
 use Rattle.dutch_bracket.specs.declared.answer.Answer.{Answer}
@@ -45,9 +45,3 @@ pub can_be_chosen_told : (facts : Facts) (reached : Reached) (lower left : List 
 can_be_chosen_told facts reached lower left lists decided stopped kind e h =
     chosen_at decided (is_penultimate reached.kind) (completable facts (downfloaters facts reached lists ++ lower)) stopped kind
     (subst (λ numbers. Decides decided (completable facts (map (seat_of reached.seats) numbers ++ lower)) stopped) e h)
-
--- a no that a test gives
-pub no_by_test : (decided : Result Bool Stopped) (test : Bool) (none stopped : Type 0) → Decides decided test stopped → (test ≡ false → none) → MatchDrawn decided (Unit {0}) none stopped
-no_by_test (Ok true) test none stopped e f = tt
-no_by_test (Ok false) test none stopped e f = f (sym e)
-no_by_test (Err stop) test none stopped e f = e

@@ -1,12 +1,12 @@
 // What the next bracket can be at best, as ghosts tell it (C.04.3 C.7): the most pairs that ghosts with the scores of
 // the downfloaters find there, and the floor of its PSD. It is looked for once a bracket, before any candidate is
 // looked at.
-ghost use Rattle.std.specs.Prelude.{◌≡◌, ◌+◌, ◌-◌, ◌*◌, ◌<◌, ◌≤◌, ◌++◌, false, length, map, slice_index};
+ghost use Rattle.std.specs.Prelude.{◌≡◌, ◌+◌, ◌-◌, ◌*◌, ◌<◌, ◌≤◌, ◌++◌, false, length, map};
 ghost use Rattle.std.specs.Result.{MatchResult};
 ghost use Rattle.arrayvec.specs.ArrayVec.{array_vec_len};
 ghost use Rattle.dutch_order.specs.Prelude.{IsBracket, left_of, Spends};
 ghost use Rattle.dutch_bracket.specs.declared.reached.BracketKind.TheVariants.{Ordinary};
-ghost use Rattle.dutch_bracket.specs.Prelude.{ghost_frame, group_here, IsFlat, repeated, placed_all, seat_of};
+ghost use Rattle.dutch_bracket.specs.Prelude.{ghost_frame, group_here, IsFlat, placed_all, seat_of};
 ghost use Rattle.dutch_bracket.specs.Prelude.{score_at};
 ghost use Rattle.dutch_floors.specs.GhostValues.{first_limbo, first_ghosts, floor_held, ghost_value};
 

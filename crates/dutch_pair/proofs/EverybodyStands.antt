@@ -9,7 +9,7 @@ use Rattle.dutch_player.specs.Prelude.{Facts}
 use Rattle.dutch_bracket.specs.Prelude.{Reached, Choice, bracket, choice, completable, downfloaters, scoregroups, all_pairs}
 use Rattle.dutch_bracket.specs.declared.reached.BracketKind.TheVariants.{Ordinary, Last, Collapsed}
 use Rattle.dutch_bracket.proofs.GroupLemmas.{concat_scoregroups}
-use Rattle.dutch_pair.specs.Prelude.{Round, Pairing, everybody, ending, pairing_in, passing, no_pairing, final_bracket, penultimate_bracket, paired_again, ordinary_bracket, brackets, round, is_reached}
+use Rattle.dutch_pair.specs.Prelude.{Round, Pairing, everybody, ending, pairing_in, passing, no_pairing, final_bracket, penultimate_bracket, paired_again, brackets, round, is_reached}
 use Rattle.dutch_pair.proofs.RoundBy.{final_by, penultimate_by, ordinary_by}
 
 other_of : (x y : Bool) → x ≡ false → (x || y) ≡ true → y ≡ true
@@ -24,9 +24,6 @@ member_of_either x xs ys e =
       | inl yes' ↦ inl yes'
       | inr no' ↦ inr (other_of (is_member x xs) (is_member x ys) no' both)
     ]
-
-member_in_front : (x : ℕ) (xs ys : List ℕ) → is_member x xs ≡ true → is_member x (xs ++ ys) ≡ true
-member_in_front x xs ys e = list_any-append (λ y. eqb y x) xs ys ∙ or_left (is_member x xs) (is_member x ys) e
 
 member_behind : (x : ℕ) (xs ys : List ℕ) → is_member x ys ≡ true → is_member x (xs ++ ys) ≡ true
 member_behind x xs ys e = list_any-append (λ y. eqb y x) xs ys ∙ or_right (is_member x xs) (is_member x ys) e

@@ -7,11 +7,12 @@ use Rattle.dutch_order.specs.Prelude.{Arrangement, Fits, Frame, Passes}
 use Rattle.dutch_player.specs.Prelude.{Facts}
 use Rattle.dutch_pair.specs.declared.stage.Stage.{Stage}
 use Rattle.dutch_candidates.specs.declared.wish.Wish.{Wish}
-use Rattle.dutch_bracket.specs.Prelude.{Context, FitsHere, eligible_here, Reached, frame_of, candidates_of, eligible, is_penultimate, shape_of, fits, has_member}
+use Rattle.dutch_bracket.specs.Prelude.{Context, FitsHere, IsOf, candidates_here, eligible_here, Reached, frame_of, candidates_of, eligible, is_penultimate, shape_of, fits, has_member}
 use Rattle.dutch_candidates.specs.Wishes.{grants}
 use Rattle.dutch_choice.specs.Prelude.{best_wished, NoneGrants, granting, is_better_here, some_grants, with_mdps}
 use Rattle.dutch_pair.specs.Prelude.{above_lower, lower_of, IsStage, choice_of}
 use Rattle.dutch_choice.proofs.BestLemmas.{best_of_some, chosen_is, order_in}
+use Rattle.dutch_choice.proofs.Listings.{narrowed_here, wished_inside}
 use Rattle.dutch_completion.proofs.EligibleLemmas.{eligible_all}
 use Rattle.dutch_bracket.proofs.ShapeLaws.{has_room, none_is_greater}
 use Rattle.dutch_bracket.proofs.ShapeSearch.{fits_by_test}
@@ -36,6 +37,14 @@ kept_at test a rest false e same = same
 any_kept : (test : Arrangement → Bool) (all : List Arrangement) → list_any test all ≡ has_member (filter test all)
 any_kept test [] = refl
 any_kept test (a ∷ rest) = kept_at test a rest (test a) refl (any_kept test rest)
+
+-- a candidate of a bracket grants the wish where one does that is listed by the narrower rules
+pub granted_listed : (context : Context) (shape : Shape) (wish : Wish) (coming : List Arrangement) → IsOf context.facts context.reached → FitsHere context shape
+    → coming ≡ narrowed_here context (Some wish) shape → list_any (grants wish) (candidates_here context shape) ≡ list_any (grants wish) coming
+granted_listed context shape wish coming of' fits listed =
+    any_kept (grants wish) (candidates_here context shape)
+    ∙ ap has_member (wished_inside context (Some wish) shape of' fits (grants wish) (λ a granted. granted))
+    ∙ sym (any_kept (grants wish) (narrowed_here context (Some wish) shape)) ∙ ap (list_any (grants wish)) (sym listed)
 
 module _ (context : Context) (shape : Shape) (wish : Wish) where
   none_at : (t : Bool) → has_member (granting context shape wish) ≡ t → best_wished context (Some wish) shape ≡ None → t ≡ false

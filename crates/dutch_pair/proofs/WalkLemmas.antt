@@ -9,7 +9,7 @@ use Rattle.dutch_sequence.proofs.Skipping.{all-behind}
 use Rattle.dutch_player.specs.Prelude.{Facts}
 use Rattle.dutch_bracket.specs.declared.reached.BracketKind.{BracketKind}
 use Rattle.dutch_bracket.specs.declared.reached.BracketKind.TheVariants.{Ordinary}
-use Rattle.dutch_bracket.specs.Prelude.{score_at, seat_of, AreSeats, Reached, IsAbove, bracket, downfloaters}
+use Rattle.dutch_bracket.specs.Prelude.{score_at, seat_of, AreSeats, IsAbove, bracket, downfloaters}
 use Rattle.dutch_pair.specs.Prelude.{AreRanked, AreAbove, Goes}
 use Rattle.dutch_bracket.proofs.AllLemmas.{all_join}
 use Rattle.dutch_sequence.specs.declared.numbers.TheConstants.{LIMIT}

@@ -18,6 +18,7 @@ use dutch_bracket::fault::PairFault;
 use dutch_bracket::quality::Quality;
 use dutch_bracket::shaped::ShapedBracket;
 use dutch_candidates::greatest::has_room;
+use dutch_candidates::narrowed::NarrowedRule;
 use dutch_candidates::wish::Wish;
 use dutch_choice::barred::rules_out;
 use dutch_choice::finder::{Finder, best_by};
@@ -59,17 +60,19 @@ struct Wished<'a> {
 impl<'a> Bound for Wished<'a> {
     type Room = ();
 
-    ghost use Rattle.std.specs.Prelude.{not};
+    ghost use Rattle.std.specs.Prelude.{Some, not};
     ghost use Rattle.dutch_bracket.specs.Prelude.{frame_here, numbers_meet, number_may_be_left};
-    ghost use Rattle.dutch_candidates.specs.Wishes.{grants};
+    ghost use Rattle.dutch_candidates.specs.Wishes.{grants, left_narrowed, meets_narrowed};
 
     ghost frame = { λ w. frame_here w.shaped.context.now };
 
     ghost shape = { λ w. w.shaped.shape };
 
-    ghost meets = { λ w. numbers_meet w.shaped.context.now.facts w.shaped.context.now.reached };
+    ghost meets = { λ w. meets_narrowed (Some w.wish)
+        (numbers_meet w.shaped.context.now.facts w.shaped.context.now.reached) };
 
-    ghost may_be_left = { λ w. number_may_be_left w.shaped.context.now.facts w.shaped.context.now.reached };
+    ghost may_be_left = { λ w. left_narrowed (Some w.wish)
+        (number_may_be_left w.shaped.context.now.facts w.shaped.context.now.reached) };
 
     ghost is_idle = { λ w a. not (grants w.wish a) };
 
@@ -77,7 +80,7 @@ impl<'a> Bound for Wished<'a> {
 
     fn start(&self, _room: &mut ()) {}
 
-    #[tactic(auto, unfolding(dutch_bracket::specs::Brackets::candidates_of))]
+    #[tactic(auto, using(dutch_choice::proofs::Listings::narrowed_inside), unfolding(dutch_bracket::specs::Brackets::candidates_of))]
     fn cannot_win(&self, prefix: &Prefix<'_>, _room: &mut ()) -> bool {
         rules_out(&self.shaped, self.wish, prefix)
     }
@@ -101,7 +104,10 @@ fn is_granted(wished: &Wished<'_>, budget: &mut Budget) -> Result<bool, Stopped>
     ensures spends { Spends budget.old budget.new }
 {
     let context = wished.shaped.context;
-    let rule = context.rule();
+    let rule = NarrowedRule {
+        rule: context.rule(),
+        wish: Some(wished.wish),
+    };
     let mut candidates = Candidates::new(context.frame(), wished.shaped.shape, &rule);
     loop {
         match candidates.next_within(wished, &mut (), budget) {

@@ -4,7 +4,7 @@ ghost use Rattle.arrayvec.specs.ArrayVec.{array_vec_len};
 ghost use Rattle.dutch_player.specs.declared.float.Float.TheVariants.{Up, Down};
 ghost use Rattle.dutch_bracket.specs.Prelude.{counted, only_if, seats_of, those_in, those_in_pairs};
 ghost use Rattle.dutch_bracket.specs.Prelude.{those_with_topscorers, who_counts, again, has_topscorer, highest_first};
-ghost use Rattle.dutch_bracket.specs.Prelude.{misses, placed_all, quality_in};
+ghost use Rattle.dutch_bracket.specs.Prelude.{misses, placed_all};
 ghost use Rattle.dutch_bracket.specs.Prelude.{floats_down, goes, going_down, going_up, is_uneven};
 ghost use Rattle.dutch_pair.specs.Outcomes.{IsStage};
 

@@ -3,24 +3,24 @@ use Rattle.std.specs.Prelude.{◌≡◌, List, ◌∷◌, Option, None, Bool, tr
 use Rattle.std.specs.Option.{MatchOption}
 use Rattle.dutch_order.specs.Prelude.{Arrangement, down, Candidate, IsIn, Listing, Passes}
 use Rattle.dutch_candidates.specs.declared.greatest.Lister.{Lister}
-use Rattle.dutch_bracket.specs.declared.reached.ByNumber.{ByNumber}
-use Rattle.dutch_bracket.specs.Prelude.{Context, Lists, candidates_here, quality_here, IsOfBracket}
+use Rattle.dutch_candidates.specs.declared.narrowed.NarrowedRule.{NarrowedRule}
+use Rattle.dutch_bracket.specs.Prelude.{Context, candidates_here, quality_here, IsOfBracket}
 use Rattle.dutch_choice.specs.declared.finder.Best.{Best}
 use Rattle.dutch_choice.specs.declared.start.Start.{Start}
-use Rattle.dutch_choice.specs.Prelude.{IsBest, IsLent, best_wished}
+use Rattle.dutch_choice.specs.Prelude.{IsBest, IsLent, ListsHere, best_wished}
 use Rattle.dutch_passes.specs.declared.pass.Pass.{Pass}
 use Rattle.dutch_passes.specs.declared.pass.PassSoFar.{PassSoFar}
 use Rattle.dutch_passes.specs.Kept.{IsKept}
 use Rattle.dutch_passes.specs.Aims.{aim_in, best_near, best_yet, is_idle, loses, is_open}
 use Rattle.dutch_passes.specs.Remembered.{LooksBelow, Remembered}
 
--- a listing is of the bracket of a pass [own]
-abbrev pub ListsFor : Pass → Listing ByNumber → Type 0
-ListsFor pass listing = Lists pass.shaped.context.now.facts pass.shaped.context.now.reached listing
+-- a listing is of the bracket of a pass, by its rules as they are narrowed to what is wished [own]
+abbrev pub ListsFor : Pass → Listing NarrowedRule → Type 0
+ListsFor pass listing = ListsHere pass.shaped.context.now pass.wish listing
 
--- a lister is lent to a pass: it is of its bracket, and stands where it is said to stand [own]
-abbrev pub IsLentFor : Pass → Start → Lister ByNumber → Type 0
-IsLentFor pass start lister = IsLent pass.shaped.context.now pass.shaped.shape start lister
+-- a lister is lent to a pass: it is of its bracket and of what is wished, and stands where it is said to stand [own]
+abbrev pub IsLentFor : Pass → Start → Lister NarrowedRule → Type 0
+IsLentFor pass start lister = IsLent pass.shaped.context.now pass.wish pass.shaped.shape start lister
 
 -- a look-ahead is that of the bracket of a pass [own]
 abbrev pub LooksFor : Pass → Option Remembered → Type 0
@@ -47,7 +47,7 @@ abbrev pub PassesIdle : PassSoFar → List Arrangement → List Arrangement → 
 PassesIdle so_far before after = Passes (λ a. is_idle_to so_far a ≡ true) before after
 
 -- a lister draws the next candidate, once some are skipped that are idle [own]
-abbrev pub Draws : PassSoFar → Lister ByNumber → Lister ByNumber → Type 0
+abbrev pub Draws : PassSoFar → Lister NarrowedRule → Lister NarrowedRule → Type 0
 Draws so_far old new = PassesIdle so_far old.listing.coming (new.drawn.lists ∷ new.listing.coming)
     × (new.drawn.down ≡ down old.listing.frame new.drawn.lists)
 
@@ -64,7 +64,7 @@ abbrev pub near_of : Pass → Option Arrangement
 near_of pass = best_near pass.shaped.context.now pass.wish (aim_in pass.aim) pass.shaped.shape
 
 -- a pass looks through a listing: what it chooses of all is what it chooses of the candidate that it keeps and of those to come
-pub record LooksThrough (pass : Pass) (kept : Option Best) (listing : Listing ByNumber) : Type 0 where
+pub record LooksThrough (pass : Pass) (kept : Option Best) (listing : Listing NarrowedRule) : Type 0 where
   pub chosen : near_of pass ≡ best_of_pass pass kept listing.coming
   pub kept_is : IsKept pass.shaped.context.now kept
   pub inside : (lists : Arrangement) → IsIn lists listing.coming → IsIn lists (candidates_here pass.shaped.context.now pass.shaped.shape)

@@ -12,8 +12,8 @@ ghost use Rattle.dutch_order.specs.declared.bracket.Shape.{Shape};
 
 use crate::pass::PassSoFar;
 use dutch_bracket::quality::{Quality, QualityLists};
-use dutch_bracket::reached::ByNumber;
 use dutch_candidates::greatest::Lister;
+use dutch_candidates::narrowed::NarrowedRule;
 use dutch_candidates::wish::Wish;
 use dutch_order::{Budget, Stopped};
 
@@ -38,7 +38,7 @@ pub trait Guide {
     fn draw(
         &mut self,
         so_far: PassSoFar<'_, '_>,
-        lister: &mut Lister<'_, ByNumber<'_>>,
+        lister: &mut Lister<'_, NarrowedRule<'_>>,
         work: &mut Workroom<Self::Notes>,
         budget: &mut Budget,
     ) -> Result<bool, Stopped>

@@ -14,9 +14,10 @@ ghost use Rattle.dutch_passes.specs.Passes.{SeeksTheSame, near_of, wished_of};
 use crate::guide::Guide;
 use crate::pass::{Pass, PassSoFar, loses};
 use crate::remembered::{Judge, judge_candidate};
-use dutch_bracket::reached::{BracketKind, ByNumber};
+use dutch_bracket::reached::BracketKind;
 use dutch_bracket::spending::at_most;
 use dutch_candidates::greatest::Lister;
+use dutch_candidates::narrowed::NarrowedRule;
 use dutch_candidates::wish::is_wished;
 use dutch_choice::finder::Best;
 use dutch_choice::start::Start;
@@ -29,7 +30,7 @@ use std::mem::take;
 #[derive(Drop)]
 pub struct PassRoom<'a, 'l, 'r, 'n, G: Guide> {
     pub judge: Judge<'a, G>,
-    pub lister: &'l mut Lister<'r, ByNumber<'n>>,
+    pub lister: &'l mut Lister<'r, NarrowedRule<'n>>,
     pub start: Start,
 }
 
@@ -103,7 +104,7 @@ fn begin<G: Guide>(
 /// Goes on with a pass that looks through a listing, to the end of it.
 fn go_on<'a, G: Guide>(
     pass: &'a Pass<'a>,
-    lister: &mut Lister<'_, ByNumber<'_>>,
+    lister: &mut Lister<'_, NarrowedRule<'_>>,
     judge: &mut Judge<'_, G>,
     budget: &mut Budget,
 ) -> Result<(), Stopped>

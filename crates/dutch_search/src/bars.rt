@@ -1,6 +1,6 @@
 // The bars of a pass: what its aim weighs, and the candidate that it keeps. A skipper tells by them and by floors which
 // beginnings a pass may skip.
-ghost use Rattle.std.specs.Prelude.{◌≡◌, Some};
+ghost use Rattle.std.specs.Prelude.{Some};
 ghost use Rattle.dutch_bracket.specs.Prelude.{quality_in};
 ghost use Rattle.dutch_weights.specs.Prelude.{HasBar};
 ghost use Rattle.dutch_passes.specs.Prelude.{aim_in, kept_in};

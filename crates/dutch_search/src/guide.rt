@@ -13,9 +13,9 @@ use crate::both::{BothFloors, LARGE_TURN, TURN_PAIRS, is_large, is_weighed};
 use crate::last_beginning::{LastBeginning, WalkNotes};
 use cheapest::LOOKS_IN_A_STEP;
 use dutch_bracket::quality::Quality;
-use dutch_bracket::reached::ByNumber;
 use dutch_bracket::spending::spend;
 use dutch_candidates::greatest::Lister;
+use dutch_candidates::narrowed::NarrowedRule;
 use dutch_candidates::wish::Wish;
 use dutch_listing::BoundWithRoom;
 use dutch_order::{Budget, Step, Stopped};
@@ -134,7 +134,7 @@ fn count(turn: &Budget, budget: &mut Budget)
 /// Draws the next candidate that is not known to be idle, in one turn.
 fn draw_once(
     skipper: &Skipper<'_, '_>,
-    lister: &mut Lister<'_, ByNumber<'_>>,
+    lister: &mut Lister<'_, NarrowedRule<'_>>,
     work: &mut Workroom<WalkNotes>,
     turn: &mut Budget,
 ) -> Step<()>
@@ -174,7 +174,7 @@ impl<'a> Guide for BothFloors<'a> {
     fn draw(
         &mut self,
         so_far: PassSoFar<'_, '_>,
-        lister: &mut Lister<'_, ByNumber<'_>>,
+        lister: &mut Lister<'_, NarrowedRule<'_>>,
         work: &mut Workroom<WalkNotes>,
         budget: &mut Budget,
     ) -> Result<bool, Stopped> {

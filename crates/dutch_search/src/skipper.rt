@@ -1,8 +1,8 @@
 // What a pass over the candidates of a shape may skip (C.04.3 B.8), specified by the candidates that are idle.
 //
 // A candidate is idle if it cannot be chosen, if it does not grant what is wished, or if it loses: the aim of the pass
-// is better than it, or it is not better than the candidate that is kept. No candidate with a beginning that rules the
-// wish out grants it. Each candidate with a beginning loses if its floor does, a quality that none of these candidates
+// is better than it, or it is not better than the candidate that is kept. The candidates are listed by the rules of the
+// bracket as they are narrowed to the wish, and none with a beginning that rules the wish out grants it. Each candidate with a beginning loses if its floor does, a quality that none of these candidates
 // is better than. With a wish, a floor is enough that holds only for those that grant it, as floors by weight do.
 ghost use Rattle.std.specs.Prelude.{◌≡◌, true, false};
 ghost use Rattle.dutch_bracket.specs.Prelude.{quality_here, HasNoBetter, is_better, next_in, quality_in};
@@ -181,6 +181,7 @@ impl<'a, 'k> Bound for Skipper<'a, 'k> {
     type Room = Workroom<WalkNotes>;
 
     ghost use Rattle.dutch_bracket.specs.Prelude.{frame_here, numbers_meet, number_may_be_left};
+    ghost use Rattle.dutch_candidates.specs.Wishes.{left_narrowed, meets_narrowed};
     ghost use Rattle.dutch_floors.specs.KnownPairs.{AreKnown};
     ghost use Rattle.dutch_passes.specs.Prelude.{is_idle_to};
     ghost use Rattle.dutch_search.specs.Skips.{context_of};
@@ -189,9 +190,11 @@ impl<'a, 'k> Bound for Skipper<'a, 'k> {
 
     ghost shape = { λ s. s.so_far.pass.now.shaped.shape };
 
-    ghost meets = { λ s. numbers_meet (context_of s).facts (context_of s).reached };
+    ghost meets = { λ s. meets_narrowed s.so_far.pass.now.wish
+        (numbers_meet (context_of s).facts (context_of s).reached) };
 
-    ghost may_be_left = { λ s. number_may_be_left (context_of s).facts (context_of s).reached };
+    ghost may_be_left = { λ s. left_narrowed s.so_far.pass.now.wish
+        (number_may_be_left (context_of s).facts (context_of s).reached) };
 
     ghost is_idle = { λ s. is_idle_to s.so_far };
 
@@ -202,7 +205,7 @@ impl<'a, 'k> Bound for Skipper<'a, 'k> {
         work.notes.floors.clear(pass.shaped.context.len());
     }
 
-    #[tactic(auto, using(dutch_passes::proofs::AimLemmas::unwished_is_idle, dutch_passes::proofs::AimLemmas::loser_is_idle, dutch_passes::proofs::AimLemmas::loser_if_open_is_idle), unfolding(dutch_bracket::specs::Brackets::candidates_of))]
+    #[tactic(auto, using(dutch_choice::proofs::Listings::narrowed_inside, dutch_passes::proofs::AimLemmas::unwished_is_idle, dutch_passes::proofs::AimLemmas::loser_is_idle, dutch_passes::proofs::AimLemmas::loser_if_open_is_idle), unfolding(dutch_bracket::specs::Brackets::candidates_of))]
     fn cannot_win(&self, prefix: &Prefix<'_>, work: &mut Workroom<WalkNotes>) -> bool {
         if is_barred(self.so_far.pass, prefix) {
             return true;
@@ -217,7 +220,7 @@ impl<'a, 'k> Bound for Skipper<'a, 'k> {
         self.loses_by_weight(prefix) || self.loses_by_counts(prefix, work)
     }
 
-    #[tactic(auto, using(dutch_passes::proofs::AimLemmas::unwished_is_idle, dutch_passes::proofs::AimLemmas::loser_if_open_is_idle), unfolding(dutch_bracket::specs::Brackets::candidates_of))]
+    #[tactic(auto, using(dutch_choice::proofs::Listings::narrowed_inside, dutch_passes::proofs::AimLemmas::unwished_is_idle, dutch_passes::proofs::AimLemmas::loser_if_open_is_idle), unfolding(dutch_bracket::specs::Brackets::candidates_of))]
     fn cannot_win_with(
         &self,
         prefix: &Prefix<'_>,

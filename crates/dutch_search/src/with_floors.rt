@@ -9,10 +9,11 @@ ghost use Rattle.dutch_floors.specs.Behind.{IsBasisFor};
 
 use crate::both::BothFloors;
 use dutch_bracket::fault::PairFault;
-use dutch_bracket::reached::{ByNumber, Seats};
+use dutch_bracket::reached::Seats;
 use dutch_bracket::shaped::ShapedBracket;
 use dutch_bracket::spending::at_most;
 use dutch_candidates::greatest::Lister;
+use dutch_candidates::narrowed::NarrowedRule;
 use dutch_choice::finder::{Best, Finder, FinderRequest};
 use dutch_floors::floor::Floors;
 use dutch_order::{Budget, Step, Stopped};
@@ -75,7 +76,7 @@ pub struct WithFloors;
 impl Finder for WithFloors {
     fn best_of(
         asked: &FinderRequest<'_>,
-        lister: &mut Lister<'_, ByNumber<'_>>,
+        lister: &mut Lister<'_, NarrowedRule<'_>>,
         budget: &mut Budget,
     ) -> Result<Step<Best>, PairFault> {
         let shaped = asked.shaped;

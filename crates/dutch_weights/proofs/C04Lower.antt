@@ -20,7 +20,7 @@ use Rattle.dutch_weights.specs.declared.scoped.Reach.TheVariants.{Lower}
 use Rattle.dutch_bracket.specs.Completion.{Completable, MayBeLeftOut}
 use Rattle.dutch_bracket.specs.Prelude.{fixed_lists, IsOf, Reached, frame_of, candidates_of, completable, downfloaters, quality_of, AllNumbers, seat_of, seats_may_be_left, seats_meet, number_pairs}
 use Rattle.dutch_candidates.specs.Wishes.{is_wished}
-use Rattle.dutch_weights.specs.Prelude.{Covers, Scope, may_stay, Order, Scoped, any_seat, both_go, both_weigh, bracket_costs, costs_in, goes_down, going_weight, is_inside, least_of, lower_costs, may_pair_out, side_in, added_in, stays_in}
+use Rattle.dutch_weights.specs.Prelude.{Covers, Scope, Order, Scoped, any_seat, both_go, both_weigh, bracket_costs, costs_in, goes_down, going_weight, is_inside, least_of, lower_costs, may_pair_out, added_in, stays_in}
 use Rattle.dutch_weighing.specs.Prelude.{Scale, weight_of, weighing}
 use Rattle.dutch_bracket.proofs.AllLemmas.{all_join}
 use Rattle.dutch_bracket.proofs.ArrangementParts.{numbers_above}

@@ -20,7 +20,7 @@ use Rattle.dutch_bracket.specs.declared.reached.BracketKind.TheVariants.{Ordinar
 use Rattle.dutch_weights.specs.declared.scoped.Reach.TheVariants.{Next}
 use Rattle.dutch_bracket.specs.Prelude.{fixed_lists, IsNext, GoesBelow, JoinsBelow, MayPairBelow, count_below, group_below, score_below, seat_below, NextValue, Quality, IsAbove, Reached, frame_of, is_number, numbers_meet, candidates_of, quality_of, difference, difference_down, score_at, number_pairs}
 use Rattle.dutch_candidates.specs.Wishes.{is_wished}
-use Rattle.dutch_weights.specs.Prelude.{Covers, Scope, is_joined, may_stay, Order, Scoped, are_inside, both_go, bracket_costs, costs_in, goes_down, is_inside, is_number_below, may_meet_below, next_costs, pair_weight_below, side_in, added_in, joins_in, stays_in}
+use Rattle.dutch_weights.specs.Prelude.{Covers, Scope, Order, Scoped, are_inside, both_go, bracket_costs, costs_in, goes_down, is_inside, is_number_below, may_meet_below, next_costs, pair_weight_below, added_in, joins_in, stays_in}
 use Rattle.dutch_weighing.specs.Prelude.{IsNextScale, IsScaleFor, NextScale, Scale, alone_by, weight_below, weight_of, weighing, alone_weight, met_weight, own_weight}
 use Rattle.dutch_bracket.proofs.AllLemmas.{all_join}
 use Rattle.dutch_bracket.proofs.ArrangementParts.{numbers_above}

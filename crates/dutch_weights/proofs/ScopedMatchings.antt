@@ -23,7 +23,7 @@ use Rattle.dutch_candidates.specs.Wishes.{fits_as_left, fits_as_pair, is_wished}
 use Rattle.dutch_weighing.specs.Prelude.{Scale, numbers, weighing}
 use Rattle.dutch_bracket.proofs.AllLemmas.{all_join}
 use Rattle.dutch_bracket.proofs.ArrangementParts.{lists_of, parts_of, subset_members, tuple_members}
-use Rattle.dutch_weighing.proofs.CandidateMatchings.{candidate_is_matching, each, left_legal}
+use Rattle.dutch_weighing.proofs.CandidateMatchings.{candidate_is_matching, each}
 use Rattle.dutch_bracket.proofs.LegalPairs.{legal_of}
 use Rattle.dutch_candidates.proofs.PairedOut.{one_by_one}
 use Rattle.dutch_candidates.proofs.WishFits.{left_fits, pairs_fit}

@@ -165,9 +165,6 @@ module _ (facts : Facts) (reached : Reached) (scale : Scale) (lower : List ℕ) 
     | inr (inr worse) ↦ absurd (let bad : true ≡ false = sym worse ∙ not in cc)
   ]
 
-  pub lighter : weight_of scale f < weight_of scale here → HasNoBetterOn scale.next here (next_in f) → is_better f here ≡ true
-  lighter heavier next = then_worse heavier (no_lighter (omega (arith, heavier)) next)
-
 -- ---- floors that are put
 
 -- all numbers of a bracket are known

@@ -9,7 +9,7 @@ use Rattle.dutch_order.specs.declared.prefix.Filling.TheVariants.{S1, S2, S2r}
 use Rattle.dutch_order.specs.Prelude.{Arrangement, Fits, IsExchange, ExchangeClass, IsIn, Begins, Beginning}
 use Rattle.dutch_player.specs.Prelude.{Facts}
 use Rattle.dutch_candidates.specs.declared.wish.Wish.{Wish}
-use Rattle.dutch_bracket.specs.Prelude.{Context, fixed_lists, NextValue, Quality, IsOf, Reached, frame_of, can_be_chosen, candidates_of, quality_of, number_pairs, next_in}
+use Rattle.dutch_bracket.specs.Prelude.{Context, fixed_lists, NextValue, Quality, IsOf, Reached, frame_of, can_be_chosen, candidates_of, quality_of, number_pairs}
 use Rattle.dutch_candidates.specs.Wishes.{is_wished}
 use Rattle.dutch_weights.specs.Scopes.{Covers, Scope}
 use Rattle.dutch_weighing.specs.Prelude.{HasNoBetterOn, IsOn, IsScale, IsScaleFor, IsScaleHere, Scale, Weighing, weight_above, weight_of}

@@ -2,7 +2,7 @@
 //
 // Whoever finds a matching is not trusted: of its certificate a floor is kept only if the check confirms it. A floor
 // holds for all candidates of the bracket that grant what is wished; where it was asked for only makes it high there.
-ghost use Rattle.std.specs.Prelude.{◌≡◌, ◌<◌, ◌≤◌, length};
+ghost use Rattle.std.specs.Prelude.{◌≡◌, ◌<◌, ◌≤◌};
 ghost use Rattle.std.specs.Result.{MatchResult};
 ghost use Rattle.dutch_sequence.specs.declared.numbers.TheConstants.{LIMIT};
 ghost use Rattle.dutch_order.specs.Prelude.{Spends};

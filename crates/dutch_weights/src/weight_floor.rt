@@ -1,7 +1,7 @@
 // Floors of a bracket by the weight of its candidates (C.04.3 C.6, C.8 to C.19, and C.7 where that is measured), and
 // what they say behind a beginning. They are asked at each beginning that a choice comes to, so an answer takes no
 // memory, and looks at each pair of the beginning once for each floor.
-ghost use Rattle.std.specs.Prelude.{◌≡◌, ◌+◌, ◌-◌, ◌*◌, ◌<◌, ◌≤◌, ◌⊎◌, ◌↔◌, All, IfOk, IfSome, IsTrue, is_some, true};
+ghost use Rattle.std.specs.Prelude.{◌≡◌, ◌+◌, ◌-◌, ◌*◌, ◌<◌, ◌≤◌, ◌↔◌, All, IfOk, IfSome, IsTrue, is_some, true};
 ghost use Rattle.std.specs.Prelude.{drop, length, sum_by, if◌then◌else◌};
 ghost use Rattle.std.specs.List.{zip};
 ghost use Rattle.dual.specs.Prelude.{extra_in, extra_left_in};

@@ -1,6 +1,6 @@
 // Laws of scoregroups, of qualities and the lists that their items stand on, of completable players and of shapes
 // (C.04.3 A.3, A.8, A.9, B.1, C).
-ghost use Rattle.std.specs.Prelude.{◌≡◌, ◌+◌, ◌*◌, ◌<◌, ◌≤◌, ◌⊎◌, ◌↔◌, ℕ, Bool, List, IsPermutation, Option, Some, None};
+ghost use Rattle.std.specs.Prelude.{◌≡◌, ◌+◌, ◌*◌, ◌<◌, ◌≤◌, ◌⊎◌, ◌↔◌, ℕ, Bool, List, IsPermutation, Some, None};
 ghost use Rattle.std.specs.Prelude.{length, slice_index, true, false};
 ghost use Rattle.std.specs.List.{AllByRecursion, concat};
 ghost use Rattle.std.specs.Option.{IsSomeAnd};

@@ -1,12 +1,11 @@
 -- One candidate more that cannot be chosen, one that can, or the end of all candidates.
-use Rattle.std.proofs.Common.{rules, ◌≡◌, sym, ap, refl, ◌∙◌, filter}
-use Rattle.dutch_bracket.specs.declared.reached.ByNumber.{ByNumber}
+use Rattle.std.proofs.Common.{rules, ◌≡◌, None, sym, ap, ◌∙◌, filter}
 use Rattle.dutch_bracket.specs.Prelude.{can_be_chosen_here, candidates_in, candidates_of}
 use Rattle.dutch_bracket.specs.Eligible.{can_be_chosen}
-use Rattle.dutch_bracket.proofs.FlatBrackets.{listed_as}
 use Rattle.dutch_completion.proofs.EligibleLemmas.{eligible_is, passed_more}
 use Rattle.dutch_sequence.proofs.Skipping.{passes-none}
 use Rattle.dutch_sequence.proofs.Spending.{spends-none}
+use Rattle.dutch_choice.proofs.Listings.{listed_narrowed, lists_stay}
 use Rattle.dutch_choice.proofs.first_candidate.first_eligible.Goals as goal
 
 pub loop-left-init : goal.loop-left-init
@@ -20,17 +19,12 @@ loop-left-init c =
     let coming = c.restart.new.self.coming in
     let before = c.args.lister.now.listing in
     let listed : candidates_of facts reached shape ≡ coming =
-    listed_as facts before.rule.field.now reached before.rule.reached.now before.frame shape coming coming
-    c.restart.ensures.coming c.requires.lists.field c.requires.lists.bracket c.requires.lists.frame refl in
+    sym (listed_narrowed context None before c.requires.lists shape coming c.restart.ensures.coming) in
     record {
       same = eligible_is facts reached lower shape ∙ ap (filter (can_be_chosen facts reached lower)) listed;
       passed = passes-none _ _ _ listed;
       shape = c.restart.ensures.shape;
-      lists = record {
-        frame = c.restart.ensures.frame ∙ c.requires.lists.frame;
-        field = ap (λ (rule : ByNumber). rule.field.now) c.restart.ensures.rule ∙ c.requires.lists.field;
-        bracket = ap (λ (rule : ByNumber). rule.reached.now) c.restart.ensures.rule ∙ c.requires.lists.bracket;
-      };
+      lists = lists_stay context None before c.requires.lists c.restart.new.self c.restart.ensures.frame c.restart.ensures.rule;
       spends = spends-none _;
     }
 

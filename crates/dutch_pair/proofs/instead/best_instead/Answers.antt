@@ -1,5 +1,4 @@
 -- The bracket that was read has room for the stage's shape.
-use Rattle.std.proofs.Common.{◌≡◌}
 use Rattle.dutch_pair.proofs.InsteadLemmas.{read_fits}
 use Rattle.dutch_pair.proofs.instead.best_instead.Goals as goal
 

@@ -1,29 +1,47 @@
 -- One candidate more, or the end of all candidates, tells whether one grants the wish.
-use Rattle.std.proofs.Common.{◌||◌, [], ◌∷◌, sym, ap, ◌∙◌}
+use Rattle.std.proofs.Common.{◌||◌, Some, [], ◌∷◌, refl, sym, ap, ◌∙◌}
 use Rattle.std.specs.List.{list_any}
-use Rattle.dutch_player.specs.Prelude.{Facts}
-use Rattle.dutch_sequence.proofs.Spending.{spends-more}
-use Rattle.dutch_bracket.specs.declared.reached.ByNumber.{ByNumber}
-use Rattle.dutch_bracket.specs.Prelude.{Reached, number_may_be_left, numbers_meet}
+use Rattle.dutch_sequence.proofs.Spending.{spends-more, spends-none}
+use Rattle.dutch_candidates.specs.declared.narrowed.NarrowedRule.{NarrowedRule}
 use Rattle.dutch_candidates.specs.Wishes.{grants}
-use Rattle.dutch_pair.proofs.InsteadLemmas.{skipped_same}
+use Rattle.dutch_choice.specs.Prelude.{ListsHere}
+use Rattle.dutch_choice.proofs.Listings.{left_listed, listed_as, lists_stay, meets_listed, sound_here}
+use Rattle.dutch_pair.proofs.InsteadLemmas.{granted_listed, skipped_same}
 use Rattle.dutch_pair.proofs.instead.is_granted.Goals as goal
 
+pub loop-candidate-init : goal.loop-candidate-init
+loop-candidate-init c =
+    let shaped = c.args.wished.now.shaped in
+    let context = shaped.context.now in
+    let wish = c.args.wished.now.wish in
+    let rule : NarrowedRule = record { rule = c.rule.result; wish = Some wish } in
+    let lists : ListsHere context (Some wish) c.new.result = record {
+      frame = c.new.ensures.frame ∙ c.frame.ensures;
+      field = ap (λ (r : NarrowedRule). r.rule.field.now) c.new.ensures.rule ∙ c.rule.ensures.field;
+      bracket = ap (λ (r : NarrowedRule). r.rule.reached.now) c.new.ensures.rule ∙ c.rule.ensures.reached;
+      wished = ap (λ (r : NarrowedRule). r.wish) c.new.ensures.rule;
+    } in
+    record {
+      same = granted_listed context shaped.shape wish c.new.result.coming (sound_here context (Some wish) c.new.result lists) shaped.fits
+          (listed_as context (Some wish) shaped.shape rule c.frame.result.now c.new.result.coming c.rule.ensures.field c.rule.ensures.reached refl c.frame.ensures c.new.ensures.coming);
+      lists = lists;
+      shape = c.new.ensures.shape;
+      spends = spends-none _;
+    }
+
 pub next_within-requires-clause-frame : goal.next_within-requires-clause-frame
-next_within-requires-clause-frame c = sym c.loop-candidate.invariant.frame
+next_within-requires-clause-frame c = sym c.loop-candidate.invariant.lists.frame
 
 pub next_within-requires-clause-shape : goal.next_within-requires-clause-shape
 next_within-requires-clause-shape c = sym c.loop-candidate.invariant.shape
 
 pub next_within-requires-clause-meets : goal.next_within-requires-clause-meets
 next_within-requires-clause-meets c =
-    ap (λ (facts : Facts). numbers_meet facts c.args.wished.now.shaped.context.now.reached) (sym c.loop-candidate.invariant.field)
-    ∙ ap (λ (reached : Reached). numbers_meet c.loop-candidate.candidates.rule.field.now reached) (sym c.loop-candidate.invariant.reached)
+    meets_listed c.args.wished.now.shaped.context.now (Some c.args.wished.now.wish) c.loop-candidate.candidates c.loop-candidate.invariant.lists
 
 pub next_within-requires-clause-may_be_left : goal.next_within-requires-clause-may_be_left
 next_within-requires-clause-may_be_left c =
-    ap (λ (facts : Facts). number_may_be_left facts c.args.wished.now.shaped.context.now.reached) (sym c.loop-candidate.invariant.field)
-    ∙ ap (λ (reached : Reached). number_may_be_left c.loop-candidate.candidates.rule.field.now reached) (sym c.loop-candidate.invariant.reached)
+    left_listed c.args.wished.now.shaped.context.now (Some c.args.wished.now.wish) c.loop-candidate.candidates c.loop-candidate.invariant.lists
 
 pub returns-then-is_granted-clause-answer : goal.returns-then-is_granted-clause-answer
 returns-then-is_granted-clause-answer c =
@@ -45,10 +63,9 @@ loop-candidate-preserved c =
       same = c.loop-candidate.invariant.same
           ∙ skipped_same wish before (c.in-Found.candidate.lists ∷ after) c.in-Found.ensures.answer.0
           ∙ ap (λ t. t || list_any (grants wish) after) (sym c.if-is_granted.ensures);
-      frame = c.in-Found.ensures.frame ∙ c.loop-candidate.invariant.frame;
+      lists = lists_stay c.args.wished.now.shaped.context.now (Some wish) c.loop-candidate.candidates c.loop-candidate.invariant.lists c.next_within.new.self c.in-Found.ensures.frame
+          c.in-Found.ensures.rule;
       shape = c.in-Found.ensures.shape ∙ c.loop-candidate.invariant.shape;
-      field = ap (λ (rule : ByNumber). rule.field.now) c.in-Found.ensures.rule ∙ c.loop-candidate.invariant.field;
-      reached = ap (λ (rule : ByNumber). rule.reached.now) c.in-Found.ensures.rule ∙ c.loop-candidate.invariant.reached;
       spends = spends-more c.loop-candidate.invariant.spends c.in-Found.ensures.spends;
     }
 

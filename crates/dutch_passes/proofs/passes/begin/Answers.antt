@@ -1,9 +1,8 @@
 -- The first candidate that can be chosen is looked at, or all candidates are to come.
-use Rattle.std.proofs.Common.{◌≡◌, refl, subst}
-use Rattle.dutch_bracket.specs.Prelude.{StandsBehindFirst, candidates_of, candidates_here}
-use Rattle.dutch_bracket.proofs.FlatBrackets.{listed_as}
+use Rattle.std.proofs.Common.{subst}
 use Rattle.dutch_choice.specs.declared.start.Start.{Start}
-use Rattle.dutch_choice.specs.Prelude.{StandsAt}
+use Rattle.dutch_choice.specs.Prelude.{StandsAt, StandsBehindFirst}
+use Rattle.dutch_choice.proofs.Listings.{listed_narrowed, sound_here}
 use Rattle.dutch_passes.proofs.BeginLemmas.{begun_anew, begun_behind, drawn_is_here}
 use Rattle.dutch_passes.proofs.passes.begin.Given.{Over}
 use Rattle.dutch_passes.proofs.passes.begin.Goals as goal
@@ -27,12 +26,10 @@ returns-in_ok-consider-in-Drawn-clause-answer g c =
     c.consider.ensures.kept c.in_ok-consider-in-Drawn.ensures.answer
 
 pub returns-in-Anew-clause-answer : goal.returns-in-Anew-clause-answer
-unfolding candidates_of
 returns-in-Anew-clause-answer g c =
     let pass = c.args.pass.now in
+    let context = pass.shaped.context.now in
     let before = c.args.search.now.lister.now.listing in
     let lists = c.requires.lister.0 in
-    let listed : candidates_here pass.shaped.context.now pass.shaped.shape ≡ c.restart.new.self.coming =
-    listed_as pass.shaped.context.now.facts before.rule.field.now pass.shaped.context.now.reached before.rule.reached.now before.frame pass.shaped.shape c.restart.new.self.coming c.restart.new.self.coming
-    c.restart.ensures.coming lists.field lists.bracket lists.frame refl in
-    begun_anew pass c.restart.new.self listed c.restart.ensures.shape
+    begun_anew pass c.restart.new.self (sound_here context pass.wish before lists)
+    (listed_narrowed context pass.wish before lists pass.shaped.shape c.restart.new.self.coming c.restart.ensures.coming) c.restart.ensures.shape

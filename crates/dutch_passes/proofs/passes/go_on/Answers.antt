@@ -5,7 +5,7 @@ use Rattle.dutch_sequence.proofs.Spending.{spends-more}
 use Rattle.dutch_bracket.proofs.LegalPairs.{legal_of}
 use Rattle.dutch_passes.specs.Prelude.{aim_in, near_of}
 use Rattle.dutch_passes.proofs.AimLemmas.{best_last, handed, skipped_same}
-use Rattle.dutch_passes.proofs.BeginLemmas.{lists_stay}
+use Rattle.dutch_choice.proofs.Listings.{lists_stay}
 use Rattle.dutch_passes.proofs.SkippedLemmas.{left_was_there}
 use Rattle.dutch_passes.proofs.passes.go_on.Goals as goal
 
@@ -34,7 +34,7 @@ loop-judge-preserved g c =
         inside = λ lists m. c.loop-judge.invariant.looks.inside lists (left_was_there _ lists before.coming _ found.0 (inr m));
         shape_is = c.in_ok-draw.ensures.shape ∙ c.loop-judge.invariant.looks.shape_is;
       };
-      lists = lists_stay pass before c.draw.new.lister.listing c.in_ok-draw.ensures.frame c.in_ok-draw.ensures.rule c.loop-judge.invariant.lists;
+      lists = lists_stay pass.shaped.context.now pass.wish before c.loop-judge.invariant.lists c.draw.new.lister.listing c.in_ok-draw.ensures.frame c.in_ok-draw.ensures.rule;
       spends = spends-more c.loop-judge.invariant.spends (spends-more c.in_ok-draw.ensures.spends c.consider.ensures.spends);
       look = c.consider.ensures.look;
       guide = subst (λ guide. g.G.Guide.knows guide pass.shaped.context.now pass.shaped.shape pass.wish) (sym c.consider.ensures.guide) c.in_ok-draw.ensures.known;

@@ -1,7 +1,6 @@
 -- The floor of a certificate is one of the bracket's weights in the scope.
 use Rattle.std.proofs.Common.{◌≡◌, sym, ap, subst, ◌∙◌}
 use Rattle.dutch_weights.specs.Prelude.{Scope, IsScaled, ScopedFloor, weighing_of, Weighed}
-use Rattle.dutch_weighing.specs.Prelude.{Weighing}
 use Rattle.dutch_weights.proofs.WeightsBehind.{floor_put}
 use Rattle.dutch_weights.proofs.weight_floor.WeightFloors.check.Goals as goal
 

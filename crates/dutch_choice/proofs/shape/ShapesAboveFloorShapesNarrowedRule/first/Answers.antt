@@ -1,6 +1,6 @@
 -- A shape that is cheap has no candidate that can be chosen.
 use Rattle.dutch_choice.proofs.CheapShapes.{none_of}
-use Rattle.dutch_choice.proofs.shape.ShapesAboveFloorShapesByNumber.first.Goals as goal
+use Rattle.dutch_choice.proofs.shape.ShapesAboveFloorShapesNarrowedRule.first.Goals as goal
 
 pub returns-then-is_too_cheap-clause-answer : goal.returns-then-is_too_cheap-clause-answer
 returns-then-is_too_cheap-clause-answer c =
