@@ -15,17 +15,17 @@ loop-candidate-init c =
     let context = shaped.context.now in
     let wish = c.args.wished.now.wish in
     let rule : NarrowedRule = record { rule = c.rule.result; wish = Some wish } in
-    let lists : ListsHere context (Some wish) c.new.result = record {
-      frame = c.new.ensures.frame ∙ c.frame.ensures;
-      field = ap (λ (r : NarrowedRule). r.rule.field.now) c.new.ensures.rule ∙ c.rule.ensures.field;
-      bracket = ap (λ (r : NarrowedRule). r.rule.reached.now) c.new.ensures.rule ∙ c.rule.ensures.reached;
-      wished = ap (λ (r : NarrowedRule). r.wish) c.new.ensures.rule;
+    let lists : ListsHere context (Some wish) c.new-candidates.result = record {
+      frame = c.new-candidates.ensures.frame ∙ c.frame.ensures;
+      field = ap (λ (r : NarrowedRule). r.rule.field.now) c.new-candidates.ensures.rule ∙ c.rule.ensures.field;
+      bracket = ap (λ (r : NarrowedRule). r.rule.reached.now) c.new-candidates.ensures.rule ∙ c.rule.ensures.reached;
+      wished = ap (λ (r : NarrowedRule). r.wish) c.new-candidates.ensures.rule;
     } in
     record {
-      same = granted_listed context shaped.shape wish c.new.result.coming (sound_here context (Some wish) c.new.result lists) shaped.fits
-          (listed_as context (Some wish) shaped.shape rule c.frame.result.now c.new.result.coming c.rule.ensures.field c.rule.ensures.reached refl c.frame.ensures c.new.ensures.coming);
+      same = granted_listed context shaped.shape wish c.new-candidates.result.coming (sound_here context (Some wish) c.new-candidates.result lists) shaped.fits
+          (listed_as context (Some wish) shaped.shape rule c.frame.result.now c.new-candidates.result.coming c.rule.ensures.field c.rule.ensures.reached refl c.frame.ensures c.new-candidates.ensures.coming);
       lists = lists;
-      shape = c.new.ensures.shape;
+      shape = c.new-candidates.ensures.shape;
       spends = spends-none _;
     }
 
