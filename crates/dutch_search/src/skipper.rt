@@ -2,8 +2,9 @@
 //
 // A candidate is idle if it cannot be chosen, if it does not grant what is wished, or if it loses: the aim of the pass
 // is better than it, or it is not better than the candidate that is kept. The candidates are listed by the rules of the
-// bracket as they are narrowed to the wish, and none with a beginning that rules the wish out grants it. Each candidate with a beginning loses if its floor does, a quality that none of these candidates
-// is better than. With a wish, a floor is enough that holds only for those that grant it, as floors by weight do.
+// bracket as they are narrowed to the wish, and none with a beginning that rules the wish out grants it. Each candidate
+// with a beginning loses if its floor does, a quality that none of these candidates is better than. With a wish, a
+// floor is enough that holds only for those that grant it, as floors by weight do.
 ghost use Rattle.std.specs.Prelude.{◌≡◌, true, false};
 ghost use Rattle.dutch_bracket.specs.Prelude.{quality_here, HasNoBetter, is_better, next_in, quality_in};
 ghost use Rattle.dutch_floors.specs.KnownPairs.{AreKnown};
