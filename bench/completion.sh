@@ -8,14 +8,14 @@ reports=$(cd "${1:-$here/reports}" && pwd)
 work=$(mktemp -d)
 trap 'rm -rf "$work"' EXIT
 mkdir "$work/crates"
-for crate in trf16 trf16_reader dutch_player dutch_sequence dutch_order dual matching dutch_bracket dutch_completion; do
+for crate in trf16_report trf16_reader dutch_player dutch_sequence dutch_arrangements dual matching dutch_bracket dutch_completion; do
     cp -r "$here/../crates/$crate" "$work/crates/$crate"
 done
 mkdir -p "$work/crates/completion/src"
 cp "$here/completion.rattle" "$work/crates/completion/src/main.rt"
 {
-    grep -E '^(trf16|trf16_reader|dutch_player|dutch_sequence|dutch_order|dual|matching|dutch_bracket|dutch_completion):' "$here/../crates.txt"
-    echo 'completion: dutch_completion dutch_bracket dutch_player dutch_order trf16_reader trf16 arrayvec'
+    grep -E '^(trf16_report|trf16_reader|dutch_player|dutch_sequence|dutch_arrangements|dual|matching|dutch_bracket|dutch_completion):' "$here/../crates.txt"
+    echo 'completion: dutch_completion dutch_bracket dutch_player dutch_arrangements trf16_reader trf16_report arrayvec'
 } > "$work/crates.txt"
 set --
 names=

@@ -3,9 +3,9 @@ use Rattle.std.proofs.Common.{◌≡◌, ◌∙◌, ℕ, ◌<◌, Bool, true, fa
 use Rattle.std.specs.Prelude.{is_some}
 use Rattle.std.proofs.lemmas.Bool.{and_from, and_parts, true≢false}
 use Rattle.dutch_player.specs.Prelude.{Facts}
-use Rattle.dutch_pair.specs.Prelude.{Pairing, is_reached, round, visit}
-use Rattle.dutch_pair.proofs.EverybodyStands.{stands_in_one as stands_in_a_bracket}
-use Rattle.dutch_pair.specs.declared.stage.Stage.{Stage}
+use Rattle.dutch_rounds.specs.Prelude.{Pairing, is_reached, round, visit}
+use Rattle.dutch_rounds.proofs.EverybodyStands.{stands_in_one as stands_in_a_bracket}
+use Rattle.dutch_rounds.specs.declared.stage.Stage.{Stage}
 use Rattle.dutch_candidates.specs.declared.wish.Wish.{Wish}
 use Rattle.command_line.specs.InsteadAnswers.{IsRival, decided_in, goes_on, stands_in, stands_in_one, wish_in}
 use Rattle.answer_laws.specs.InsteadLaws.{IsDecidedIn, IsLastOf, IsLastOfOne}

@@ -2,14 +2,14 @@
 use Rattle.std.proofs.Common.{◌≡◌, ◌≢◌, ◌∙◌, ℕ, zero, suc, Bool, true, false, cond, not, ◌&&◌, ◌||◌, ◌==◌, ◌+◌, ◌≤◌, ◌<◌, List, [], ◌∷◌, Option, Some, None, refl, sym, ap, inl, inr, arith, find}
 use Rattle.std.specs.Option.{option_map_or}
 use Rattle.std.proofs.lemmas.Bool.{eq-eqb, eqb-true, true≢false, and_parts, cases_eq}
-use Rattle.dutch_order.specs.Prelude.{numbers_from}
+use Rattle.dutch_arrangements.specs.Prelude.{numbers_from}
 use Rattle.dutch_player.specs.Prelude.{Facts, seat_at, opponent_played, clash, colours_allow, is_absolute, is_topscorer, is_same, preference}
 use Rattle.dutch_player.specs.declared.preference.Strength.{Strength}
 use Rattle.dutch_player.specs.declared.preference.Strength.TheVariants.{Absolute, Strong, Mild}
 use Rattle.dutch_player.specs.declared.preference.Pref.{Pref}
-use Rattle.trf16.specs.Prelude.{apart, Sheet, cell_in, rounds_played}
-use Rattle.trf16.specs.declared.cell.Colour.{Colour}
-use Rattle.trf16.specs.declared.cell.Colour.TheVariants.{White, Black}
+use Rattle.trf16_report.specs.Prelude.{apart, Sheet, cell_in, rounds_played}
+use Rattle.trf16_report.specs.declared.cell.Colour.{Colour}
+use Rattle.trf16_report.specs.declared.cell.Colour.TheVariants.{White, Black}
 use Rattle.answer_laws.specs.InsteadLaws.{HaveMetFirst, ColoursClash, StandsAgainstMeeting, StandsAgainstBye}
 use Rattle.player_lines.specs.Obstacles.{against_bye, against_meeting, first_against, first_meeting, has_played, is_even}
 use Rattle.player_lines.specs.declared.obstacle.Obstacle.{Obstacle}

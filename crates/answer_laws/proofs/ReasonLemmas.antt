@@ -2,19 +2,19 @@
 use Rattle.std.proofs.Common.{◌≡◌, ◌∙◌, ℕ, ◌<◌, ◌≤◌, ◌⊎◌, inl, inr, true, false, ◌&&◌, List, [], ◌∷◌, refl, sym, ap, subst, arith}
 use Rattle.std.specs.List.{list_any}
 use Rattle.std.proofs.lemmas.Bool.{and_parts, and_from, cases_lt}
-use Rattle.dutch_order.specs.Prelude.{Arrangement, IsIn}
+use Rattle.dutch_arrangements.specs.Prelude.{Arrangement, IsIn}
 use Rattle.dutch_sequence.proofs.Orders.{filter-IsIn}
 use Rattle.dutch_player.specs.Prelude.{Facts}
-use Rattle.dutch_pair.specs.Prelude.{above_lower, lower_of, IsStage, IsInstead}
+use Rattle.dutch_rounds.specs.Prelude.{above_lower, lower_of, IsStage, IsInstead}
 use Rattle.dutch_bracket.specs.Prelude.{frame_of, can_be_chosen, candidates_of, eligible, fits, has_member}
 use Rattle.dutch_candidates.specs.Wishes.{grants}
 use Rattle.dutch_choice.specs.Prelude.{IsBarred, some_grants, with_mdps}
-use Rattle.dutch_pair.specs.declared.instead.Instead.TheVariants.{FewerMovedDown, NoneEligible, NoneLegal}
-use Rattle.dutch_pair.specs.declared.stage.Stage.{Stage}
+use Rattle.dutch_rounds.specs.declared.instead.Instead.TheVariants.{FewerMovedDown, NoneEligible, NoneLegal}
+use Rattle.dutch_rounds.specs.declared.stage.Stage.{Stage}
 use Rattle.dutch_candidates.specs.declared.wish.Wish.{Wish}
 use Rattle.dutch_bracket.proofs.AnyLemmas.{found_in}
 use Rattle.pairing_laws.proofs.BestGranting.{none_by_test}
-use Rattle.dutch_pair.proofs.InsteadLemmas.{stage_shape}
+use Rattle.dutch_rounds.proofs.InsteadLemmas.{stage_shape}
 use Rattle.dutch_bracket.proofs.ShapeLaws.{has_room, none_is_greater, room_by_test}
 use Rattle.answer_laws.specs.InsteadLaws.{IsLegalWith, NoneCanBeChosen, NoneWithAsManyMovedDown, NoneWithAsManyPairs}
 

@@ -1,16 +1,16 @@
 -- What the obstacles say, and the reasons why no candidate grants a wish, in words of their own.
 use Rattle.std.specs.Prelude.{◌≡◌, ◌≢◌, ℕ, ◌<◌, ◌≤◌, ◌⊎◌, ◌&&◌, true, false, List, [], ◌∷◌, ◌++◌, Some}
-use Rattle.dutch_order.specs.Prelude.{Arrangement, Fits, IsIn}
+use Rattle.dutch_arrangements.specs.Prelude.{Arrangement, Fits, IsIn}
 use Rattle.dutch_player.specs.Prelude.{Facts, seat_at, opponent_played, is_topscorer, preference}
 use Rattle.dutch_player.specs.declared.preference.Strength.TheVariants.{Absolute}
 use Rattle.dutch_player.specs.declared.preference.Pref.{Pref}
-use Rattle.dutch_pair.specs.Prelude.{lower_of}
+use Rattle.dutch_rounds.specs.Prelude.{lower_of}
 use Rattle.dutch_bracket.specs.Prelude.{frame_of, can_be_chosen, candidates_of}
 use Rattle.dutch_candidates.specs.Wishes.{grants}
 use Rattle.dutch_choice.specs.Prelude.{with_mdps}
-use Rattle.dutch_pair.specs.declared.stage.Stage.{Stage}
+use Rattle.dutch_rounds.specs.declared.stage.Stage.{Stage}
 use Rattle.dutch_candidates.specs.declared.wish.Wish.{Wish}
-use Rattle.trf16.specs.Prelude.{apart, Sheet, cell_in, rounds_played}
+use Rattle.trf16_report.specs.Prelude.{apart, Sheet, cell_in, rounds_played}
 use Rattle.command_line.specs.InsteadAnswers.{goes_on, stands_in, stands_in_one, wish_in}
 use Rattle.command_line.specs.declared.instead.Rival.{Rival}
 use Rattle.command_line.specs.declared.instead.Rival.TheVariants.{Bye, Seat}

@@ -1,10 +1,10 @@
 // Laws on what is told to a player who asks for another opponent, or for the bye: each reason is true.
 ghost use Rattle.std.specs.Prelude.{◌≡◌, ◌<◌, ℕ, true, List, Some, is_some, length, map};
 ghost use Rattle.dutch_player.specs.Prelude.{Facts};
-ghost use Rattle.trf16.specs.Prelude.{Sheet};
-ghost use Rattle.dutch_pair.specs.Prelude.{above_lower, IsStage, IsInstead, Pairing, round, visit};
-ghost use Rattle.dutch_pair.specs.declared.instead.Instead.TheVariants.{FewerMovedDown, NoneEligible, NoneLegal};
-ghost use Rattle.dutch_pair.specs.declared.stage.Stage.{Stage};
+ghost use Rattle.trf16_report.specs.Prelude.{Sheet};
+ghost use Rattle.dutch_rounds.specs.Prelude.{above_lower, IsStage, IsInstead, Pairing, round, visit};
+ghost use Rattle.dutch_rounds.specs.declared.instead.Instead.TheVariants.{FewerMovedDown, NoneEligible, NoneLegal};
+ghost use Rattle.dutch_rounds.specs.declared.stage.Stage.{Stage};
 ghost use Rattle.dutch_candidates.specs.declared.wish.Wish.{Wish};
 ghost use Rattle.command_line.specs.InsteadAnswers.{decided_in, IsRival};
 ghost use Rattle.command_line.specs.declared.instead.Rival.{Rival};

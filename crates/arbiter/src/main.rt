@@ -14,7 +14,7 @@ use std::cell::Cell;
 use std::io::ErrorKind;
 use std::process::ExitCode;
 use std::{env, io};
-use trf16::Counted;
+use trf16_report::Counted;
 
 fn main(rt: HostRuntime) -> ExitCode {
     let status = match run_on(&rt) {

@@ -6,7 +6,7 @@ use command_line::{Status, run};
 use dutch_search::WithFloors;
 use std::alloc::{AllocError, Global};
 use std::io;
-use trf16::Counted;
+use trf16_report::Counted;
 
 /// A run of the command line, and what must come of it.
 #[derive(Drop)]

@@ -6,8 +6,8 @@ use Rattle.std.specs.Str.Parse.{digits_value, without_leading_plus}
 use Rattle.std.proofs.lemmas.Bool.{leb-true, and_parts, cond_both}
 use Rattle.clap.specs.ValueTests.{is_numeral, is_unsigned_in}
 use Rattle.clap.specs.Words.{Row, Text, one_of, subcommand_of}
-use Rattle.dutch_order.specs.Prelude.{has_syntax}
-use Rattle.trf16.specs.declared.cell.Colour.{Colour}
+use Rattle.dutch_arrangements.specs.Prelude.{has_syntax}
+use Rattle.trf16_report.specs.declared.cell.Colour.{Colour}
 use Rattle.command_line.specs.Known.{CanBeAnswered}
 use Rattle.round_commands.specs.Known.{HasFewRounds}
 use Rattle.requests.specs.Prelude.{boards_options, bye_in, candidates_options, check_options, explain_options, flag_in, format_options, initial_in, number_in, number_of, pair_options, round_in, rounds_in, shown_by, standings_options, steps_in, AsksFor, arbiter_app, candidates_request, explain_request, pair_request, request_of, standings_request, task_by, with_bye}
@@ -18,7 +18,7 @@ use Rattle.requests.specs.declared.options.WordFault.{WordFault}
 use Rattle.requests.specs.declared.words.Task.{Task}
 use Rattle.requests.specs.declared.words.Request.{Request}
 use Rattle.requests.specs.declared.words.Request.TheVariants.{Check, Format, Pair, Boards, Candidates, Explain, Standings}
-use Rattle.trf16.specs.declared.limits.TheConstants.{MOST_ROUNDS}
+use Rattle.trf16_report.specs.declared.limits.TheConstants.{MOST_ROUNDS}
 
 -- what a step gives that met no fault
 not_ok : {A : Type 0} (fault : WordFault) (x : A) → ◌≡◌ {A = Result A WordFault} (Err fault) (Ok x) → ⊥

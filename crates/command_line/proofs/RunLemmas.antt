@@ -3,9 +3,9 @@ use Rattle.std.proofs.Common.{Bool, true, false, nat_lt, ◌≡◌, ◌≤◌, �
 use Rattle.std.specs.Io.KnownBytes.{Consumes, IsAtEnd}
 use Rattle.std.proofs.lemmas.Bool.{cases_lt}
 use Rattle.std.proofs.lemmas.Bool.Decides.{nat_tests}
-use Rattle.trf16.specs.Prelude.{laid_out, verdict, verdict_unsummed}
-use Rattle.trf16.specs.declared.fault.Excess.TheVariants.{Bytes}
-use Rattle.trf16.specs.declared.fault.Fault.TheVariants.{TooMany}
+use Rattle.trf16_report.specs.Prelude.{laid_out, verdict, verdict_unsummed}
+use Rattle.trf16_report.specs.declared.fault.Excess.TheVariants.{Bytes}
+use Rattle.trf16_report.specs.declared.fault.Fault.TheVariants.{TooMany}
 use Rattle.command_line.specs.Commands.{Answers, AnswersReport, verdict_for}
 use Rattle.replies.specs.Prelude.{check_answer, format_verdict, order_text, refusal, with_note, Answer, Reading, IsRead, most_read}
 use Rattle.report_notes.specs.RefusalNotes.{byte_order}
@@ -15,7 +15,7 @@ use Rattle.command_line.specs.Run.{IsAnswered, IsInput}
 use Rattle.requests.specs.declared.words.Request.{Request}
 use Rattle.requests.specs.declared.words.Request.TheVariants.{Check, Format, Pair, Boards, Candidates, Explain, Standings}
 use Rattle.requests.specs.declared.words.Task.{Task}
-use Rattle.trf16.specs.declared.limits.TheConstants.{MOST_BYTES}
+use Rattle.trf16_report.specs.declared.limits.TheConstants.{MOST_BYTES}
 
 -- as many bytes as are read at most are too many for a report
 verdict-long : (bytes : List ℕ) (bye : ℕ) → most_read ≤ length bytes → verdict bytes bye ≡ Err (TooMany Bytes)

@@ -1,7 +1,7 @@
 -- What each command answers to the bytes of its input: a status, and the text that goes with it.
 use Rattle.std.specs.Prelude.{◌≡◌, ℕ, List, Result}
-use Rattle.trf16.specs.Prelude.{Sheet, verdict}
-use Rattle.trf16.specs.declared.fault.Fault.{Fault}
+use Rattle.trf16_report.specs.Prelude.{Sheet, verdict}
+use Rattle.trf16_report.specs.declared.fault.Fault.{Fault}
 use Rattle.round_commands.specs.CandidateAnswers.{AnswersCandidates}
 use Rattle.command_line.specs.ExplainAnswers.{AnswersExplain}
 use Rattle.round_commands.specs.PairAnswers.{AnswersPair}

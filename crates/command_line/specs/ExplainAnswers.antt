@@ -1,11 +1,11 @@
 -- What `explain` answers: the round, bracket by bracket, or what of it one player is told.
 use Rattle.std.specs.Prelude.{◌≡◌, ℕ, IfSome, List, [], ◌++◌, Option, Some, None, Result, Ok, Err}
-use Rattle.dutch_pair.specs.Prelude.{Barrier, Blocks, AreStages}
-use Rattle.dutch_pair.specs.declared.round.AllStages.{AllStages}
-use Rattle.dutch_pair.specs.declared.round.AllStages.TheVariants.{Paired, NoPairing, Undecided}
+use Rattle.dutch_rounds.specs.Prelude.{Barrier, Blocks, AreStages}
+use Rattle.dutch_rounds.specs.declared.round.AllStages.{AllStages}
+use Rattle.dutch_rounds.specs.declared.round.AllStages.TheVariants.{Paired, NoPairing, Undecided}
 use Rattle.dutch_player.specs.Prelude.{Facts, facts_of, seat_with}
 use Rattle.dutch_player.specs.declared.fault.FieldFault.{FieldFault}
-use Rattle.trf16.specs.Prelude.{Sheet}
+use Rattle.trf16_report.specs.Prelude.{Sheet}
 use Rattle.stage_lines.specs.BarrierTexts.{no_pairing_text, reason_text}
 use Rattle.stage_lines.specs.ExplainTexts.{stages_text}
 use Rattle.command_line.specs.InsteadAnswers.{AnswersInstead, PairedRound}

@@ -1,7 +1,7 @@
 -- A run: what is answered to the words and to the bytes of the source, and that it is written.
 use Rattle.std.specs.Prelude.{◌≡◌, ◌⊎◌, ◌+◌, ◌≤◌, ℕ, List, [], Option, None, Some}
 use Rattle.replies.specs.Prelude.{Reading, IsUnread, Answer, out_of_memory, plain, read_fault, most_read, word_text, IsWritten}
-use Rattle.trf16.specs.Prelude.{Use, HasFailed, HasNotFailed}
+use Rattle.trf16_report.specs.Prelude.{Use, HasFailed, HasNotFailed}
 use Rattle.command_line.specs.Commands.{Answers}
 use Rattle.requests.specs.Prelude.{AsksFor, AsksForHelp, AsksWrongly, IsMistaken, meant}
 use Rattle.requests.specs.declared.options.WordFault.{WordFault}

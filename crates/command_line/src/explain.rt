@@ -1,8 +1,8 @@
 // The command `explain`: why the next round is paired as it is, bracket by bracket or for one player.
 ghost use Rattle.std.specs.Prelude.{◌≡◌, ◌≤◌, ◌++◌, IfOk, None, Ok, OnOk};
 ghost use Rattle.std.specs.List.{AllByRecursion};
-ghost use Rattle.dutch_pair.specs.Prelude.{IsStage};
-ghost use Rattle.trf16.specs.Prelude.{verdict};
+ghost use Rattle.dutch_rounds.specs.Prelude.{IsStage};
+ghost use Rattle.trf16_report.specs.Prelude.{verdict};
 ghost use Rattle.dutch_player.specs.Prelude.{seat_with};
 ghost use Rattle.command_line.specs.ExplainAnswers.{AnswersExplain, ExplainsAsked, IsExplained};
 ghost use Rattle.command_line.specs.ExplainAnswers.{AnswersQuestion, IsToldBehind, TellsPaired};
@@ -13,8 +13,8 @@ ghost use Rattle.replies.specs.Prelude.{answer_of, done, question_fault, seen_be
 use crate::instead::{AskedInSteps, Paired, instead};
 use crate::not_paired::{no_pairing_because, undecided};
 use dutch_choice::finder::Finder;
-use dutch_pair::{AllStages, stages};
 use dutch_player::{Field, FieldFault};
+use dutch_rounds::{AllStages, stages};
 use player_lines::{put_absent, put_player};
 use replies::refusal::{cannot_be_asked, cannot_be_paired};
 use replies::views::{not_seen, read_before};
@@ -25,7 +25,7 @@ use round_lines::telling::Telling;
 use round_lines::{Asked, put_round};
 use stage_lines::bracket_lines::put_stages;
 use std::alloc::{AllocError, Global};
-use trf16::Report;
+use trf16_report::Report;
 
 /// What `explain` says of the bytes of a report in which the pairing-allocated bye gives `bye` half points.
 pub fn explain<F: Finder>(

@@ -2,7 +2,7 @@
 ghost use Rattle.std.specs.Prelude.{◌≡◌, ◌≤◌, ◌++◌, IfOk, IfSome, MatchOption, None, OnOk, Some, length};
 ghost use Rattle.std.specs.List.{AllByRecursion};
 ghost use Rattle.dutch_sequence.specs.declared.numbers.TheConstants.{LIMIT};
-ghost use Rattle.dutch_pair.specs.Prelude.{IsStage};
+ghost use Rattle.dutch_rounds.specs.Prelude.{IsStage};
 ghost use Rattle.dutch_candidates.specs.Wishes.{grants};
 ghost use Rattle.command_line.specs.InsteadAnswers.{AnswersInstead, AnswersPresent, AnswersWish, IsSearched};
 ghost use Rattle.command_line.specs.InsteadAnswers.{decided_in};
@@ -15,8 +15,8 @@ ghost use Rattle.replies.specs.Prelude.{answer_of, done};
 
 use crate::not_paired::undecided;
 use dutch_choice::finder::Finder;
-use dutch_pair::{Instead, Stage, Wish, best_instead};
 use dutch_player::Field;
+use dutch_rounds::{Instead, Stage, Wish, best_instead};
 use player_lines::{Obstacle, against_bye, against_meeting, put_obstacle};
 use replies::{Reply, Status};
 use round_lines::Asked;

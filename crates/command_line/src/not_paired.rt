@@ -6,7 +6,7 @@ ghost use Rattle.command_line.specs.ExplainAnswers.{TellsWhy, asked_text, line_t
 ghost use Rattle.command_line.specs.InsteadAnswers.{undecided_in};
 ghost use Rattle.replies.specs.Prelude.{answer_of};
 
-use dutch_pair::{Barrier, barrier_of};
+use dutch_rounds::{Barrier, barrier_of};
 use player_lines::{put_absent, put_player};
 use replies::{Reply, Status};
 use requests::{Question, Wording};

@@ -3,7 +3,7 @@ ghost use Rattle.std.specs.Prelude.{◌≡◌, ◌≤◌, ◌+◌, IfOk, map};
 ghost use Rattle.command_line.specs.Commands.{Answers};
 ghost use Rattle.command_line.specs.Known.{CanBeAnswered};
 ghost use Rattle.replies.specs.Prelude.{out_of_memory, read_fault, reading_of, most_read, answer_of};
-ghost use Rattle.trf16.specs.Prelude.{use_of};
+ghost use Rattle.trf16_report.specs.Prelude.{use_of};
 ghost use Rattle.command_line.specs.Run.{IsAnswer, IsReplyTo, IsRun};
 ghost use Rattle.requests.specs.Prelude.{meant};
 
@@ -18,7 +18,7 @@ use round_commands::boards::boards;
 use round_commands::candidates::candidates;
 use round_commands::pair::pair;
 use std::alloc::{AllocError, Global};
-use trf16::{Sink, Source};
+use trf16_report::{Sink, Source};
 
 /// Carries out what the words after the program's name ask for, over the report that the source
 /// gives, and answers with the status of the program's end.

@@ -4,8 +4,8 @@
 use Rattle.std.proofs.Common.{◌≡◌, ℕ, ◌-◌, ◌/◌, ◌≤◌, Bool, true, false, not, ◌&&◌, ◌||◌, nat_lt, cond, inl, inr, List, [], ◌∷◌, length, Option, Some, None, refl, ap, ◌∙◌, arith}
 use Rattle.std.proofs.lemmas.Bool.{and_from, and_parts, cases_lt}
 use Rattle.std.proofs.lemmas.Bool.Decides.{nat_tests}
-use Rattle.dutch_order.specs.declared.bracket.Shape.{Shape}
-use Rattle.dutch_order.specs.Prelude.{all_meet, IsIn, Frame, Arrangement, arrangements, candidates, is_legal, leaves_one, down}
+use Rattle.dutch_arrangements.specs.declared.bracket.Shape.{Shape}
+use Rattle.dutch_arrangements.specs.Prelude.{all_meet, IsIn, Frame, Arrangement, arrangements, candidates, is_legal, leaves_one, down}
 use Rattle.dutch_sequence.proofs.Orders.{IsIn-filter, IsIn-flat_map, filter-IsIn}
 use Rattle.dutch_player.proofs.PresentLemmas.{or_more}
 use Rattle.dutch_bracket.specs.Prelude.{down_from, fits, greatest_shape, has_member, shapes_with}

@@ -6,11 +6,11 @@ use Rattle.std.specs.Prelude.{sum_by}
 use Rattle.std.proofs.lemmas.List.{map-append}
 use Rattle.std.proofs.lemmas.List.Elements.{filter-append}
 use Rattle.std.proofs.lemmas.List.Sums.{sum_by-append}
-use Rattle.dutch_order.specs.Prelude.{Arrangement, down, Candidate}
+use Rattle.dutch_arrangements.specs.Prelude.{Arrangement, down, Candidate}
 use Rattle.dutch_player.specs.declared.float.Float.{Float}
 use Rattle.dutch_player.specs.declared.float.Float.TheVariants.{Up, Down}
 use Rattle.dutch_player.specs.Prelude.{SeatFacts, Facts}
-use Rattle.trf16.specs.declared.cell.Colour.{Colour}
+use Rattle.trf16_report.specs.declared.cell.Colour.{Colour}
 use Rattle.dutch_bracket.specs.declared.seated.Floater.{Floater}
 use Rattle.dutch_bracket.specs.declared.colours_missed.Miss.TheVariants.{Wide, Third}
 use Rattle.dutch_bracket.specs.Prelude.{seated_so, NotBelow, is_lower, quality, again, count_in, count_with_topscorers, differences, has_topscorer, highest_first, misses, quality_with, Reached, frame_of, downfloaters, quality_of, Seated, all_pairs, by_seats, floats_down, goes_down, goes_up, going_down, going_up, is_uneven, seat_of}

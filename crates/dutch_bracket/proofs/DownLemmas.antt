@@ -1,7 +1,7 @@
 -- Those whom an arrangement leaves over are numbers of the bracket.
 use Rattle.std.proofs.Common.{◌≡◌, ◌<◌, ◌≤◌, ℕ, Bool, not, List, length, arith}
 use Rattle.std.proofs.lemmas.List.{length-map}
-use Rattle.dutch_order.specs.Prelude.{is_member, numbers_from, Arrangement, down, paired}
+use Rattle.dutch_arrangements.specs.Prelude.{is_member, numbers_from, Arrangement, down, paired}
 use Rattle.dutch_sequence.proofs.Members.{filter-length, length-numbers}
 use Rattle.dutch_player.specs.Prelude.{Facts}
 use Rattle.dutch_bracket.specs.Prelude.{Reached, frame_of, AllNumbers, score_at}

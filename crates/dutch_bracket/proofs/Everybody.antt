@@ -1,8 +1,8 @@
 -- Whom an arrangement pairs and whom it leaves over are the players of its bracket, each once: they weigh the same.
 use Rattle.std.proofs.Common.{◌≡◌, ℕ, ◌+◌, ◌-◌, ◌≤◌, List, [], ◌∷◌, ◌++◌, map, length, get_or, refl, sym, ap, ◌∙◌, arith}
 use Rattle.std.proofs.lemmas.List.{length-map}
-use Rattle.dutch_order.specs.declared.bracket.Shape.{Shape}
-use Rattle.dutch_order.specs.Prelude.{numbers_from, IsIn, Frame, Arrangement, down, left_of, residents_of, remainder_pairs, arrangements}
+use Rattle.dutch_arrangements.specs.declared.bracket.Shape.{Shape}
+use Rattle.dutch_arrangements.specs.Prelude.{numbers_from, IsIn, Frame, Arrangement, down, left_of, residents_of, remainder_pairs, arrangements}
 use Rattle.dutch_sequence.proofs.Lists.{map-numbers_from}
 use Rattle.dutch_sequence.proofs.Members.{length-numbers, numbers-append}
 use Rattle.dutch_player.specs.Prelude.{Facts}

@@ -1,7 +1,7 @@
 -- The pairs of an arrangement are those of a beginning that it has, and others: place by place, and so in every sum.
 use Rattle.std.proofs.Common.{◌≡◌, ℕ, ◌+◌, ◌⊎◌, List, [], ◌∷◌, ◌++◌, length, sum_by, inl, inr, refl, sym, ap, subst, ◌∙◌, arith, append-nil, length-append}
 use Rattle.std.proofs.lemmas.List.Sums.{sum_by-append}
-use Rattle.dutch_order.specs.Prelude.{Arrangement, IsIn, GoesOn}
+use Rattle.dutch_arrangements.specs.Prelude.{Arrangement, IsIn, GoesOn}
 use Rattle.dutch_sequence.proofs.Orders.{IsIn-append, IsIn-back, IsIn-front}
 use Rattle.dutch_bracket.specs.Prelude.{seat_of, pairs_of, all_pairs, HasPairsOf, LacksEndOfS2r, beyond}
 

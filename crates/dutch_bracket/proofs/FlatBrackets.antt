@@ -3,8 +3,8 @@ use Rattle.std.proofs.Common.{◌≡◌, ℕ, zero, suc, ◌+◌, ◌-◌, ◌<�
 use Rattle.std.specs.Prelude.{slice_index, Some}
 use Rattle.std.proofs.lemmas.List.{get_or-map}
 use Rattle.std.proofs.lemmas.Bool.{cases_lt}
-use Rattle.dutch_order.specs.declared.bracket.Shape.{Shape}
-use Rattle.dutch_order.specs.Prelude.{IsIn, IsNonAscending, Candidate, Frame, Arrangement, candidates, arrangements, is_legal, down}
+use Rattle.dutch_arrangements.specs.declared.bracket.Shape.{Shape}
+use Rattle.dutch_arrangements.specs.Prelude.{IsIn, IsNonAscending, Candidate, Frame, Arrangement, candidates, arrangements, is_legal, down}
 use Rattle.dutch_player.specs.Prelude.{Facts}
 use Rattle.dutch_bracket.specs.Prelude.{seat_of, score_at, lowest, by_seats, IsCandidate, Reached, frame_of, numbers_meet, number_may_be_left, IsOf, NextValue, psd, IsFirst, greatest_shape, legal_in, psd_in, value_of_shape, IsFlat}
 use Rattle.dutch_bracket.proofs.ArrangementParts.{parts_of}

@@ -5,8 +5,8 @@ use Rattle.std.specs.Prelude.{if◌then◌else◌}
 use Rattle.std.specs.List.{list_any}
 use Rattle.std.proofs.lemmas.List.Folds.{list_any_at}
 use Rattle.std.proofs.lemmas.Bool.{leb-true, leb-false}
-use Rattle.dutch_order.specs.declared.bracket.Shape.{Shape}
-use Rattle.dutch_order.specs.Prelude.{IsIn, Frame, Arrangement, arrangements, down}
+use Rattle.dutch_arrangements.specs.declared.bracket.Shape.{Shape}
+use Rattle.dutch_arrangements.specs.Prelude.{IsIn, Frame, Arrangement, arrangements, down}
 use Rattle.dutch_player.specs.Prelude.{Facts, may_meet}
 use Rattle.dutch_player.proofs.LawLemmas.{meeting_sym}
 use Rattle.dutch_bracket.specs.Prelude.{seat_of, AllNumbers, ghost_pair, may_bye}

@@ -7,7 +7,7 @@ use Rattle.std.specs.declared.cmp.Ordering.{Ordering}
 use Rattle.std.specs.declared.cmp.Ordering.TheVariants.{Less, Equal, Greater}
 use Rattle.std.specs.Ordering.{is_lt, is_ne, ordering_then}
 use Rattle.std.proofs.lemmas.Cmp.{tied_itself}
-use Rattle.dutch_order.specs.Prelude.{IsIn}
+use Rattle.dutch_arrangements.specs.Prelude.{IsIn}
 use Rattle.dutch_bracket.specs.declared.item.Item.{Item}
 use Rattle.dutch_bracket.specs.Prelude.{DifferFirstIn, IsInFrontIn, article, all_items, compared_in, differs, first_difference, first_that_differs, Quality, is_better}
 use Rattle.dutch_bracket.proofs.InTurn.{compared_in_turn, in_turn}

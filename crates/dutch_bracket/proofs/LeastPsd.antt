@@ -6,14 +6,14 @@ use Rattle.std.proofs.lemmas.Bool.{cases_lt, ne_eqb}
 use Rattle.std.proofs.lemmas.Bool.Decides.{nat_tests}
 use Rattle.std.proofs.lemmas.List.{length-map, length-take, get_or-map, get_or-take, get_or_past}
 use Rattle.std.proofs.lemmas.List.Elements.{filter-append}
-use Rattle.dutch_order.specs.declared.bracket.Shape.{Shape}
-use Rattle.dutch_order.specs.Prelude.{numbers_from, subsets, tuples, is_member, IsIn, sorted, lower_first, exchanges, sum_of, limbo_exchanges, score_of, limbo_cmp, Frame, Arrangement, left_of, residents_of, moved_down_scores, remainder_pairs, with_s2r, with_s1r, with_s2, arrangements, is_legal, down}
+use Rattle.dutch_arrangements.specs.declared.bracket.Shape.{Shape}
+use Rattle.dutch_arrangements.specs.Prelude.{numbers_from, subsets, tuples, is_member, IsIn, sorted, lower_first, exchanges, sum_of, limbo_exchanges, score_of, limbo_cmp, Frame, Arrangement, left_of, residents_of, moved_down_scores, remainder_pairs, with_s2r, with_s1r, with_s2, arrangements, is_legal, down}
 use Rattle.dutch_sequence.proofs.HalfWalks.{Climbs}
 use Rattle.dutch_sequence.proofs.Orders.{member_has, IsIn-append, IsIn-map, IsIn-flat_map, is_before-cases}
 use Rattle.dutch_sequence.proofs.Members.{climbs-filter}
 use Rattle.dutch_sequence.proofs.Sets.{subsets-climb, subsets-ascend, sorted-ascends}
 use Rattle.dutch_sequence.proofs.LimboSets.{limbo_key-apart}
-pub use Rattle.dutch_order.proofs.Once.{kept-is_in as in_filter}
+pub use Rattle.dutch_arrangements.proofs.Once.{kept-is_in as in_filter}
 use Rattle.dutch_player.specs.Prelude.{Facts}
 use Rattle.dutch_bracket.specs.Prelude.{seat_of, score_at, all_pairs, lowest, difference, difference_down, Reached, frame_of, numbers_meet, number_may_be_left, one_if, psd, is_lower, lowest_list_upto, lowest_list, legal_in, psd_in, repeated}
 use Rattle.dutch_bracket.proofs.Copies.{copies, Falls, Lower, highest_first_falls, highest_first_copies, not_lower, lower_copies, more_first, same_first}

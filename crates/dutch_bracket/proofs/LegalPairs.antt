@@ -3,8 +3,8 @@ use Rattle.std.proofs.Common.{◌≡◌, ℕ, Bool, true, not, ◌&&◌, ◌==�
 use Rattle.std.specs.Prelude.{filter}
 use Rattle.std.specs.List.{AllByRecursion}
 use Rattle.std.proofs.lemmas.Bool.{and_parts}
-use Rattle.dutch_order.specs.declared.bracket.Shape.{Shape}
-use Rattle.dutch_order.specs.Prelude.{all_meet, IsIn, Arrangement, arrangements, is_legal}
+use Rattle.dutch_arrangements.specs.declared.bracket.Shape.{Shape}
+use Rattle.dutch_arrangements.specs.Prelude.{all_meet, IsIn, Arrangement, arrangements, is_legal}
 use Rattle.dutch_player.specs.Prelude.{Facts, may_meet}
 use Rattle.dutch_bracket.specs.Prelude.{seat_of, pairs_of, all_pairs, Reached, frame_of, is_number, numbers_meet, number_may_be_left, candidates_of}
 use Rattle.dutch_bracket.proofs.AllLemmas.{all_join}

@@ -1,6 +1,6 @@
 -- The lowest of some lists is one of them.
 use Rattle.std.proofs.Common.{◌≡◌, ℕ, true, false, List, [], ◌∷◌, map, cond, inl, inr, refl}
-use Rattle.dutch_order.specs.Prelude.{Arrangement, IsIn}
+use Rattle.dutch_arrangements.specs.Prelude.{Arrangement, IsIn}
 use Rattle.dutch_bracket.specs.Prelude.{is_lower, lowest_list, lowest_list_upto, has_member}
 
 -- a list is that of one of some arrangements

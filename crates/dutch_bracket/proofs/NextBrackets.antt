@@ -7,7 +7,7 @@ use Rattle.std.proofs.lemmas.List.{length-map, get_or-map, map-append, get_or_ap
 use Rattle.std.proofs.lemmas.List.Kept.{IsStrictlyIncreasing-filter}
 use Rattle.std.proofs.lemmas.Simd.{map-map}
 use Rattle.std.proofs.lemmas.Bool.{cases_lt}
-use Rattle.dutch_order.specs.Prelude.{numbers_from, is_member, Candidate, paired}
+use Rattle.dutch_arrangements.specs.Prelude.{numbers_from, is_member, Candidate, paired}
 use Rattle.dutch_sequence.proofs.Counts.{numbers-rise}
 use Rattle.dutch_sequence.proofs.Orders.{Rises, Rises-from}
 use Rattle.dutch_sequence.proofs.Turns.{at_index}

@@ -2,7 +2,7 @@
 use Rattle.std.proofs.Common.{◌≡◌, ℕ, zero, suc, ◌<◌, Bool, true, false, ◌==◌, cond, List, [], ◌∷◌, length, take, get_or, refl, sym, ap, ◌∙◌, subst, arith}
 use Rattle.std.proofs.lemmas.List.{length-take}
 use Rattle.std.proofs.lemmas.Bool.{eqb-true}
-use Rattle.dutch_order.specs.Prelude.{down, Candidate}
+use Rattle.dutch_arrangements.specs.Prelude.{down, Candidate}
 use Rattle.dutch_player.specs.Prelude.{Facts}
 use Rattle.dutch_bracket.specs.Prelude.{score_at, Reached, IsAbove, frame_of, Quality, front_with, first_group, scoregroups, quality_of, IsNext, quality}
 use Rattle.dutch_bracket.proofs.GroupLemmas.{first_group_is}

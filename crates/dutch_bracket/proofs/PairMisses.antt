@@ -1,8 +1,8 @@
 -- If both players of a pair want the same colour, one of them misses their preference; otherwise neither does.
 use Rattle.std.proofs.Common.{◌≡◌, ℕ, ◌+◌, Bool, true, false, not, ◌&&◌, ◌≤◌, if◌then◌else◌, nat_lt, Option, Some, None, refl, sym, ap, ◌∙◌, arith}
 use Rattle.std.specs.Option.{option_map_or}
-use Rattle.trf16.specs.declared.cell.Colour.{Colour}
-use Rattle.trf16.specs.declared.cell.Colour.TheVariants.{White, Black}
+use Rattle.trf16_report.specs.declared.cell.Colour.{Colour}
+use Rattle.trf16_report.specs.declared.cell.Colour.TheVariants.{White, Black}
 use Rattle.dutch_player.specs.declared.preference.Pref.{Pref}
 use Rattle.dutch_player.specs.Prelude.{other, is_same, preference, Facts, SeatFacts, seat_at, granted, with_colour, colour_of_higher, colours}
 use Rattle.dutch_player.proofs.LawLemmas.{granted-pair, same_comm}

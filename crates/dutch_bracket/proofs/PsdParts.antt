@@ -8,7 +8,7 @@ use Rattle.std.proofs.lemmas.Simd.{map-map}
 use Rattle.std.proofs.lemmas.Bool.{ne_eqb}
 use Rattle.std.proofs.Math.Bool.{or-false}
 use Rattle.dutch_sequence.proofs.Lists.{filter-all}
-use Rattle.dutch_order.specs.Prelude.{numbers_from, is_member, Frame, Arrangement, left_of, paired, down}
+use Rattle.dutch_arrangements.specs.Prelude.{numbers_from, is_member, Frame, Arrangement, left_of, paired, down}
 use Rattle.dutch_sequence.proofs.HalfWalks.{Climbs}
 use Rattle.dutch_sequence.proofs.Members.{filter-numbers, numbers-append}
 use Rattle.dutch_sequence.proofs.Counts.{left-append, member-append}

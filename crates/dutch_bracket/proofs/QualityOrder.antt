@@ -7,7 +7,7 @@ use Rattle.std.specs.Cmp.{IsTotalOrder}
 use Rattle.std.specs.Cmp.Lexicographic.{slice_cmp}
 use Rattle.std.proofs.lemmas.Cmp.{then_total, on_total, back_total, nat_cmp_total, nat_list_cmp_total, tied_itself}
 pub use Rattle.dutch_sequence.proofs.Comparing.{both_tied, numbers_tied, lists_tied}
-use Rattle.dutch_order.specs.Prelude.{IsIn}
+use Rattle.dutch_arrangements.specs.Prelude.{IsIn}
 use Rattle.dutch_bracket.specs.declared.item.Item.{Item}
 use Rattle.dutch_bracket.specs.declared.item.Item.TheVariants.{Psd, NextBracket, WideDifferences, ThirdColours, MissedPreferences, MissedStrong, DownAgain, UpAgain, DownAgainBefore, UpAgainBefore, DownAgainBy, UpAgainBy, DownAgainBeforeBy, UpAgainBeforeBy}
 use Rattle.dutch_bracket.specs.Prelude.{Quality, all_items, compared_in, is_better}

@@ -1,7 +1,7 @@
 -- Where a seat stands in a list.
 use Rattle.std.proofs.Common.{◌≡◌, ℕ, zero, suc, ◌<◌, ◌==◌, cond, List, [], ◌∷◌, length, get_or, refl, sym, ap, ◌∙◌, arith, subst, inl, inr}
 use Rattle.std.proofs.lemmas.Bool.{cases_eq, eq-eqb, ne_eqb}
-use Rattle.dutch_order.specs.Prelude.{NoneTwice, IsIn}
+use Rattle.dutch_arrangements.specs.Prelude.{NoneTwice, IsIn}
 
 abbrev pub place_of : ℕ → List ℕ → ℕ
 place_of s [] = 0

@@ -3,8 +3,8 @@ use Rattle.std.proofs.Common.{◌≡◌, ℕ, zero, suc, ◌+◌, ◌-◌, ◌*�
 use Rattle.std.specs.Prelude.{flat_map}
 use Rattle.std.proofs.lemmas.Bool.{and_from, and_parts, cases_Bool, cases_lt}
 use Rattle.std.proofs.lemmas.Bool.Decides.{nat_tests}
-use Rattle.dutch_order.specs.declared.bracket.Shape.{Shape}
-use Rattle.dutch_order.specs.Prelude.{IsIn, Frame, Arrangement, Fits, remainder_pairs}
+use Rattle.dutch_arrangements.specs.declared.bracket.Shape.{Shape}
+use Rattle.dutch_arrangements.specs.Prelude.{IsIn, Frame, Arrangement, Fits, remainder_pairs}
 use Rattle.dutch_sequence.proofs.Orders.{IsIn-append, IsIn-flat_map, IsIn-map, flat_map-IsIn, map-IsIn}
 use Rattle.dutch_player.specs.Prelude.{Facts}
 use Rattle.dutch_bracket.specs.Prelude.{Reached, frame_of, eligible, shape_of, IsGreater, down_from, fits, greatest_shape, has_member, shapes_upto, shapes_with, HasCandidate}

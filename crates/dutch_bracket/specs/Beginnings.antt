@@ -1,10 +1,10 @@
 -- Beginnings of arrangements by the seats of a bracket: which pairs are fixed, and what is still free (C.04.3 B.6, B.7). What bounds
 -- the choice by beginnings stands on these; a reader of its promise may pass them by.
 use Rattle.std.specs.Prelude.{◌≡◌, ℕ, ◌+◌, ◌-◌, ◌*◌, ◌⊎◌, List, [], length, sum_by, ◌≤◌, Bool, true, false, ◌&&◌, nat_le}
-use Rattle.dutch_order.specs.declared.bracket.Shape.{Shape}
-use Rattle.dutch_order.specs.Prelude.{Arrangement, remainder_pairs, GoesOn, Beginning}
-use Rattle.dutch_order.specs.declared.prefix.Filling.{Filling}
-use Rattle.dutch_order.specs.declared.prefix.Filling.TheVariants.{S1, S2, S2r}
+use Rattle.dutch_arrangements.specs.declared.bracket.Shape.{Shape}
+use Rattle.dutch_arrangements.specs.Prelude.{Arrangement, remainder_pairs, GoesOn, Beginning}
+use Rattle.dutch_arrangements.specs.declared.prefix.Filling.{Filling}
+use Rattle.dutch_arrangements.specs.declared.prefix.Filling.TheVariants.{S1, S2, S2r}
 use Rattle.dutch_sequence.specs.declared.numbers.TheConstants.{LIMIT}
 use Rattle.dutch_player.specs.Prelude.{Facts}
 use Rattle.dutch_bracket.specs.Reached.{Reached}

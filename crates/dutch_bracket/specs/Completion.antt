@@ -1,7 +1,7 @@
 -- Which players can be paired out (C.04.3 A.9), and how many steps it may take to tell.
 use Rattle.std.specs.Prelude.{◌≡◌, ℕ, zero, suc, ◌+◌, ◌*◌, ◌<◌, ◌≤◌, Bool, true, false, ◌&&◌, List, [], ◌∷◌, flat_map, map}
 use Rattle.std.specs.List.{list_all, list_any}
-use Rattle.dutch_order.specs.Prelude.{leaves_one}
+use Rattle.dutch_arrangements.specs.Prelude.{leaves_one}
 use Rattle.dutch_sequence.specs.declared.steps.Budget.{Budget}
 use Rattle.dutch_bracket.specs.declared.answer.Answer.{Answer}
 use Rattle.dutch_bracket.specs.declared.answer.Answer.TheVariants.{Yes, No, Undecided}

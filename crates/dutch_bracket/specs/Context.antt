@@ -1,7 +1,7 @@
 -- A bracket that a round reaches in its field, and the lower seats (C.04.3 A.3).
 use Rattle.std.specs.Prelude.{◌≡◌, ℕ, List}
 use Rattle.dutch_player.specs.Prelude.{Facts}
-use Rattle.dutch_order.specs.Prelude.{Frame}
+use Rattle.dutch_arrangements.specs.Prelude.{Frame}
 use Rattle.dutch_bracket.specs.Reached.{Reached, IsAbove, frame_of}
 use Rattle.dutch_bracket.specs.Brackets.{first_group, scoregroups}
 use Rattle.dutch_bracket.specs.Seated.{lowest}

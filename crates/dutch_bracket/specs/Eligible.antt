@@ -1,7 +1,7 @@
 -- Which candidates of a bracket can be chosen, as a test of each (C.04.3 C.4).
 use Rattle.std.specs.Prelude.{◌≡◌, ℕ, true, List}
-use Rattle.dutch_order.specs.Prelude.{Fits}
-use Rattle.dutch_order.specs.declared.bracket.Shape.{Shape}
+use Rattle.dutch_arrangements.specs.Prelude.{Fits}
+use Rattle.dutch_arrangements.specs.declared.bracket.Shape.{Shape}
 use Rattle.dutch_player.specs.Prelude.{Facts}
 use Rattle.dutch_bracket.specs.Reached.{Reached, frame_of}
 use Rattle.dutch_bracket.specs.Brackets.{eligible}

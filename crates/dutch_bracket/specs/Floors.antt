@@ -1,6 +1,6 @@
 -- The quality that no candidate with a beginning is better than (C.04.3 C.6 to C.19).
 use Rattle.std.specs.Prelude.{◌≡◌, ℕ, ◌+◌, ◌≤◌, false, List, length}
-use Rattle.dutch_order.specs.Prelude.{Arrangement}
+use Rattle.dutch_arrangements.specs.Prelude.{Arrangement}
 use Rattle.dutch_player.specs.declared.float.Float.TheVariants.{Up, Down}
 use Rattle.dutch_player.specs.Prelude.{Facts}
 use Rattle.dutch_bracket.specs.declared.colours_missed.Miss.TheVariants.{Wide, Third}

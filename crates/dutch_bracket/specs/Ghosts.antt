@@ -2,8 +2,8 @@
 -- ghosts cannot do, no downfloaters can (C.04.3 C.7).
 use Rattle.std.specs.Prelude.{◌≡◌, ℕ, ◌+◌, ◌-◌, ◌*◌, ◌/◌, ◌⊎◌, ◌<◌, ◌==◌, Bool, false, not, ◌&&◌, ◌||◌, nat_le, if◌then◌else◌, List, ◌++◌, map, length}
 use Rattle.std.specs.List.{list_any}
-use Rattle.dutch_order.specs.declared.bracket.Shape.{Shape}
-use Rattle.dutch_order.specs.Prelude.{Frame}
+use Rattle.dutch_arrangements.specs.declared.bracket.Shape.{Shape}
+use Rattle.dutch_arrangements.specs.Prelude.{Frame}
 use Rattle.dutch_player.specs.Prelude.{Facts, seat_at, may_meet}
 use Rattle.dutch_bracket.specs.NextBracket.{is_lower}
 use Rattle.dutch_bracket.specs.Quality.{NextValue, highest_first}

@@ -1,8 +1,8 @@
 -- What is said of a bracket above its lower seats, by the one record that holds its field, the bracket and those seats: each word here is
 -- the definition of the same name over the three.
 use Rattle.std.specs.Prelude.{ℕ, Bool, List, Option}
-use Rattle.dutch_order.specs.Prelude.{Frame, Arrangement, Fits}
-use Rattle.dutch_order.specs.declared.bracket.Shape.{Shape}
+use Rattle.dutch_arrangements.specs.Prelude.{Frame, Arrangement, Fits}
+use Rattle.dutch_arrangements.specs.declared.bracket.Shape.{Shape}
 use Rattle.dutch_bracket.specs.Context.{Context}
 use Rattle.dutch_bracket.specs.Quality.{Quality}
 use Rattle.dutch_bracket.specs.Reached.{frame_of}

@@ -3,8 +3,8 @@
 use Rattle.std.specs.Prelude.{◌≡◌, ℕ, ◌+◌, ◌-◌, ◌*◌, ◌<◌, ◌≤◌, ◌⊎◌, true, List, ◌++◌, All, length, map, slice_index}
 use Rattle.std.specs.List.{zip}
 use Rattle.dual.specs.Prelude.{MakeUp}
-use Rattle.dutch_order.specs.declared.bracket.Shape.{Shape}
-use Rattle.dutch_order.specs.Prelude.{Arrangement, down, numbers_from, IsIn}
+use Rattle.dutch_arrangements.specs.declared.bracket.Shape.{Shape}
+use Rattle.dutch_arrangements.specs.Prelude.{Arrangement, down, numbers_from, IsIn}
 use Rattle.dutch_player.specs.Prelude.{Facts, may_meet}
 use Rattle.dutch_bracket.specs.Quality.{NextValue, highest_first}
 use Rattle.dutch_bracket.specs.QualityIn.{next_in}

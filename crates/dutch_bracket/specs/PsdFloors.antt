@@ -1,7 +1,7 @@
 -- The PSD that the arrangements with a beginning have, or do not go below (C.04.3 C.6).
 use Rattle.std.specs.Prelude.{◌≡◌, ℕ, zero, suc, ◌+◌, ◌-◌, ◌*◌, ◌<◌, ◌≤◌, ◌⊎◌, List, [], ◌∷◌, ◌++◌, map, length, Bool, ◌||◌, ◌==◌}
-use Rattle.dutch_order.specs.declared.bracket.Shape.{Shape}
-use Rattle.dutch_order.specs.Prelude.{numbers_from, left_of, remainder_pairs}
+use Rattle.dutch_arrangements.specs.declared.bracket.Shape.{Shape}
+use Rattle.dutch_arrangements.specs.Prelude.{numbers_from, left_of, remainder_pairs}
 use Rattle.dutch_player.specs.Prelude.{Facts}
 use Rattle.dutch_bracket.specs.Quality.{highest_first}
 use Rattle.dutch_bracket.specs.Reached.{Reached}

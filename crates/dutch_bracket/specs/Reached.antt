@@ -1,6 +1,6 @@
 -- The brackets that a round reaches (C.04.3 A.3, A.9), by the seats of their players.
 use Rattle.std.specs.Prelude.{◌≡◌, ℕ, ◌+◌, ◌<◌, ◌≤◌, Bool, true, false, ◌&&◌, not, ◌==◌, nat_le, List, map, length, slice_index}
-use Rattle.dutch_order.specs.Prelude.{Frame, IsBracket}
+use Rattle.dutch_arrangements.specs.Prelude.{Frame, IsBracket}
 use Rattle.dutch_bracket.specs.declared.reached.BracketKind.{BracketKind}
 use Rattle.dutch_bracket.specs.declared.reached.BracketKind.TheVariants.{Ordinary, Last, Penultimate, Collapsed}
 use Rattle.dutch_player.specs.Prelude.{Facts, seat_at, may_meet}
@@ -22,7 +22,7 @@ ends_round Last = true
 ends_round Penultimate = false
 ends_round Collapsed = true
 
--- a bracket as `dutch_order` knows it: scores, moved-down players, and whether it ends the round [A.3]
+-- a bracket as `dutch_arrangements` knows it: scores, moved-down players, and whether it ends the round [A.3]
 abbrev pub frame_of : Facts → Reached → Frame
 frame_of facts reached = record {
   scores = map (score_at facts) reached.seats;

@@ -1,6 +1,6 @@
 -- What is said of a bracket above its lower seats with a shape that it has room for.
 use Rattle.std.specs.Prelude.{List}
-use Rattle.dutch_order.specs.Prelude.{Arrangement, Beginning, Begins, IsIn}
+use Rattle.dutch_arrangements.specs.Prelude.{Arrangement, Beginning, Begins, IsIn}
 use Rattle.dutch_bracket.specs.declared.shaped.ShapedBracket.{ShapedBracket}
 use Rattle.dutch_bracket.specs.InContext.{candidates_here, eligible_here}
 

@@ -1,7 +1,7 @@
 -- The shape of a bracket (C.04.3 C.5, B.1): as many pairs as there is an arrangement for, and in them as many moved-down players.
 use Rattle.std.specs.Prelude.{ℕ, zero, suc, ◌+◌, ◌-◌, ◌*◌, ◌/◌, ◌≡◌, ◌<◌, ◌⊎◌, Bool, true, false, not, ◌&&◌, nat_lt, if◌then◌else◌, List, [], ◌∷◌, map, filter, flat_map, length, Option, Some, None, MatchOption}
-use Rattle.dutch_order.specs.declared.bracket.Shape.{Shape}
-use Rattle.dutch_order.specs.Prelude.{Frame, Arrangement, down, remainder_pairs, Candidate}
+use Rattle.dutch_arrangements.specs.declared.bracket.Shape.{Shape}
+use Rattle.dutch_arrangements.specs.Prelude.{Frame, Arrangement, down, remainder_pairs, Candidate}
 
 -- the numbers from one down to 0
 abbrev pub down_from : ℕ → List ℕ

@@ -3,7 +3,7 @@ ghost use Rattle.std.specs.Prelude.{◌≡◌, Ok, true, false};
 ghost use Rattle.std.specs.Result.{IsErr};
 ghost use Rattle.dutch_bracket.specs.Completion.{MatchAnswer};
 
-use dutch_order::Stopped;
+use dutch_arrangements::Stopped;
 
 /// `Yes` if players are completable, `No` if they are not.
 #[derive(Debug, Clone, Copy, PartialEq, Eq)]

@@ -5,9 +5,9 @@ ghost use Rattle.dutch_bracket.specs.Quality.{is_wide, is_third, is_missed, is_s
 ghost use Rattle.dutch_bracket.specs.Quality.{count_in, has_topscorer, count_in_pairs, count_with_topscorers};
 
 use crate::seated::Pair;
-use dutch_order::LIMIT;
+use dutch_arrangements::LIMIT;
 use dutch_player::{Field, Strength};
-use trf16::Colour;
+use trf16_report::Colour;
 
 /// What is wrong with the colour that a player gets.
 #[derive(Clone, Copy)]

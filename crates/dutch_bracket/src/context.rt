@@ -1,7 +1,7 @@
 // A bracket in its field above all lower seats (C.04.3 A.3, A.6). What its shape, its choice and their floors ask of it
 // is read once, when the round reaches it.
 ghost use Rattle.std.specs.Prelude.{◌≡◌, ◌+◌, ◌*◌, ◌<◌, ◌≤◌, length};
-ghost use Rattle.trf16.specs.declared.limits.TheConstants.{MOST_ROUNDS};
+ghost use Rattle.trf16_report.specs.declared.limits.TheConstants.{MOST_ROUNDS};
 ghost use Rattle.dutch_bracket.specs.declared.colours_missed.Miss.TheVariants.{Preference};
 ghost use Rattle.dutch_bracket.specs.declared.reached.BracketKind.TheVariants.{Ordinary};
 ghost use Rattle.dutch_bracket.specs.Quality.{one_if, misses, count_in};
@@ -16,11 +16,11 @@ use crate::colours_missed::is_same;
 use crate::group::split_first_group;
 use crate::reached::{ByNumber, Reached};
 use crate::seated::{Pair, lowest};
-use dutch_order::{Bracket, LIMIT, Rule, Shape};
+use dutch_arrangements::{Bracket, LIMIT, Rule, Shape};
 use dutch_player::{Field, Pref, Strength};
 use std::alloc::Global;
 use std::marker::Model;
-use trf16::Colour;
+use trf16_report::Colour;
 
 /// A bracket of a field above all lower seats by rank.
 #[derive(Drop)]

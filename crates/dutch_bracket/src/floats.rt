@@ -7,7 +7,7 @@ ghost use Rattle.dutch_bracket.specs.Quality.{again, differences, float_of, is_f
 
 use crate::differences::put;
 use crate::seated::{Pair, Seated, difference_down, goes, is_uneven};
-use dutch_order::{LIMIT, Numbers};
+use dutch_arrangements::{LIMIT, Numbers};
 use dutch_player::{Field, Float};
 
 pub fn is_float(float: Float, had: Option<Float>) -> bool

@@ -11,7 +11,7 @@ use crate::differences::fill_psd;
 use crate::floats::{fill_down_again, fill_up_again};
 use crate::reached::push_all;
 use crate::seated::Seated;
-use dutch_order::{Candidate, LIMIT, Numbers};
+use dutch_arrangements::{Candidate, LIMIT, Numbers};
 use dutch_player::Field;
 use std::cmp::Reverse;
 use std::marker::Model;

@@ -1,19 +1,19 @@
-// A bracket that a round reaches, by the seats of its players (C.04.3 A.3, A.9). It has a bracket of `dutch_order`,
+// A bracket that a round reaches, by the seats of its players (C.04.3 A.3, A.9). It has a bracket of `dutch_arrangements`,
 // and a rule by number. `Reached::seat` leads from a number in the bracket to a seat of the field; only `boards` turns
 // seats into start ranks.
 ghost use Rattle.std.specs.Prelude.{◌≡◌, ◌+◌, ◌*◌, ◌≤◌, ◌++◌, ℕ, length, map, slice_index};
 ghost use Rattle.arrayvec.specs.ArrayVec.{array_vec_len};
-ghost use Rattle.dutch_order.specs.Prelude.{IsBracket};
+ghost use Rattle.dutch_arrangements.specs.Prelude.{IsBracket};
 ghost use Rattle.dutch_sequence.specs.declared.numbers.TheConstants.{LIMIT};
 ghost use Rattle.dutch_bracket.specs.Seated.{seat_of, score_at};
 ghost use Rattle.dutch_bracket.specs.Brackets.{bracket, is_penultimate};
-ghost use Rattle.trf16.specs.declared.limits.TheConstants.{MOST_ROUNDS};
+ghost use Rattle.trf16_report.specs.declared.limits.TheConstants.{MOST_ROUNDS};
 ghost use Rattle.dutch_bracket.specs.ColourFloors.{residents_down};
 ghost use Rattle.dutch_bracket.specs.Reached.{IsOf, ends_round, frame_of, is_number, numbers_meet, number_may_be_left};
 
 use crate::seated::seat_of;
 use arrayvec::ArrayVec;
-use dutch_order::{Bracket, LIMIT, Numbers, Rule, Shape};
+use dutch_arrangements::{Bracket, LIMIT, Numbers, Rule, Shape};
 use dutch_player::Field;
 use std::marker::Model;
 
@@ -234,7 +234,7 @@ impl<'a> Rule for ByNumber<'a> {
     }
 
     #[tactic(auto, unfolding(crate::specs::Reached::number_may_be_left))]
-    fn may_be_left(&self, a: u16) -> bool {
+    fn last_ok(&self, a: u16) -> bool {
         self.reached.has(a) && self.field.may_bye(self.reached.seat(a))
     }
 }

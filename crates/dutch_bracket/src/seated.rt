@@ -5,7 +5,7 @@ ghost use Rattle.dutch_bracket.specs.Seated.{seat_of, pairs_of, lowest, lowest_u
 ghost use Rattle.dutch_bracket.specs.Seated.{difference_down, is_uneven, goes, IsCandidate};
 
 use arrayvec::ArrayVec;
-use dutch_order::{Candidate, LIMIT, Numbers};
+use dutch_arrangements::{Candidate, LIMIT, Numbers};
 use dutch_player::{Field, Float};
 use std::marker::Model;
 

@@ -3,7 +3,7 @@
 ghost use Rattle.dutch_bracket.specs.InContext.{FitsHere};
 
 use crate::context::Context;
-use dutch_order::Shape;
+use dutch_arrangements::Shape;
 
 /// A bracket above all lower seats by rank, with a shape that it has room for: players enough for so many pairs, and
 /// moved-down players enough for those in them (C.04.3 C.5).

@@ -1,9 +1,9 @@
 // Steps that are made at once, for so many questions, and one by one.
 ghost use Rattle.std.specs.Prelude.{◌≡◌, ◌+◌, ◌<◌, min};
 ghost use Rattle.std.specs.Result.{MatchResult};
-ghost use Rattle.dutch_order.specs.Prelude.{Spends};
+ghost use Rattle.dutch_arrangements.specs.Prelude.{Spends};
 
-use dutch_order::{Budget, Stopped};
+use dutch_arrangements::{Budget, Stopped};
 
 /// Makes one step. It is stopped only where none is left.
 pub fn step(budget: &mut Budget) -> Result<(), Stopped>

@@ -11,8 +11,8 @@ use Rattle.std.proofs.lemmas.Cmp.{nat_list_cmp_total}
 use Rattle.std.proofs.lemmas.List.{map-append, length-map, nil_from_length}
 use Rattle.std.proofs.lemmas.Map.Lookups.{exact_bytes}
 use Rattle.std.proofs.lemmas.Bool.{eqb-true, or_cases}
-use Rattle.dutch_order.specs.declared.bracket.Shape.{Shape}
-use Rattle.dutch_order.specs.Prelude.{numbers_from, is_member, IsIn, Arrangement, arrangements, down, left_of, remainder_pairs}
+use Rattle.dutch_arrangements.specs.declared.bracket.Shape.{Shape}
+use Rattle.dutch_arrangements.specs.Prelude.{numbers_from, is_member, IsIn, Arrangement, arrangements, down, left_of, remainder_pairs}
 use Rattle.dutch_sequence.proofs.HalfWalks.{Climbs, Climbs-room}
 use Rattle.dutch_sequence.proofs.Members.{climbs-filter, filter-climbs, filter-length, length-numbers}
 use Rattle.dutch_sequence.proofs.ExchangeSets.{numbers-climb}

@@ -6,12 +6,12 @@ use Rattle.std.proofs.lemmas.List.{length-map}
 use Rattle.std.proofs.lemmas.List.Elements.{All-cons}
 use Rattle.std.proofs.lemmas.List.Sums.{sum_by-cons}
 use Rattle.dual.specs.Prelude.{in_both}
-use Rattle.dutch_order.specs.declared.bracket.Shape.{Shape}
-use Rattle.dutch_order.specs.Prelude.{numbers_from, all_meet, IsIn, by_place, IsMovedDown, IsResident, Frame, Arrangement, residents_of, left_of}
-use Rattle.dutch_order.proofs.CursorSets.{AreLists}
+use Rattle.dutch_arrangements.specs.declared.bracket.Shape.{Shape}
+use Rattle.dutch_arrangements.specs.Prelude.{numbers_from, all_meet, IsIn, by_place, IsMovedDown, IsResident, Frame, Arrangement, residents_of, left_of}
+use Rattle.dutch_arrangements.proofs.CursorSets.{AreLists}
 use Rattle.dutch_listing.proofs.FormArrangements.{lists-in, in-moved_down, in-residents}
 use Rattle.dutch_sequence.proofs.Members.{numbers-append}
-use Rattle.dutch_order.proofs.NoneTwice.{in-left}
+use Rattle.dutch_arrangements.proofs.NoneTwice.{in-left}
 use Rattle.dutch_player.specs.Prelude.{Facts}
 use Rattle.dutch_bracket.specs.Prelude.{Reached, frame_of, score_at}
 use Rattle.dutch_bracket.proofs.LegalPairs.{IsArranged}

@@ -1,8 +1,8 @@
 -- The lists of a beginning: the fronts of S1 and of S1R that have opponents.
 use Rattle.std.proofs.Common.{◌≡◌, List, ℕ, [], ◌∷◌, length, take, refl, ap, inl, inr}
-use Rattle.dutch_order.specs.Prelude.{Arrangement, BeginsAt, GoesOn}
-use Rattle.dutch_order.specs.declared.prefix.Filling.{Filling}
-use Rattle.dutch_order.specs.declared.prefix.Filling.TheVariants.{S1, S2, S2r}
+use Rattle.dutch_arrangements.specs.Prelude.{Arrangement, BeginsAt, GoesOn}
+use Rattle.dutch_arrangements.specs.declared.prefix.Filling.{Filling}
+use Rattle.dutch_arrangements.specs.declared.prefix.Filling.TheVariants.{S1, S2, S2r}
 use Rattle.dutch_bracket.specs.Prelude.{seat_of, pairs_of, HasPairsOf, LacksEndOfS2r, lists_by}
 use Rattle.dutch_bracket.proofs.FixedPairs.{has_pairs}
 

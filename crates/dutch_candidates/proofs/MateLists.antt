@@ -4,12 +4,12 @@ use Rattle.std.proofs.Common.{◌≡◌, ℕ, ◌+◌, ◌-◌, ◌<◌, ◌≤�
 use Rattle.std.specs.List.{filter}
 use Rattle.std.proofs.lemmas.List.{length-map}
 use Rattle.std.proofs.lemmas.Bool.{false_from_ne_true, cases_eq, cases_order, cases_lt, eq-eqb, ne_eqb, ltb-true, lt-ltb, not_from_false, not-true, and_from, true≢false, or_right}
-use Rattle.dutch_order.specs.declared.bracket.Shape.{Shape}
-use Rattle.dutch_order.specs.Prelude.{is_member, all_meet, moved_down_of, NoneTwice, IsMovedDown, IsResident, IsIn, Frame, Arrangement, Fits, arrangements, candidates, down, is_legal, leaves_one, left_of, paired, players_of, residents_of}
-use Rattle.dutch_order.proofs.CursorSets.{AreLists, numbers-within}
+use Rattle.dutch_arrangements.specs.declared.bracket.Shape.{Shape}
+use Rattle.dutch_arrangements.specs.Prelude.{is_member, all_meet, moved_down_of, NoneTwice, IsMovedDown, IsResident, IsIn, Frame, Arrangement, Fits, arrangements, candidates, down, is_legal, leaves_one, left_of, paired, players_of, residents_of}
+use Rattle.dutch_arrangements.proofs.CursorSets.{AreLists, numbers-within}
 use Rattle.dutch_sequence.proofs.Orders.{in-member, member-in, Rises-filter, IsIn-append, IsIn-front, IsIn-back, IsIn-map, map-IsIn, IsIn-filter, filter-IsIn}
 use Rattle.dutch_listing.proofs.FormArrangements.{in-lists, moved_down-in, in-moved_down, resident-in, in-residents}
-use Rattle.dutch_order.proofs.NoneTwice.{in-left, left-in, rises-twice, twice-different}
+use Rattle.dutch_arrangements.proofs.NoneTwice.{in-left, left-in, rises-twice, twice-different}
 use Rattle.dutch_sequence.proofs.StageSets.{Climbs-length}
 use Rattle.dutch_bracket.specs.Prelude.{has_member}
 use Rattle.dutch_bracket.proofs.ArrangementParts.{numbers_rise, parts_of}

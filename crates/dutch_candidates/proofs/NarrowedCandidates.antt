@@ -3,8 +3,8 @@
 use Rattle.std.proofs.Common.{◌≡◌, ℕ, ◌≤◌, Bool, true, false, not, ◌&&◌, ◌||◌, List, [], ◌∷◌, length, filter, Option, inl, inr, refl, sym, arith}
 use Rattle.std.specs.List.{AllByRecursion, zip}
 use Rattle.std.proofs.lemmas.Bool.{and_from, and_parts}
-use Rattle.dutch_order.specs.declared.bracket.Shape.{Shape}
-use Rattle.dutch_order.specs.Prelude.{Arrangement, Frame, IsIn, all_meet, arrangements, candidates, down, is_legal, leaves_one}
+use Rattle.dutch_arrangements.specs.declared.bracket.Shape.{Shape}
+use Rattle.dutch_arrangements.specs.Prelude.{Arrangement, Frame, IsIn, all_meet, arrangements, candidates, down, is_legal, leaves_one}
 use Rattle.dutch_sequence.proofs.Orders.{IsIn-back, IsIn-filter, IsIn-front, filter-IsIn, member_has}
 use Rattle.dutch_player.proofs.PresentLemmas.{or_more}
 use Rattle.dutch_bracket.specs.Prelude.{number_pairs}

@@ -4,10 +4,10 @@ use Rattle.std.specs.Prelude.{◌==◌}
 use Rattle.std.specs.List.{AllByRecursion, list_any}
 use Rattle.std.proofs.lemmas.Bool.{and_from, and_parts, eqb-true, false_from_ne_true, not-true, not_from_false, or_cases, true≢false}
 use Rattle.std.proofs.lemmas.Bool.Decides.{nat_tests}
-use Rattle.dutch_order.specs.declared.bracket.Shape.{Shape}
-use Rattle.dutch_order.specs.Prelude.{Arrangement, Frame, IsIn, NoneTwice, arrangements, by_place, down, is_member, paired, pairs_by_number, players_in, players_of}
+use Rattle.dutch_arrangements.specs.declared.bracket.Shape.{Shape}
+use Rattle.dutch_arrangements.specs.Prelude.{Arrangement, Frame, IsIn, NoneTwice, arrangements, by_place, down, is_member, paired, pairs_by_number, players_in, players_of}
 use Rattle.dutch_listing.proofs.FormArrangements.{form-of}
-use Rattle.dutch_order.proofs.NoneTwice.{in-left}
+use Rattle.dutch_arrangements.proofs.NoneTwice.{in-left}
 use Rattle.dutch_sequence.proofs.Orders.{IsIn-append, IsIn-back, IsIn-front, all_members, in-member}
 use Rattle.dutch_candidates.specs.declared.wish.Wish.{Wish}
 use Rattle.dutch_candidates.specs.declared.wish.Wish.TheVariants.{Pair, LeftOver}

@@ -2,7 +2,7 @@
 use Rattle.std.proofs.Common.{◌≡◌, ℕ, Bool, ◌||◌, List, [], ◌∷◌, ◌++◌, refl, ap, ◌∙◌}
 use Rattle.std.specs.List.{list_any, zip}
 use Rattle.std.proofs.lemmas.List.Folds.{list_any-append}
-use Rattle.dutch_order.specs.Prelude.{Arrangement, paired, is_member, by_place, pairs_by_number}
+use Rattle.dutch_arrangements.specs.Prelude.{Arrangement, paired, is_member, by_place, pairs_by_number}
 use Rattle.dutch_sequence.proofs.Counts.{member-append}
 use Rattle.dutch_bracket.specs.Prelude.{number_pairs}
 

@@ -2,7 +2,7 @@
 -- players left over (C.04.3 B.3).
 use Rattle.std.specs.Prelude.{ℕ, Bool, true, not, ◌&&◌, ◌||◌, ◌==◌, Option, Some, None}
 use Rattle.std.specs.List.{list_any}
-use Rattle.dutch_order.specs.Prelude.{Arrangement, paired, is_member, pairs_by_number}
+use Rattle.dutch_arrangements.specs.Prelude.{Arrangement, paired, is_member, pairs_by_number}
 use Rattle.dutch_candidates.specs.declared.wish.Wish.{Wish}
 use Rattle.dutch_candidates.specs.declared.wish.Wish.TheVariants.{Pair, LeftOver}
 

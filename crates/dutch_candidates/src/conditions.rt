@@ -3,8 +3,8 @@ ghost use Rattle.std.specs.Prelude.{◌≡◌, ℕ, ◌<◌, ◌↔◌, true, le
 ghost use Rattle.dutch_bracket.specs.Seated.{score_at, AreSeats};
 ghost use Rattle.dutch_bracket.specs.NextBracket.{IsNext, AreLeft};
 
+use dutch_arrangements::LIMIT;
 use dutch_bracket::reached::{BracketKind, Reached};
-use dutch_order::LIMIT;
 use dutch_player::Field;
 
 /// Yes if the numbers are of the bracket and ascend, as those of a candidate's downfloaters do.

@@ -1,11 +1,11 @@
 // The greatest shape of a bracket by a listing of few steps (C.04.3 C.5, B.1), which tells nearly all shapes.
 ghost use Rattle.std.specs.Prelude.{◌≡◌, IfOk, IfSome};
-ghost use Rattle.dutch_order.specs.Prelude.{MatchFound, Spends};
+ghost use Rattle.dutch_arrangements.specs.Prelude.{MatchFound, Spends};
 ghost use Rattle.dutch_bracket.specs.Shapes.{IsFound};
 
 use crate::greatest::{Lister, Shapes, greatest_shape};
+use dutch_arrangements::{Budget, Rule, Shape, Stopped};
 use dutch_bracket::spending::at_most;
-use dutch_order::{Budget, Rule, Shape, Stopped};
 
 /// The greatest shape by a listing of so many steps, the first arrangement of which is drawn. None says that they did
 /// not suffice.

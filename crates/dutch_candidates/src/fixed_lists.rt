@@ -6,9 +6,9 @@ ghost use Rattle.dutch_bracket.specs.Seated.{all_pairs};
 ghost use Rattle.dutch_bracket.specs.Beginnings.{HasFewPairs, fixed, fixed_lists, has_s1, is_of_shape};
 
 use arrayvec::ArrayVec;
+use dutch_arrangements::{Filling, LIMIT, Prefix, Shape};
 use dutch_bracket::context::Context;
 use dutch_bracket::seated::{Pair, Seated, push_pairs};
-use dutch_order::{Filling, LIMIT, Prefix, Shape};
 use std::marker::Model;
 
 /// The lists that a beginning fixes.
@@ -21,7 +21,7 @@ pub struct FixedLists<'a> {
 }
 
 impl<'a> Model for FixedLists<'a> {
-    ghost use Rattle.dutch_order.specs.Prelude.{Arrangement};
+    ghost use Rattle.dutch_arrangements.specs.Prelude.{Arrangement};
 
     ghost Value = { Arrangement };
 

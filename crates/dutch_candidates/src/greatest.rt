@@ -2,13 +2,13 @@
 // moved-down players in them; and the first of its arrangements, which is found with it. One search serves a bracket by
 // any rule, where each legal arrangement counts, and a bracket of the round, where those count that can be chosen.
 ghost use Rattle.std.specs.Prelude.{◌≡◌, ◌&&◌, List, Some, None, true, false, filter, IfOk, IfSome};
-ghost use Rattle.dutch_order.specs.declared.bracket.Shape.{Shape};
-ghost use Rattle.dutch_order.specs.Prelude.{Arrangement, Candidate, Fits, Frame, candidates, Listing, MatchDrawn};
-ghost use Rattle.dutch_order.specs.Prelude.{MatchFound, Spends};
+ghost use Rattle.dutch_arrangements.specs.declared.bracket.Shape.{Shape};
+ghost use Rattle.dutch_arrangements.specs.Prelude.{Arrangement, Candidate, Fits, Frame, candidates, Listing, MatchDrawn};
+ghost use Rattle.dutch_arrangements.specs.Prelude.{MatchFound, Spends};
 ghost use Rattle.dutch_bracket.specs.Shapes.{IsFirst, fits, shapes_with, has_member, first_with, greatest_shape};
 
+use dutch_arrangements::{Bracket, Budget, Candidate, Rule, Shape, Stopped};
 use dutch_listing::Candidates;
-use dutch_order::{Bracket, Budget, Candidate, Rule, Shape, Stopped};
 
 /// What draws a bracket's arrangements: a listing, which begins anew for each shape, and a place for what it hands out.
 /// They are made once for a bracket.
@@ -80,7 +80,7 @@ pub struct Legal<'a, R: Rule> {
 
 impl<'a, R: Rule> Shapes<R> for Legal<'a, R> {
     ghost use Rattle.std.specs.Prelude.{◌≡◌};
-    ghost use Rattle.dutch_order.specs.Prelude.{candidates};
+    ghost use Rattle.dutch_arrangements.specs.Prelude.{candidates};
 
     ghost counting = { λ l. candidates (R.meets l.rule.now) (R.may_be_left l.rule.now) l.bracket.now };
 

@@ -2,8 +2,8 @@
 // those candidates alone whose pairs fit it. By the narrower rules two who are to meet could also both be left over, so
 // each candidate is still asked whether it grants the wish.
 use crate::wish::{Wish, fits_as_left, fits_as_pair};
+use dutch_arrangements::Rule;
 use dutch_bracket::reached::ByNumber;
-use dutch_order::Rule;
 
 /// Who may meet and who may be left over in a bracket (C.1 to C.3), by number, in a candidate that grants what is
 /// wished.
@@ -28,7 +28,7 @@ impl<'a> Rule for NarrowedRule<'a> {
         fits_as_pair(self.wish, a, b) && self.rule.may_meet(a, b)
     }
 
-    fn may_be_left(&self, a: u16) -> bool {
-        fits_as_left(self.wish, a) && self.rule.may_be_left(a)
+    fn last_ok(&self, a: u16) -> bool {
+        fits_as_left(self.wish, a) && self.rule.last_ok(a)
     }
 }

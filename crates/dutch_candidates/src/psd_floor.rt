@@ -2,15 +2,15 @@
 ghost use Rattle.std.specs.Prelude.{◌≡◌, ◌+◌, ◌-◌, ◌≤◌, length, map};
 ghost use Rattle.arrayvec.specs.ArrayVec.{array_vec_len};
 ghost use Rattle.dutch_sequence.specs.declared.numbers.TheConstants.{LIMIT};
-ghost use Rattle.dutch_order.specs.Prelude.{left_of, remainder_pairs, numbers_from};
+ghost use Rattle.dutch_arrangements.specs.Prelude.{left_of, remainder_pairs, numbers_from};
 ghost use Rattle.dutch_bracket.specs.Seated.{seat_of, score_at};
 ghost use Rattle.dutch_bracket.specs.Quality.{placed_all};
 ghost use Rattle.dutch_bracket.specs.ColourFloors.{residents_down};
 ghost use Rattle.dutch_bracket.specs.PsdFloors.{is_uniform, psd_with};
 
+use dutch_arrangements::{Numbers, Shape};
 use dutch_bracket::differences::{put, put_times};
 use dutch_bracket::reached::ByNumber;
-use dutch_order::{Numbers, Shape};
 
 /// Yes if every S1 of the shape leaves moved-down players with the same scores.
 pub fn is_uniform(rule: ByNumber<'_>, shape: Shape) -> bool

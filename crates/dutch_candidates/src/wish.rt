@@ -4,12 +4,12 @@
 // each player who is left over fits the wish. So what holds for all that fits holds for each candidate that grants it.
 ghost use Rattle.std.specs.Prelude.{◌≡◌};
 ghost use Rattle.std.specs.List.{list_any, zip};
-ghost use Rattle.dutch_order.specs.Prelude.{paired, is_member, pairs_by_number};
+ghost use Rattle.dutch_arrangements.specs.Prelude.{paired, is_member, pairs_by_number};
 ghost use Rattle.dutch_candidates.specs.Wishes.{are_these, fits_as_left, fits_as_pair, grants, has_player, is_wished};
 ghost use Rattle.dutch_candidates.specs.Wishes.{parts};
 
 use crate::fixed_lists::FixedLists;
-use dutch_order::Candidate;
+use dutch_arrangements::Candidate;
 
 /// What is wished of a candidate. Players are named by their numbers in the bracket.
 #[derive(Clone, Copy)]

@@ -3,11 +3,11 @@ use Rattle.std.proofs.Common.{◌≡◌, ℕ, ◌+◌, ◌-◌, ◌*◌, ◌<◌
 use Rattle.std.specs.Prelude.{nat_eq, nat_le}
 use Rattle.std.proofs.lemmas.Bool.Decides.{nat_tests}
 use Rattle.std.proofs.lemmas.Bool.{and_parts, false_from_ne_true, leb-true, not-true, true≢false}
-use Rattle.dutch_order.specs.declared.bracket.Shape.{Shape}
-use Rattle.dutch_order.specs.Prelude.{Arrangement, Frame, arrangements, left_of, paired, remainder_pairs, residents_of, is_member, numbers_from, IsIn}
+use Rattle.dutch_arrangements.specs.declared.bracket.Shape.{Shape}
+use Rattle.dutch_arrangements.specs.Prelude.{Arrangement, Frame, arrangements, left_of, paired, remainder_pairs, residents_of, is_member, numbers_from, IsIn}
 use Rattle.dutch_sequence.proofs.Orders.{in-member, IsIn-back, IsIn-front}
 use Rattle.dutch_sequence.proofs.Members.{length-numbers}
-use Rattle.dutch_order.proofs.NoneTwice.{left-in}
+use Rattle.dutch_arrangements.proofs.NoneTwice.{left-in}
 use Rattle.dutch_bracket.specs.Prelude.{Reached, is_number}
 use Rattle.dutch_candidates.specs.Wishes.{grants}
 use Rattle.dutch_candidates.specs.declared.wish.Wish.TheVariants.{LeftOver}

@@ -1,7 +1,7 @@
 -- A bracket in which all candidates can be chosen has the greatest shape of a legal arrangement, whatever seats are below it (C.04.3 C.5).
 use Rattle.std.proofs.Common.{◌≡◌, if◌then◌else◌, false, List, [], ◌∷◌, Option, Some, refl, sym, ap, ◌∙◌, subst}
-use Rattle.dutch_order.specs.declared.bracket.Shape.{Shape}
-use Rattle.dutch_order.specs.Prelude.{Arrangement, Fits, Frame}
+use Rattle.dutch_arrangements.specs.declared.bracket.Shape.{Shape}
+use Rattle.dutch_arrangements.specs.Prelude.{Arrangement, Fits, Frame}
 use Rattle.dutch_player.specs.Prelude.{Facts}
 use Rattle.dutch_choice.specs.AlwaysShapes.{IsAlwaysShape}
 use Rattle.dutch_bracket.specs.Prelude.{legal_by, legal_in, Reached, frame_of, candidates_of, eligible, shape_of, first_with, greatest_shape, has_member, is_penultimate, shapes}

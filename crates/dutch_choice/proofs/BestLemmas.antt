@@ -1,9 +1,9 @@
 -- What is chosen in the end: it is one of the candidates, and of the bracket's shape. Where nothing is wished, it is the best that is found.
 use Rattle.std.proofs.Common.{◌≡◌, ℕ, Bool, true, false, List, [], ◌∷◌, Option, Some, None, is_some, refl, sym, ap, ◌∙◌, subst, arith}
 use Rattle.dutch_sequence.proofs.Lists.{filter-all}
-use Rattle.dutch_order.specs.declared.bracket.Shape.{Shape}
-use Rattle.dutch_order.specs.Prelude.{Arrangement, IsIn}
-use Rattle.dutch_order.specs.Cursors.{◌>>=◌}
+use Rattle.dutch_arrangements.specs.declared.bracket.Shape.{Shape}
+use Rattle.dutch_arrangements.specs.Prelude.{Arrangement, IsIn}
+use Rattle.dutch_arrangements.specs.Cursors.{◌>>=◌}
 use Rattle.dutch_player.specs.Prelude.{Facts}
 use Rattle.dutch_bracket.specs.Prelude.{Context, eligible_here, quality_here, Reached, frame_of, is_better, fits, shapes, has_member, Choice, eligible, is_better_in, best_of_shape, shape_of, choice, first_unbeaten, best}
 use Rattle.dutch_choice.specs.Prelude.{best_wished, is_better_here}

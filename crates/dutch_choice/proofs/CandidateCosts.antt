@@ -10,8 +10,8 @@ use Rattle.std.proofs.lemmas.List.Sums.{sum_by-cons, sum_by-append}
 use Rattle.dual.specs.Prelude.{FloorTable, IsFloor, IsMatching, MakeUp, cost, in_both}
 use Rattle.dual.proofs.Sums.{sum_none}
 use Rattle.dual.proofs.WeakDuality.{counted}
-use Rattle.dutch_order.specs.declared.bracket.Shape.{Shape}
-use Rattle.dutch_order.specs.Prelude.{Arrangement, Frame, IsIn, IsMovedDown, IsResident, all_meet, arrangements, by_place, down, is_legal, leaves_one, numbers_from}
+use Rattle.dutch_arrangements.specs.declared.bracket.Shape.{Shape}
+use Rattle.dutch_arrangements.specs.Prelude.{Arrangement, Frame, IsIn, IsMovedDown, IsResident, all_meet, arrangements, by_place, down, is_legal, leaves_one, numbers_from}
 use Rattle.dutch_sequence.proofs.Lists.{map-numbers_from}
 use Rattle.dutch_sequence.proofs.Members.{length-numbers, numbers-append}
 use Rattle.dutch_sequence.proofs.Orders.{all_members, IsIn-filter}

@@ -2,8 +2,8 @@
 -- bracket, and of those that grant that all.
 use Rattle.std.proofs.Common.{◌≡◌, ℕ, Bool, true, List, Option, filter, sym, ap, subst, ◌∙◌}
 use Rattle.dutch_player.specs.Prelude.{Facts}
-use Rattle.dutch_order.specs.declared.bracket.Shape.{Shape}
-use Rattle.dutch_order.specs.Prelude.{Arrangement, Frame, IsIn, Listing, candidates}
+use Rattle.dutch_arrangements.specs.declared.bracket.Shape.{Shape}
+use Rattle.dutch_arrangements.specs.Prelude.{Arrangement, Frame, IsIn, Listing, candidates}
 use Rattle.dutch_bracket.specs.Prelude.{Context, FitsHere, IsOf, Reached, candidates_here, candidates_of, frame_here, number_may_be_left, numbers_meet}
 use Rattle.dutch_candidates.specs.declared.narrowed.NarrowedRule.{NarrowedRule}
 use Rattle.dutch_candidates.specs.declared.wish.Wish.{Wish}

@@ -5,9 +5,9 @@ use Rattle.std.specs.List.{slice_get}
 use Rattle.std.proofs.lemmas.Bool.{cases_Bool, cases_eq}
 use Rattle.std.proofs.lemmas.List.{length-map}
 use Rattle.matching.specs.Matchings.{Gives, IsMatching}
-use Rattle.dutch_order.specs.declared.bracket.Shape.{Shape}
+use Rattle.dutch_arrangements.specs.declared.bracket.Shape.{Shape}
 use Rattle.dutch_sequence.specs.declared.numbers.TheConstants.{LIMIT}
-use Rattle.dutch_order.specs.Prelude.{numbers_from}
+use Rattle.dutch_arrangements.specs.Prelude.{numbers_from}
 use Rattle.dutch_sequence.proofs.Members.{filter-length, length-numbers}
 use Rattle.dutch_bracket.specs.Prelude.{Context, FitsHere, IsOf, eligible_here, frame_of, has_member, score_at, shape_here}
 use Rattle.dutch_choice.specs.Mates.{mate_at, mate_of, matched_shape, may_leave, unmated}

@@ -5,8 +5,8 @@ use Rattle.std.specs.Prelude.{filter}
 use Rattle.std.proofs.Math.Bool.{and_comm}
 use Rattle.std.proofs.lemmas.Bool.{and_parts, cases_eq, le-leb, leb-true, true≢false}
 use Rattle.std.proofs.lemmas.List.{length-map}
-use Rattle.dutch_order.specs.declared.bracket.Shape.{Shape}
-use Rattle.dutch_order.specs.Prelude.{Arrangement, Fits, Frame, IsIn, IsMovedDown, down, leaves_one, numbers_from}
+use Rattle.dutch_arrangements.specs.declared.bracket.Shape.{Shape}
+use Rattle.dutch_arrangements.specs.Prelude.{Arrangement, Fits, Frame, IsIn, IsMovedDown, down, leaves_one, numbers_from}
 use Rattle.dutch_sequence.proofs.Orders.{filter-IsIn}
 use Rattle.dutch_player.specs.Prelude.{Facts}
 use Rattle.dutch_bracket.specs.declared.reached.BracketKind.{BracketKind}

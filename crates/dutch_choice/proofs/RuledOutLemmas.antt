@@ -3,14 +3,14 @@ use Rattle.std.proofs.Common.{◌≡◌, ℕ, ◌<◌, ◌≤◌, ◌⊎◌, Boo
 use Rattle.std.specs.Prelude.{nat_le}
 use Rattle.std.proofs.lemmas.Bool.{leb-true, not-true, false_from_ne_true, true≢false}
 use Rattle.std.proofs.lemmas.Bool.Decides.{nat_tests}
-use Rattle.dutch_order.specs.declared.bracket.Shape.{Shape}
-use Rattle.dutch_order.specs.declared.prefix.Filling.{Filling}
-use Rattle.dutch_order.specs.declared.prefix.Filling.TheVariants.{S1, S2, S2r}
-use Rattle.dutch_order.specs.Prelude.{Frame, Arrangement, arrangements, left_of, paired, residents_of, is_member, by_place, pairs_by_number, IsIn, Begins, BeginsAt, Beginning}
-use Rattle.dutch_order.proofs.CursorSets.{AreLists}
+use Rattle.dutch_arrangements.specs.declared.bracket.Shape.{Shape}
+use Rattle.dutch_arrangements.specs.declared.prefix.Filling.{Filling}
+use Rattle.dutch_arrangements.specs.declared.prefix.Filling.TheVariants.{S1, S2, S2r}
+use Rattle.dutch_arrangements.specs.Prelude.{Frame, Arrangement, arrangements, left_of, paired, residents_of, is_member, by_place, pairs_by_number, IsIn, Begins, BeginsAt, Beginning}
+use Rattle.dutch_arrangements.proofs.CursorSets.{AreLists}
 use Rattle.dutch_sequence.proofs.Orders.{member-in, in-member, IsIn-append, IsIn-front, IsIn-back}
 use Rattle.dutch_listing.proofs.FormArrangements.{in-moved_down, in-residents, lists-in}
-use Rattle.dutch_order.proofs.NoneTwice.{in-left}
+use Rattle.dutch_arrangements.proofs.NoneTwice.{in-left}
 use Rattle.dutch_candidates.specs.declared.wish.Wish.{Wish}
 use Rattle.dutch_candidates.specs.declared.wish.Wish.TheVariants.{Pair, LeftOver}
 use Rattle.dutch_candidates.specs.Wishes.{are_these, grants}

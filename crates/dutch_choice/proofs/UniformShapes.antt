@@ -1,7 +1,7 @@
 -- Where all S1 of a shape give one PSD, that is the value of the bracket, and no arrangement of it is looked for (C.04.3 C.7).
 use Rattle.std.proofs.Common.{◌≡◌, ◌+◌, ℕ, true, List, [], Some, refl, sym, ap, ◌∙◌}
-use Rattle.dutch_order.specs.declared.bracket.Shape.{Shape}
-use Rattle.dutch_order.specs.Prelude.{Arrangement, arrangements, is_legal, numbers_from, IsIn}
+use Rattle.dutch_arrangements.specs.declared.bracket.Shape.{Shape}
+use Rattle.dutch_arrangements.specs.Prelude.{Arrangement, arrangements, is_legal, numbers_from, IsIn}
 use Rattle.dutch_player.specs.Prelude.{Facts}
 use Rattle.dutch_choice.specs.AlwaysShapes.{IsAlwaysShape}
 use Rattle.dutch_bracket.specs.Prelude.{is_uniform, psd_with, IsFlat, legal_in, psd_in, quality, value_of, value_of_shape, NextValue, quality_with, IsOf, Reached, frame_of, number_may_be_left, numbers_meet, quality_of, score_at, seat_of, greatest_shape, shapes}

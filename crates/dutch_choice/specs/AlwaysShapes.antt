@@ -1,6 +1,6 @@
 -- The shape of a bracket in which all candidates can be chosen (C.04.3 C.4, C.5).
 use Rattle.std.specs.Prelude.{◌≡◌, ℕ, false, List, Some}
-use Rattle.dutch_order.specs.declared.bracket.Shape.{Shape}
+use Rattle.dutch_arrangements.specs.declared.bracket.Shape.{Shape}
 use Rattle.dutch_player.specs.Prelude.{Facts}
 use Rattle.dutch_bracket.specs.Prelude.{Reached, is_penultimate, shape_of}
 

@@ -1,6 +1,6 @@
 -- What a choice in a bracket answers (C.04.3 B.8).
 use Rattle.std.specs.Prelude.{◌≡◌, Some}
-use Rattle.dutch_order.specs.Prelude.{down}
+use Rattle.dutch_arrangements.specs.Prelude.{down}
 use Rattle.dutch_choice.specs.declared.choice.Choice.{Choice}
 use Rattle.dutch_choice.specs.declared.choice.Choice.TheVariants.{Chosen as IsChosen, Undecided as ChoiceUndecided}
 use Rattle.dutch_bracket.specs.Prelude.{Context, FitsHere, frame_here, quality_here, quality_in, choice}

@@ -1,7 +1,7 @@
 -- What a finder finds in a bracket: the best of the candidates of a shape that can be chosen and grant what is wished (C.04.3 B.3, B.8).
 use Rattle.std.specs.Prelude.{◌≡◌, filter, Option, Some}
-use Rattle.dutch_order.specs.declared.bracket.Shape.{Shape}
-use Rattle.dutch_order.specs.Prelude.{Arrangement, down}
+use Rattle.dutch_arrangements.specs.declared.bracket.Shape.{Shape}
+use Rattle.dutch_arrangements.specs.Prelude.{Arrangement, down}
 use Rattle.dutch_candidates.specs.declared.wish.Wish.{Wish}
 use Rattle.dutch_bracket.specs.Prelude.{Context, eligible_here, frame_here, quality_here, quality_in, best}
 use Rattle.dutch_candidates.specs.Wishes.{is_wished}

@@ -1,8 +1,8 @@
 -- What the partners of a matching of a bracket's graph are to the bracket (C.04.3 B.1 to B.3): its pairs, and those in none.
 use Rattle.std.specs.Prelude.{ℕ, ◌+◌, ◌-◌, Bool, not, ◌||◌, ◌==◌, ◌++◌, nat_lt, if◌then◌else◌, List, filter, length, map, Option, Some, None}
 use Rattle.std.specs.List.{slice_get}
-use Rattle.dutch_order.specs.declared.bracket.Shape.{Shape}
-use Rattle.dutch_order.specs.Prelude.{leaves_one, numbers_from}
+use Rattle.dutch_arrangements.specs.declared.bracket.Shape.{Shape}
+use Rattle.dutch_arrangements.specs.Prelude.{leaves_one, numbers_from}
 use Rattle.dutch_bracket.specs.Prelude.{Context, completable, ends_round, is_penultimate, number_may_be_left, seat_of}
 use Rattle.dutch_choice.specs.ShapeCosts.{are_pair}
 

@@ -2,7 +2,7 @@
 -- least is the bracket's shape.
 use Rattle.std.specs.Prelude.{◌≡◌, ℕ, ◌+◌, ◌-◌, ◌*◌, ◌%◌, ◌==◌, ◌≤◌, Bool, true, false, not, ◌&&◌, ◌||◌, ◌++◌, nat_le, if◌then◌else◌, length}
 use Rattle.dual.specs.Prelude.{Costs}
-use Rattle.dutch_order.specs.declared.bracket.Shape.{Shape}
+use Rattle.dutch_arrangements.specs.declared.bracket.Shape.{Shape}
 use Rattle.dutch_bracket.specs.Prelude.{Context, FitsHere, eligible_here, ends_round, has_member, is_penultimate, number_may_be_left, numbers_meet, seat_of, seats_may_be_left, seats_meet}
 use Rattle.dutch_choice.specs.declared.certified.ShapeFloor.{ShapeFloor}
 

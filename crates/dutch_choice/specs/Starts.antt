@@ -1,7 +1,7 @@
 -- Where a lister stands that is lent to whoever looks through the candidates of a bracket's shape.
 use Rattle.std.specs.Prelude.{◌≡◌, false, ◌∷◌, Option, Some, None}
-use Rattle.dutch_order.specs.declared.bracket.Shape.{Shape}
-use Rattle.dutch_order.specs.Prelude.{Candidate, Listing, Passes, down}
+use Rattle.dutch_arrangements.specs.declared.bracket.Shape.{Shape}
+use Rattle.dutch_arrangements.specs.Prelude.{Candidate, Listing, Passes, down}
 use Rattle.dutch_bracket.specs.Prelude.{Context, can_be_chosen_here, candidates_here, frame_here, shape_here}
 use Rattle.dutch_candidates.specs.declared.greatest.Lister.{Lister}
 use Rattle.dutch_candidates.specs.declared.narrowed.NarrowedRule.{NarrowedRule}

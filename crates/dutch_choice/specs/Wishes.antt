@@ -1,8 +1,8 @@
 -- The best of the candidates of a bracket that grant a wish (C.04.3 B.3, B.8), or why there is none (B.1, C.4, C.5).
 use Rattle.std.specs.Prelude.{◌≡◌, ◌<◌, ◌≤◌, ◌⊎◌, ◌+◌, ℕ, Bool, true, false, ◌&&◌, List, filter, Option}
 use Rattle.std.specs.List.{list_any}
-use Rattle.dutch_order.specs.declared.bracket.Shape.{Shape}
-use Rattle.dutch_order.specs.Prelude.{Arrangement}
+use Rattle.dutch_arrangements.specs.declared.bracket.Shape.{Shape}
+use Rattle.dutch_arrangements.specs.Prelude.{Arrangement}
 use Rattle.dutch_player.specs.Prelude.{Facts}
 use Rattle.dutch_candidates.specs.declared.wish.Wish.{Wish}
 use Rattle.dutch_bracket.specs.Prelude.{Context, eligible_here, Reached, frame_of, candidates_of, is_better_in, best, fits}

@@ -1,16 +1,16 @@
 // Which beginnings rule a wish out (C.04.3 B.3): no candidate that begins so grants it.
 ghost use Rattle.std.specs.Prelude.{◌≡◌, true, false};
-ghost use Rattle.dutch_order.specs.declared.bracket.Shape.{Shape};
-ghost use Rattle.dutch_order.specs.Prelude.{Arrangement, IsExchange, IsIn, Begins};
+ghost use Rattle.dutch_arrangements.specs.declared.bracket.Shape.{Shape};
+ghost use Rattle.dutch_arrangements.specs.Prelude.{Arrangement, IsExchange, IsIn, Begins};
 ghost use Rattle.dutch_bracket.specs.Prelude.{FitsHere, OfEachWithBeginning, candidates_here, candidates_in};
 ghost use Rattle.dutch_candidates.specs.Wishes.{grants};
 ghost use Rattle.dutch_candidates.specs.declared.wish.Wish.TheVariants.{LeftOver};
 
 use crate::ruled_out::{is_ruled_out, keeps_together};
+use dutch_arrangements::{Exchange, Prefix};
 use dutch_bracket::context::Context;
 use dutch_bracket::shaped::ShapedBracket;
 use dutch_candidates::wish::Wish;
-use dutch_order::{Exchange, Prefix};
 
 /// Where a shape pairs all moved-down players, or all residents, none of them is left over (B.1).
 #[tactic(auto, using(dutch_candidates::proofs::ShapeNumbers::small_pairs))]

@@ -6,7 +6,7 @@
 // they are those of a candidate that can be chosen.
 ghost use Rattle.std.specs.Prelude.{◌≡◌, ◌+◌, ◌<◌, ◌≤◌, ◌*◌, Some, IfOk, IfSome, true};
 ghost use Rattle.std.specs.Result.{MatchResult};
-ghost use Rattle.dutch_order.specs.Prelude.{MatchFound, Spends};
+ghost use Rattle.dutch_arrangements.specs.Prelude.{MatchFound, Spends};
 ghost use Rattle.matching.specs.Matchings.{IsMatching};
 ghost use Rattle.dutch_bracket.specs.Prelude.{Context, shape_here};
 ghost use Rattle.dutch_choice.specs.ShapeCosts.{IsShapeFloor, cost_of, joined, vertices};
@@ -15,8 +15,8 @@ use crate::matched::{can_be_chosen, matched_shape};
 use crate::players::Players;
 use cheapest::{Fault, Found, LOOKS_IN_A_STEP, cheapest};
 use dual::{Pool, Table, Wide};
+use dutch_arrangements::{Budget, Shape, Stopped, numbered_from};
 use dutch_bracket::spending::spend;
-use dutch_order::{Budget, Shape, Stopped, numbered_from};
 use std::alloc::{AllocError, Global};
 
 /// What every shape that has a candidate that can be chosen costs at least, beside what is owed.

@@ -1,13 +1,14 @@
 // The choice in a bracket (C.04.3 B.8): its shape, and the first candidate of it that none is better than, by any
 // finder.
 ghost use Rattle.std.specs.Prelude.{◌≡◌, IfOk, None};
-ghost use Rattle.dutch_order.specs.Prelude.{Spends};
+ghost use Rattle.dutch_arrangements.specs.Prelude.{Spends};
 ghost use Rattle.dutch_bracket.specs.Prelude.{IsAbove, HasCandidate};
 ghost use Rattle.dutch_choice.specs.Chosen.{IsChoice};
 ghost use Rattle.dutch_choice.specs.Starts.{ListsHere};
 
 use crate::finder::{Finder, FinderRequest};
 use crate::shape::found_shape;
+use dutch_arrangements::{Budget, Candidate, Shape, Step, Stopped};
 use dutch_bracket::context::Context;
 use dutch_bracket::fault::PairFault;
 use dutch_bracket::quality::Quality;
@@ -15,7 +16,6 @@ use dutch_bracket::reached::Reached;
 use dutch_bracket::shaped::ShapedBracket;
 use dutch_candidates::greatest::Lister;
 use dutch_candidates::narrowed::NarrowedRule;
-use dutch_order::{Budget, Candidate, Shape, Step, Stopped};
 use dutch_player::Field;
 use std::alloc::Global;
 

@@ -3,18 +3,18 @@
 // The choice in a bracket is the same whoever finds it. So what pairs a round asks for a finder, and does not wait for
 // one: what is known of the candidates behind a beginning is proved beside it.
 ghost use Rattle.std.specs.Prelude.{◌≡◌, None, IfOk};
-ghost use Rattle.dutch_order.specs.Prelude.{MatchStep, Spends};
+ghost use Rattle.dutch_arrangements.specs.Prelude.{MatchStep, Spends};
 ghost use Rattle.dutch_choice.specs.Found.{IsBest, best_wished};
 ghost use Rattle.dutch_choice.specs.Starts.{IsLent};
 
 use crate::start::Start;
+use dutch_arrangements::{Budget, Candidate, Step};
 use dutch_bracket::fault::PairFault;
 use dutch_bracket::quality::Quality;
 use dutch_bracket::shaped::ShapedBracket;
 use dutch_candidates::greatest::Lister;
 use dutch_candidates::narrowed::NarrowedRule;
 use dutch_candidates::wish::Wish;
-use dutch_order::{Budget, Candidate, Step};
 
 /// The best candidate, with its quality.
 #[derive(Drop)]

@@ -1,17 +1,17 @@
 // The first candidate of a shape that can be chosen (C.04.3 C.4).
 ghost use Rattle.std.specs.Prelude.{◌≡◌, true, false, IfOk, None};
-ghost use Rattle.dutch_order.specs.Prelude.{MatchDrawn, Spends};
+ghost use Rattle.dutch_arrangements.specs.Prelude.{MatchDrawn, Spends};
 ghost use Rattle.dutch_bracket.specs.Shapes.{IsFirst, has_member};
 ghost use Rattle.dutch_bracket.specs.InContext.{frame_here};
 ghost use Rattle.dutch_bracket.specs.Shaped.{eligible_in};
 ghost use Rattle.dutch_choice.specs.Starts.{ListsHere, StandsBehindFirst};
 
+use dutch_arrangements::{Budget, Stopped};
 use dutch_bracket::reached::Seats;
 use dutch_bracket::shaped::ShapedBracket;
 use dutch_candidates::greatest::Lister;
 use dutch_candidates::narrowed::NarrowedRule;
 use dutch_completion::eligible::can_be_chosen;
-use dutch_order::{Budget, Stopped};
 
 /// Draws the first candidate of a shape that can be chosen. No says that there is none.
 #[tactic(auto, using(dutch_completion::proofs::EligibleLemmas::first_fit, dutch_completion::proofs::EligibleLemmas::passes_unfit, dutch_completion::proofs::EligibleLemmas::has_none, dutch_completion::proofs::EligibleLemmas::drawn_behind))]

@@ -2,7 +2,7 @@
 //! most pairs that a candidate that can be chosen has, and then the most moved-down players in them; and of the
 //! candidates of that shape the earliest whose quality none beats, also among those that grant a wish.
 //!
-//! `choose` is a call of `dutch_pair` that stands here. It asks a finder for the best candidate of a shape, and the
+//! `choose` is a call of `dutch_rounds` that stands here. It asks a finder for the best candidate of a shape, and the
 //! choice is the same by each. So what pairs a round waits for none: `dutch_passes` has what a finder is made of.
 //!
 //! `shape_of` lists candidates for a few steps, which tells most shapes. Where it does not, a matching of least cost

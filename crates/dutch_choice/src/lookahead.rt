@@ -17,10 +17,11 @@ ghost use Rattle.dutch_bracket.specs.Shapes.{IsFound};
 ghost use Rattle.dutch_bracket.specs.QualityIn.{quality_in};
 ghost use Rattle.dutch_bracket.specs.NextBracket.{IsOfBracket, IsFlat, AreLeft, IsNext, legal_by, next_bracket};
 ghost use Rattle.dutch_bracket.specs.NextBracket.{value_in, value_of, quality};
-ghost use Rattle.dutch_order.specs.Prelude.{Spends};
+ghost use Rattle.dutch_arrangements.specs.Prelude.{Spends};
 
 use crate::certified::{steps_before, told_by_cost};
 use crate::players::Players;
+use dutch_arrangements::{Budget, Candidate, Numbers, Shape, Stopped, numbered_from};
 use dutch_bracket::differences::fill_psd;
 use dutch_bracket::quality::{NextValue, Quality, QualityLists, fill_quality};
 use dutch_bracket::reached::{BracketKind, ByNumber, Reached, push_all};
@@ -28,7 +29,6 @@ use dutch_bracket::seated::{by_seats, seats_of};
 use dutch_candidates::few_steps::decided_in_few_steps;
 use dutch_candidates::greatest::{Legal, Lister, Shapes, greatest_shape};
 use dutch_candidates::psd_floor::{FlatShape, is_uniform};
-use dutch_order::{Budget, Candidate, Numbers, Shape, Stopped, numbered_from};
 use dutch_player::Field;
 use std::alloc::Global;
 

@@ -1,15 +1,15 @@
 // What a matching of a bracket's players is to the bracket (C.04.3 B.1 to B.3): its pairs, their shape, and the players
 // that they leave over, who have to be paired out in the penultimate bracket (C.4).
 ghost use Rattle.std.specs.Prelude.{◌≡◌, ◌≤◌, IfOk, filter, length, true};
-ghost use Rattle.dutch_order.specs.Prelude.{MatchDrawn, Spends, leaves_one};
+ghost use Rattle.dutch_arrangements.specs.Prelude.{MatchDrawn, Spends, leaves_one};
 ghost use Rattle.dutch_sequence.specs.declared.numbers.TheConstants.{LIMIT};
 ghost use Rattle.dutch_bracket.specs.Prelude.{Decides, IsOf, number_may_be_left};
 ghost use Rattle.dutch_choice.specs.Mates.{goes_first, has_mate, mate_of, matched_shape, may_leave, unmated};
 
 use crate::players::Players;
+use dutch_arrangements::{Budget, Rule, Shape, Stopped, numbered_from};
 use dutch_bracket::{ByNumber, Seats};
 use dutch_completion::eligible::{can_complete, fill_with_lower};
-use dutch_order::{Budget, Rule, Shape, Stopped, numbered_from};
 use std::alloc::AllocError;
 
 /// The mate of a number by a list of partners: whoever is in no pair of the bracket is their own mate.
@@ -76,7 +76,7 @@ fn leaves_one(rule: ByNumber<'_>, alone: &[u16]) -> bool
 {
     match alone {
         [] => true,
-        [a] => rule.may_be_left(*a),
+        [a] => rule.last_ok(*a),
         _ => false,
     }
 }

@@ -13,10 +13,10 @@ ghost use Rattle.dutch_choice.specs.ShapeCosts.{cost_of, may_stay, spare_cost};
 
 use cheapest::Costs;
 use dual::Wide;
+use dutch_arrangements::{Rule, Shape};
 use dutch_bracket::ByNumber;
 use dutch_bracket::context::Context;
 use dutch_completion::seats::seats;
-use dutch_order::{Rule, Shape};
 use std::alloc::Global;
 use std::marker::Model;
 
@@ -118,9 +118,9 @@ impl<'a> Players<'a> {
         ensures { result ≡ may_stay self.now a }
     {
         if self.is_penultimate() {
-            seats(self.rule.field).may_be_left(self.seat(a))
+            seats(self.rule.field).last_ok(self.seat(a))
         } else {
-            !self.rule.reached.kind().ends_round() || self.rule.may_be_left(a)
+            !self.rule.reached.kind().ends_round() || self.rule.last_ok(a)
         }
     }
 

@@ -2,11 +2,11 @@
 // other is not; whoever is left over is in neither. So behind halves that keep the two apart no permutation is looked
 // at. The pairs of a beginning need no look, as they are listed by rules that are narrowed to the wish.
 ghost use Rattle.std.specs.Prelude.{◌≡◌, ℕ, List, false, nat_le, true};
-ghost use Rattle.dutch_order.specs.Prelude.{IsExchange, IsIn};
+ghost use Rattle.dutch_arrangements.specs.Prelude.{IsExchange, IsIn};
 ghost use Rattle.dutch_choice.specs.RuledOut.{half_pairs, has_one_of, s1_bars, s1r_bars, halves_bar, rules_out};
 
+use dutch_arrangements::{Exchange, Filling, Prefix};
 use dutch_candidates::wish::Wish;
-use dutch_order::{Exchange, Filling, Prefix};
 
 fn has_one_of(p: u16, q: u16, numbers: &[u16]) -> bool
     ensures { result ≡ has_one_of p q numbers.now }

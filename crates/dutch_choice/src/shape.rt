@@ -2,7 +2,7 @@
 // players in them.
 ghost use Rattle.std.specs.Prelude.{◌≡◌, Some, None, true, false, filter, IfSome};
 ghost use Rattle.std.specs.Result.{MatchResult};
-ghost use Rattle.dutch_order.specs.Prelude.{MatchFound, Spends};
+ghost use Rattle.dutch_arrangements.specs.Prelude.{MatchFound, Spends};
 ghost use Rattle.dutch_bracket.specs.Prelude.{FitsHere, IsFound, eligible_here, first_with};
 ghost use Rattle.dutch_bracket.specs.Prelude.{fits, frame_here, shape_here, shapes_with};
 ghost use Rattle.dutch_choice.specs.ShapeCosts.{IsTooCheap, IsShapeFloor};
@@ -12,12 +12,12 @@ use crate::certified::{ShapeFloor, steps_before, told_by_cost};
 use crate::first_candidate::first_eligible;
 use crate::players::Players;
 use crate::start::{FoundShape, Start};
+use dutch_arrangements::{Bracket, Budget, Shape, Stopped};
 use dutch_bracket::context::Context;
 use dutch_bracket::shaped::ShapedBracket;
 use dutch_candidates::few_steps::decided_in_few_steps;
 use dutch_candidates::greatest::{Lister, Shapes, greatest_shape};
 use dutch_candidates::narrowed::NarrowedRule;
-use dutch_order::{Bracket, Budget, Shape, Stopped};
 
 /// A bracket whose shape is looked for, and what every shape that counts costs at least.
 #[derive(Drop)]

@@ -1,6 +1,6 @@
 // Where the candidates of a bracket's shape begin, for whoever looks through them with a lister that is lent.
 
-use dutch_order::Shape;
+use dutch_arrangements::Shape;
 
 /// Where a lister stands.
 #[derive(Clone, Copy)]

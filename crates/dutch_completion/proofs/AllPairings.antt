@@ -4,7 +4,7 @@
 use Rattle.std.proofs.Common.{◌≡◌, ℕ, zero, suc, Bool, true, ◌&&◌, ◌↔◌, ◌⊎◌, inl, inr, List, [], ◌∷◌, ◌++◌, map, length, refl, sym, ◌∙◌, ap, subst, arith}
 use Rattle.std.specs.List.{list_all}
 use Rattle.std.proofs.lemmas.Bool.{or_cases, and_parts, and_from, or_left, or_right, true≢false}
-use Rattle.dutch_order.specs.Prelude.{leaves_one, IsIn}
+use Rattle.dutch_arrangements.specs.Prelude.{leaves_one, IsIn}
 use Rattle.dutch_sequence.proofs.Orders.{IsIn-map, map-IsIn, IsIn-flat_map, flat_map-IsIn}
 use Rattle.dutch_bracket.specs.Prelude.{Way, all_pairings, can_complete, is_complete, paired, picks, with_first, with_member, can_cover, nobody, some_partner}
 use Rattle.dutch_bracket.proofs.AnyLemmas.{any_in, found_in}

@@ -1,7 +1,7 @@
 -- The candidates of a shape that can be chosen, one candidate after another.
 use Rattle.std.proofs.Common.{◌≡◌, ℕ, Bool, true, false, cond, List, [], ◌∷◌, filter, refl, ap, ◌∙◌, not, ◌||◌, ◌++◌}
-use Rattle.dutch_order.specs.Prelude.{Arrangement, Passes}
-use Rattle.dutch_order.specs.declared.bracket.Shape.{Shape}
+use Rattle.dutch_arrangements.specs.Prelude.{Arrangement, Passes}
+use Rattle.dutch_arrangements.specs.declared.bracket.Shape.{Shape}
 use Rattle.dutch_sequence.proofs.Lists.{filter-all}
 use Rattle.dutch_sequence.proofs.Skipping.{passes-more, passes-same}
 use Rattle.dutch_player.specs.Prelude.{Facts}

@@ -2,9 +2,9 @@
 use Rattle.std.proofs.Common.{◌≡◌, ℕ, zero, suc, ◌≤◌, Bool, true, ◌==◌, cond, List, [], ◌∷◌, ◌++◌, length, refl, sym, ap, ◌∙◌, arith, subst, inl, inr, ◌⊎◌}
 use Rattle.std.proofs.lemmas.List.{length-append}
 use Rattle.std.proofs.lemmas.Bool.{cases_eq, eq-eqb, ne_eqb}
-use Rattle.dutch_order.specs.Prelude.{IsIn, NoneTwice}
+use Rattle.dutch_arrangements.specs.Prelude.{IsIn, NoneTwice}
 use Rattle.dutch_sequence.proofs.Orders.{IsIn-append, IsIn-front, IsIn-back}
-use Rattle.dutch_order.proofs.NoneTwice.{twice-back, twice-apart}
+use Rattle.dutch_arrangements.proofs.NoneTwice.{twice-back, twice-apart}
 use Rattle.dutch_bracket.specs.Completion.{Covers, MayBeLeftOut, Completable}
 use Rattle.dutch_bracket.specs.Prelude.{nobody}
 use Rattle.dutch_completion.proofs.Covering.{with_left, with_pair}

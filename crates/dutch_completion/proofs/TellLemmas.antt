@@ -2,7 +2,7 @@
 use Rattle.std.proofs.Common.{◌≡◌, ℕ, Bool, true, false, true≢false, not, ◌||◌, List, ◌++◌, map, Result, Ok, Err, sym, subst}
 use Rattle.std.specs.Result.{IsErr}
 use Rattle.std.proofs.lemmas.Bool.{false_from_ne_true}
-use Rattle.dutch_order.specs.Prelude.{Arrangement, down}
+use Rattle.dutch_arrangements.specs.Prelude.{Arrangement, down}
 use Rattle.dutch_sequence.specs.declared.steps.Stopped.{Stopped}
 use Rattle.dutch_player.specs.Prelude.{Facts}
 use Rattle.dutch_bracket.specs.declared.answer.Answer.{Answer}

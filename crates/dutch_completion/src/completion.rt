@@ -10,10 +10,10 @@ ghost use Rattle.dutch_bracket.specs.Completion.{most_of_bye};
 ghost use Rattle.dutch_bracket.specs.CompletionSearch.{Searched, can_go, left_over, some_partner};
 ghost use Rattle.dutch_bracket.specs.declared.answer.Answer.TheVariants.{No};
 
+use dutch_arrangements::{Budget, LIMIT, Numbers, Rule, Stopped};
 use dutch_bracket::Answer;
 use dutch_bracket::reached::push_all;
 use dutch_bracket::spending::step;
-use dutch_order::{Budget, LIMIT, Numbers, Rule, Stopped};
 
 /// Yes if some list of pairs of players who may meet leaves out at most one of the players, who may be left out (A.9).
 /// A step is one partner or the bye tried for one player. It takes no memory.
@@ -129,7 +129,7 @@ fn leave_first<R: Rule>(rule: &R, first: First, later: &mut [u16], budget: &mut 
     let Ok(()) = step(budget) else {
         return Answer::Undecided;
     };
-    if !rule.may_be_left(first.player) {
+    if !rule.last_ok(first.player) {
         return Answer::No;
     }
     can_pair(rule, later, false, budget)

@@ -2,7 +2,7 @@
 // seats can be paired out, else a matching, else the whole search.
 ghost use Rattle.std.specs.Prelude.{◌≡◌, ◌+◌, ◌≤◌, ◌++◌, length, map};
 ghost use Rattle.dutch_sequence.specs.declared.numbers.TheConstants.{LIMIT};
-ghost use Rattle.dutch_order.specs.Prelude.{down, MatchFound, Spends};
+ghost use Rattle.dutch_arrangements.specs.Prelude.{down, MatchFound, Spends};
 ghost use Rattle.dutch_bracket.specs.Seated.{seat_of};
 ghost use Rattle.dutch_bracket.specs.Brackets.{completable};
 ghost use Rattle.dutch_bracket.specs.InContext.{can_be_chosen_here, frame_here};
@@ -11,11 +11,11 @@ ghost use Rattle.dutch_bracket.specs.Stops.{Decides};
 use crate::completion::completes;
 use crate::matched::decided_by_matching;
 use crate::seats::seats;
+use dutch_arrangements::{Budget, Candidate, Stopped};
 use dutch_bracket::context::Context;
 use dutch_bracket::reached::{Reached, Seats, push_all};
 use dutch_bracket::seated::push_seats;
 use dutch_bracket::spending::at_most;
-use dutch_order::{Budget, Candidate, Stopped};
 use dutch_player::Field;
 use std::alloc::Global;
 

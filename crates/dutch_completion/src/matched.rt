@@ -5,14 +5,14 @@
 // confirms it.
 ghost use Rattle.std.specs.Prelude.{◌≡◌, ◌≤◌, length, IfOk, IfSome};
 ghost use Rattle.dutch_sequence.specs.declared.numbers.TheConstants.{LIMIT};
-ghost use Rattle.dutch_order.specs.Prelude.{MatchFound, Spends};
+ghost use Rattle.dutch_arrangements.specs.Prelude.{MatchFound, Spends};
 ghost use Rattle.dutch_bracket.specs.Brackets.{completable};
 
 use crate::meetings::Meetings;
 use crate::seats::seats;
 use dual::{tells_completable, tells_incompletable};
+use dutch_arrangements::{Budget, LIMIT, Stopped};
 use dutch_bracket::seated::Pair;
-use dutch_order::{Budget, LIMIT, Stopped};
 use dutch_player::Field;
 use matching::{Fault, Found, greatest};
 use std::alloc::{AllocError, Global};

@@ -4,7 +4,7 @@ ghost use Rattle.dutch_sequence.specs.declared.numbers.TheConstants.{LIMIT};
 ghost use Rattle.dutch_bracket.specs.Meetings.{joined_seats};
 
 use crate::seats::seats;
-use dutch_order::{LIMIT, Rule};
+use dutch_arrangements::{LIMIT, Rule};
 use dutch_player::Field;
 use matching::Graph;
 use std::marker::Model;
@@ -44,7 +44,7 @@ impl<'a> Meetings<'a> {
         let rule = seats(self.field);
         match (a, b) {
             (Some(a), Some(b)) => rule.may_meet(a, b),
-            (Some(seat), None) | (None, Some(seat)) => rule.may_be_left(seat),
+            (Some(seat), None) | (None, Some(seat)) => rule.last_ok(seat),
             (None, None) => false,
         }
     }

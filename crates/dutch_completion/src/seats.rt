@@ -3,7 +3,7 @@ ghost use Rattle.std.specs.Prelude.{◌≡◌};
 ghost use Rattle.dutch_bracket.specs.Seats.{is_seat, seats_meet, seats_may_be_left};
 
 use dual::Wide;
-use dutch_order::Rule;
+use dutch_arrangements::Rule;
 use dutch_player::Field;
 use std::marker::Model;
 
@@ -53,7 +53,7 @@ impl<'a> Rule for BySeat<'a> {
     }
 
     #[tactic(auto, unfolding(dutch_bracket::specs::Seats::seats_may_be_left))]
-    fn may_be_left(&self, a: u16) -> bool {
+    fn last_ok(&self, a: u16) -> bool {
         self.has(a) && self.field.may_bye(a)
     }
 
@@ -77,7 +77,7 @@ impl<'a> dual::MatchingRule for BySeat<'a> {
     }
 
     fn may_be_left(&self, a: u16) -> bool {
-        Rule::may_be_left(self, a)
+        Rule::last_ok(self, a)
     }
 
     fn left_cost(&self, _a: u16) -> Wide {

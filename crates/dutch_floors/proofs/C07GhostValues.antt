@@ -5,8 +5,8 @@ use Rattle.std.proofs.lemmas.Bool.{cases_Bool}
 use Rattle.std.specs.Prelude.{slice_index}
 use Rattle.std.specs.List.{AllByRecursion}
 use Rattle.std.proofs.lemmas.List.{length-map, nil_from_length}
-use Rattle.dutch_order.specs.declared.bracket.Shape.{Shape}
-use Rattle.dutch_order.specs.Prelude.{numbers_from, is_member, IsIn, Frame, Arrangement, left_of, arrangements}
+use Rattle.dutch_arrangements.specs.declared.bracket.Shape.{Shape}
+use Rattle.dutch_arrangements.specs.Prelude.{numbers_from, is_member, IsIn, Frame, Arrangement, left_of, arrangements}
 use Rattle.dutch_sequence.proofs.Lists.{filter-all}
 use Rattle.dutch_sequence.proofs.Members.{climbs-filter, filter-length, length-numbers}
 use Rattle.dutch_player.specs.Prelude.{Facts}

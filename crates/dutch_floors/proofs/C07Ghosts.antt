@@ -10,8 +10,8 @@ use Rattle.std.specs.List.{AllByRecursion, list_any}
 use Rattle.std.proofs.lemmas.Bool.Decides.{nat_tests}
 use Rattle.std.proofs.lemmas.List.{length-map, map-append, get_or-map}
 use Rattle.std.proofs.lemmas.Simd.{map-map}
-use Rattle.dutch_order.specs.declared.bracket.Shape.{Shape}
-use Rattle.dutch_order.specs.Prelude.{numbers_from, is_member, IsIn, Candidate, Frame, Arrangement, left_of, remainder_pairs, arrangements, candidates, is_legal, down}
+use Rattle.dutch_arrangements.specs.declared.bracket.Shape.{Shape}
+use Rattle.dutch_arrangements.specs.Prelude.{numbers_from, is_member, IsIn, Candidate, Frame, Arrangement, left_of, remainder_pairs, arrangements, candidates, is_legal, down}
 use Rattle.dutch_player.specs.Prelude.{Facts, may_meet}
 use Rattle.dutch_bracket.specs.declared.reached.BracketKind.TheVariants.{Ordinary}
 use Rattle.dutch_bracket.specs.Prelude.{seat_of, score_at, Reached, IsOf, frame_of, is_number, numbers_meet, number_may_be_left, NextValue, highest_first, has_member, greatest_shape, shapes, is_lower, lowest_list_upto, lowest_list, next_bracket, legal_in, psd_in, no_value, value_of_shape, value_of, value_in, IsFlat, IsOfBracket, IsNext, downfloaters, residents_down, repeated, floor_psd, IsNotBetter, is_upto, ghost_pair, may_bye, ghosts_meet, ghost_may_be_left, ghost_scores, ghost_frame, ghost_floor}

@@ -9,8 +9,8 @@ use Rattle.std.proofs.Common.{◌≡◌, ℕ, zero, suc, ◌+◌, ◌-◌, ◌*�
 use Rattle.std.specs.List.{AllByRecursion}
 use Rattle.std.proofs.lemmas.Bool.{ne_eqb, eq-eqb}
 use Rattle.std.proofs.lemmas.List.{length-map}
-use Rattle.dutch_order.specs.declared.bracket.Shape.{Shape}
-use Rattle.dutch_order.specs.Prelude.{numbers_from, is_member, IsIn, Frame, Arrangement, left_of, remainder_pairs, arrangements, down}
+use Rattle.dutch_arrangements.specs.declared.bracket.Shape.{Shape}
+use Rattle.dutch_arrangements.specs.Prelude.{numbers_from, is_member, IsIn, Frame, Arrangement, left_of, remainder_pairs, arrangements, down}
 use Rattle.dutch_sequence.proofs.Members.{climbs-filter, filter-length, length-numbers}
 use Rattle.dutch_player.specs.Prelude.{Facts}
 use Rattle.dutch_bracket.specs.Prelude.{seat_of, score_at, all_pairs, lowest, difference, difference_down, Reached, IsOf, frame_of, one_if, highest_first, psd, IsFlat, is_lower, psd_in, repeated, floor_psd}

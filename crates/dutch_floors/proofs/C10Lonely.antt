@@ -7,8 +7,8 @@ use Rattle.std.specs.List.{AllByRecursion, list_any}
 use Rattle.std.proofs.lemmas.Bool.{and_parts}
 use Rattle.std.proofs.lemmas.List.{length-map}
 use Rattle.std.proofs.lemmas.List.Sums.{sum_by-append, sum_by-cons}
-use Rattle.dutch_order.specs.declared.bracket.Shape.{Shape}
-use Rattle.dutch_order.specs.Prelude.{all_meet, is_member, without, tuples, IsIn, Arrangement, left_of, residents_of, remainder_pairs}
+use Rattle.dutch_arrangements.specs.declared.bracket.Shape.{Shape}
+use Rattle.dutch_arrangements.specs.Prelude.{all_meet, is_member, without, tuples, IsIn, Arrangement, left_of, residents_of, remainder_pairs}
 use Rattle.dutch_sequence.proofs.Counts.{left-append}
 use Rattle.dutch_sequence.proofs.Orders.{all_members, IsIn-flat_map, IsIn-map, Rises, Rises-filter}
 use Rattle.dutch_player.specs.Prelude.{Facts}

@@ -1,12 +1,12 @@
 -- What a floor is made of has room in a bracket.
 use Rattle.std.proofs.Common.{◌≡◌, ℕ, ◌+◌, ◌-◌, ◌*◌, ◌≤◌, Bool, true, false, List, [], ◌∷◌, ◌++◌, filter, length, max, sum_by, refl, ap, ◌∙◌, arith}
 use Rattle.std.proofs.lemmas.Bool.{and_parts}
-use Rattle.dutch_order.specs.declared.bracket.Shape.{Shape}
-use Rattle.trf16.specs.declared.cell.Colour.TheVariants.{White, Black}
+use Rattle.dutch_arrangements.specs.declared.bracket.Shape.{Shape}
+use Rattle.trf16_report.specs.declared.cell.Colour.TheVariants.{White, Black}
 use Rattle.dutch_player.specs.Prelude.{Facts}
-use Rattle.dutch_order.specs.declared.prefix.Filling.{Filling}
-use Rattle.dutch_order.specs.declared.prefix.Filling.TheVariants.{S1, S2, S2r}
-use Rattle.dutch_order.specs.Prelude.{Arrangement, Fits, numbers_from, Beginning}
+use Rattle.dutch_arrangements.specs.declared.prefix.Filling.{Filling}
+use Rattle.dutch_arrangements.specs.declared.prefix.Filling.TheVariants.{S1, S2, S2r}
+use Rattle.dutch_arrangements.specs.Prelude.{Arrangement, Fits, numbers_from, Beginning}
 use Rattle.dutch_player.specs.declared.float.Float.TheVariants.{Up, Down}
 use Rattle.dutch_bracket.specs.Prelude.{IsOf, frame_of, HasFewPairs, fixed_lists, is_of_shape, again, all_pairs, differences, fixed, floor_over, is_uneven, lonely, pairs_of, seat_of, going_down, going_up, next_in, quality_with, seated_so, in_both, with_floats, Quality, Reached, Seated}
 use Rattle.dutch_floors.specs.Behind.{Basis}

@@ -3,11 +3,11 @@ use Rattle.std.proofs.Common.{◌≡◌, ℕ, zero, suc, ◌+◌, ◌-◌, ◌�
 use Rattle.std.proofs.lemmas.List.{length-map, append-nil}
 use Rattle.std.proofs.lemmas.List.Elements.{filter-append}
 use Rattle.std.specs.List.{AllByRecursion, list_any}
-use Rattle.dutch_order.specs.Prelude.{is_member, numbers_from, left_of, Arrangement}
+use Rattle.dutch_arrangements.specs.Prelude.{is_member, numbers_from, left_of, Arrangement}
 use Rattle.dutch_sequence.proofs.Members.{numbers-append}
 use Rattle.dutch_player.specs.Prelude.{Facts}
 use Rattle.dutch_sequence.specs.declared.numbers.TheConstants.{LIMIT}
-use Rattle.dutch_order.specs.declared.bracket.Shape.{Shape}
+use Rattle.dutch_arrangements.specs.declared.bracket.Shape.{Shape}
 use Rattle.dutch_bracket.specs.Prelude.{Reached, score_at, has_bit, beyond, lonely, lonely_first, lonely_second, pool, residents_down, suits, waiting}
 use Rattle.dutch_sequence.proofs.Skipping.{filter-keeps, filter-drops}
 

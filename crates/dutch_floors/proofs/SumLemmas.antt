@@ -4,11 +4,11 @@ use Rattle.std.specs.List.{zip}
 use Rattle.std.proofs.Math.Seq.{take-suc}
 use Rattle.std.proofs.lemmas.List.{get_or-append_right, get_or_append_left, length-map, map-append}
 use Rattle.std.proofs.lemmas.Slice.Zip.{get_or-zip, length-zip}
-use Rattle.dutch_order.specs.Prelude.{Arrangement}
+use Rattle.dutch_arrangements.specs.Prelude.{Arrangement}
 use Rattle.std.proofs.lemmas.List.Elements.{filter-append}
 use Rattle.std.proofs.lemmas.List.Sums.{sum_by-append, sum_by-cons}
-use Rattle.trf16.specs.declared.cell.Colour.{Colour}
-use Rattle.trf16.specs.declared.cell.Colour.TheVariants.{White, Black}
+use Rattle.trf16_report.specs.declared.cell.Colour.{Colour}
+use Rattle.trf16_report.specs.declared.cell.Colour.TheVariants.{White, Black}
 use Rattle.dutch_sequence.specs.declared.numbers.TheConstants.{LIMIT}
 use Rattle.dutch_player.specs.Prelude.{Facts, SeatFacts, colours, seat_at}
 use Rattle.dutch_bracket.specs.declared.colours_missed.Miss.TheVariants.{Wide, Third, Preference, StrongPreference}

@@ -1,7 +1,7 @@
 -- What floors by counts say of the candidates behind a beginning (C.04.3 B.3, C.6 to C.19).
 use Rattle.std.specs.Prelude.{◌≡◌, ℕ, List, false}
-use Rattle.dutch_order.specs.declared.bracket.Shape.{Shape}
-use Rattle.dutch_order.specs.Prelude.{Arrangement, Beginning, Begins, IsIn}
+use Rattle.dutch_arrangements.specs.declared.bracket.Shape.{Shape}
+use Rattle.dutch_arrangements.specs.Prelude.{Arrangement, Beginning, Begins, IsIn}
 use Rattle.dutch_player.specs.Prelude.{Facts}
 use Rattle.dutch_bracket.specs.declared.shaped.ShapedBracket.{ShapedBracket}
 use Rattle.dutch_bracket.specs.Prelude.{HasNoBetter, IsOf, NextValue, Quality, Reached, candidates_of, is_better, quality_of}

@@ -1,12 +1,12 @@
 -- The floor of a beginning, by what is fixed in it (C.04.3 C.6 to C.19). Only private functions' clauses cite these: what is promised of a floor
 -- stands in `Behind`.
 use Rattle.std.specs.Prelude.{◌≤◌, ◌≡◌, ℕ, ◌+◌, ◌-◌, ◌*◌, Bool, true, false, ◌&&◌, ◌||◌, ◌==◌, nat_lt, if◌then◌else◌, List, length, max, sum_by}
-use Rattle.trf16.specs.declared.cell.Colour.{Colour}
-use Rattle.trf16.specs.declared.cell.Colour.TheVariants.{White, Black}
-use Rattle.dutch_order.specs.declared.bracket.Shape.{Shape}
-use Rattle.dutch_order.specs.declared.prefix.Filling.{Filling}
-use Rattle.dutch_order.specs.declared.prefix.Filling.TheVariants.{S1, S2, S2r}
-use Rattle.dutch_order.specs.Prelude.{Arrangement, numbers_from, Beginning}
+use Rattle.trf16_report.specs.declared.cell.Colour.{Colour}
+use Rattle.trf16_report.specs.declared.cell.Colour.TheVariants.{White, Black}
+use Rattle.dutch_arrangements.specs.declared.bracket.Shape.{Shape}
+use Rattle.dutch_arrangements.specs.declared.prefix.Filling.{Filling}
+use Rattle.dutch_arrangements.specs.declared.prefix.Filling.TheVariants.{S1, S2, S2r}
+use Rattle.dutch_arrangements.specs.Prelude.{Arrangement, numbers_from, Beginning}
 use Rattle.dutch_sequence.specs.declared.numbers.TheConstants.{LIMIT}
 use Rattle.dutch_player.specs.Prelude.{Facts}
 use Rattle.dutch_bracket.specs.Prelude.{Quality, psd, Reached, Seated, seat_of, score_at, fixed, in_both, fixed_lists, is_of_shape, has_s1, wants, wants_firmly, lonely, next_in, psd_with, is_uniform, floor_over}

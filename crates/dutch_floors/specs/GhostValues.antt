@@ -1,7 +1,7 @@
 -- What the next bracket can be at best, as ghosts tell it (C.04.3 C.7).
 use Rattle.std.specs.Prelude.{ℕ, ◌+◌, ◌-◌, ◌*◌, nat_lt, if◌then◌else◌, List, [], map, length, slice_index, Option, Some, None}
-use Rattle.dutch_order.specs.declared.bracket.Shape.{Shape}
-use Rattle.dutch_order.specs.Prelude.{numbers_from, candidates}
+use Rattle.dutch_arrangements.specs.declared.bracket.Shape.{Shape}
+use Rattle.dutch_arrangements.specs.Prelude.{numbers_from, candidates}
 use Rattle.dutch_player.specs.Prelude.{Facts}
 use Rattle.dutch_bracket.specs.Prelude.{NextValue, no_value, Reached, seat_of, score_at, greatest_shape, ghosts_meet, ghost_may_be_left, ghost_scores, ghost_frame, ghost_floor}
 use Rattle.dutch_sequence.specs.declared.numbers.TheConstants.{LIMIT}

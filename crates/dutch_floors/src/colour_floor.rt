@@ -5,11 +5,11 @@ ghost use Rattle.dutch_bracket.specs.declared.colours_missed.Miss.TheVariants.{P
 ghost use Rattle.dutch_bracket.specs.Prelude.{misses, count_in, in_both};
 ghost use Rattle.dutch_floors.specs.FloorOf.{AreWants, wanting};
 
+use dutch_arrangements::Shape;
 use dutch_bracket::colours_missed::{Miss, count_in};
 use dutch_bracket::context::Context;
 use dutch_bracket::seated::Pair;
-use dutch_order::Shape;
-use trf16::Colour;
+use trf16_report::Colour;
 
 /// Whose preferences are counted: those for a colour, or only the firm ones for it.
 #[derive(Clone, Copy)]

@@ -2,8 +2,8 @@
 // asked for at each beginning that a choice comes to, so it takes no memory and looks at each player only a few times.
 ghost use Rattle.std.specs.Prelude.{◌≡◌, ◌≤◌, ◌||◌, ◌&&◌, ℕ, [], true, filter, length};
 ghost use Rattle.std.specs.Result.{MatchResult};
-ghost use Rattle.dutch_order.specs.Prelude.{Fits, Spends};
-ghost use Rattle.dutch_order.specs.declared.prefix.Filling.TheVariants.{S2r};
+ghost use Rattle.dutch_arrangements.specs.Prelude.{Fits, Spends};
+ghost use Rattle.dutch_arrangements.specs.declared.prefix.Filling.TheVariants.{S2r};
 ghost use Rattle.dutch_sequence.specs.declared.numbers.TheConstants.{LIMIT};
 ghost use Rattle.dutch_bracket.specs.Prelude.{all_pairs, fixed, fixed_lists, frame_of, has_s1, is_uneven, is_uniform};
 ghost use Rattle.dutch_bracket.specs.Prelude.{HasFewPairs, IsOf, next_in, psd_with, quality_in, seated_so};
@@ -20,12 +20,12 @@ use crate::known_pairs::{KnownPairs, PairSums, fill_uneven};
 use crate::lonely::{lonely, most_lonely};
 use crate::notes::{FloorNotes, FloorQuestion};
 use crate::outlook::{Outlook, is_flat, leaves_first};
+use dutch_arrangements::{Budget, Filling, LIMIT, Numbers, Prefix, Shape, Stopped, numbered_from};
 use dutch_bracket::differences::fill_psd;
 use dutch_bracket::quality::{NextValue, Quality, QualityLists, fill_floats};
 use dutch_bracket::shaped::ShapedBracket;
 use dutch_candidates::fixed_lists::{FixedLists, fill_fixed, fixed_lists, has_s1, is_of_shape};
 use dutch_candidates::psd_floor::{FlatShape, is_uniform};
-use dutch_order::{Budget, Filling, LIMIT, Numbers, Prefix, Shape, Stopped, numbered_from};
 use std::marker::Model;
 
 /// What the floors of a bracket and a shape stand on, read once for a choice.
@@ -47,7 +47,7 @@ pub struct Floors<'a> {
 
 impl<'a> Model for Floors<'a> {
     ghost use Rattle.std.specs.Prelude.{◌≡◌, true, false};
-    ghost use Rattle.dutch_order.specs.Prelude.{numbers_from};
+    ghost use Rattle.dutch_arrangements.specs.Prelude.{numbers_from};
     ghost use Rattle.dutch_bracket.specs.Prelude.{IsOf, is_uniform};
     ghost use Rattle.dutch_floors.specs.Behind.{Basis, basis_for};
     ghost use Rattle.dutch_floors.specs.FloorOf.{AreWants, is_flat};

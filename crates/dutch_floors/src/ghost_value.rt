@@ -4,7 +4,7 @@
 ghost use Rattle.std.specs.Prelude.{◌≡◌, ◌+◌, ◌-◌, ◌*◌, ◌<◌, ◌≤◌, ◌++◌, false, length, map};
 ghost use Rattle.std.specs.Result.{MatchResult};
 ghost use Rattle.arrayvec.specs.ArrayVec.{array_vec_len};
-ghost use Rattle.dutch_order.specs.Prelude.{IsBracket, left_of, Spends};
+ghost use Rattle.dutch_arrangements.specs.Prelude.{IsBracket, left_of, Spends};
 ghost use Rattle.dutch_bracket.specs.declared.reached.BracketKind.TheVariants.{Ordinary};
 ghost use Rattle.dutch_bracket.specs.Prelude.{ghost_frame, group_here, IsFlat, placed_all, seat_of};
 ghost use Rattle.dutch_bracket.specs.Prelude.{score_at};
@@ -12,13 +12,13 @@ ghost use Rattle.dutch_floors.specs.GhostValues.{first_limbo, first_ghosts, floo
 
 use crate::ghosts::Ghosts;
 use arrayvec::ArrayVec;
+use dutch_arrangements::{Bracket, Budget, LIMIT, Numbers, Stopped, numbered_from};
 use dutch_bracket::context::Context;
 use dutch_bracket::differences::{push_times, put, put_times};
 use dutch_bracket::quality::NextValue;
 use dutch_bracket::reached::{push_all, push_scores};
 use dutch_bracket::shaped::ShapedBracket;
 use dutch_candidates::greatest::greatest_legal;
-use dutch_order::{Bracket, Budget, LIMIT, Numbers, Stopped, numbered_from};
 
 /// Adds the scores of those of some numbers who are not in S1.
 pub(crate) fn push_left(context: &Context<'_>, numbers: &[u16], s1: &[u16], scores: &mut Numbers)

@@ -8,12 +8,12 @@ ghost use Rattle.dutch_player.specs.Prelude.{may_meet};
 ghost use Rattle.dutch_bracket.specs.Prelude.{is_upto, some_meets, may_bye, ghosts_meet, ghost_may_be_left};
 ghost use Rattle.dutch_bracket.specs.Prelude.{group_here};
 ghost use Rattle.dutch_floors.specs.GhostRules.{IsRead};
-ghost use Rattle.dutch_order.specs.Prelude.{Spends};
+ghost use Rattle.dutch_arrangements.specs.Prelude.{Spends};
 
 use arrayvec::ArrayVec;
+use dutch_arrangements::{Budget, LIMIT, Rule, Stopped};
 use dutch_bracket::context::Context;
 use dutch_bracket::spending::spend;
-use dutch_order::{Budget, LIMIT, Rule, Stopped};
 use dutch_player::Field;
 use std::marker::Model;
 
@@ -203,7 +203,7 @@ impl<'a> Rule for GhostRule<'a> {
     }
 
     #[tactic(auto, unfolding(dutch_bracket::specs::Ghosts::ghost_may_be_left))]
-    fn may_be_left(&self, a: u16) -> bool {
+    fn last_ok(&self, a: u16) -> bool {
         if !self.has(a) {
             return false;
         }

@@ -5,7 +5,7 @@ ghost use Rattle.arrayvec.specs.ArrayVec.{array_vec_len};
 ghost use Rattle.dutch_sequence.specs.declared.numbers.TheConstants.{LIMIT};
 ghost use Rattle.dutch_player.specs.Prelude.{Facts};
 ghost use Rattle.dutch_bracket.specs.declared.colours_missed.Miss.TheVariants.{Wide, Third};
-ghost use Rattle.trf16.specs.declared.cell.Colour.TheVariants.{White, Black};
+ghost use Rattle.trf16_report.specs.declared.cell.Colour.TheVariants.{White, Black};
 ghost use Rattle.dutch_bracket.specs.Prelude.{HasFewPairs, all_pairs, count_with_topscorers, in_both, is_uneven, misses};
 ghost use Rattle.dutch_floors.specs.FloorOf.{wanting};
 ghost use Rattle.dutch_floors.specs.Behind.{Basis};
@@ -14,13 +14,13 @@ ghost use Rattle.dutch_floors.specs.KnownPairs.{AreFew, AreKnown, AreSums, by_se
 use crate::colour_floor::{Want, Wants, in_pair, missed_by};
 use crate::lonely::LonelyRoom;
 use arrayvec::ArrayVec;
+use dutch_arrangements::LIMIT;
 use dutch_bracket::colours_missed::{Miss, count_in, has_topscorer};
 use dutch_bracket::context::Context;
 use dutch_bracket::seated::{Pair, Seated, is_uneven};
 use dutch_candidates::fixed_lists::{FixedLists, fill_fixed};
-use dutch_order::LIMIT;
 use dutch_player::Field;
-use trf16::Colour;
+use trf16_report::Colour;
 
 /// What pairs add up to: how many of their players want each colour, and how many want it firmly; how many miss so; and
 /// how many of the pairs have players with different scores.

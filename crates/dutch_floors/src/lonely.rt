@@ -2,14 +2,14 @@
 ghost use Rattle.std.specs.Prelude.{◌≡◌, ◌+◌, ◌-◌, ◌≤◌, ◌||◌, ℕ, false, not, length, filter, max};
 ghost use Rattle.std.specs.List.{list_any};
 ghost use Rattle.dutch_sequence.specs.declared.numbers.TheConstants.{LIMIT};
-ghost use Rattle.dutch_order.specs.Prelude.{is_member, numbers_from};
+ghost use Rattle.dutch_arrangements.specs.Prelude.{is_member, numbers_from};
 ghost use Rattle.dutch_bracket.specs.Prelude.{has_bit, suits, waiting, pool, lonely, HasFewPairs};
 
+use dutch_arrangements::{LIMIT, Numbers, Shape};
 use dutch_bracket::context::Context;
 use dutch_bracket::seated::Pair;
 use dutch_candidates::bit_table::{WORD, has_bit, set_bit};
 use dutch_candidates::fixed_lists::FixedLists;
-use dutch_order::{LIMIT, Numbers, Shape};
 
 /// A mark for each number of a bracket.
 type Marks = [u64; LIMIT / WORD + 1];

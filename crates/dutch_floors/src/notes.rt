@@ -4,7 +4,7 @@ ghost use Rattle.dutch_floors.specs.KnownPairs.{AreKnown};
 
 use crate::known_pairs::KnownPairs;
 use crate::lonely::LonelyRoom;
-use dutch_order::Prefix;
+use dutch_arrangements::Prefix;
 
 /// A beginning whose floor is asked for, and with how many players at least and at most who miss their preference the
 /// floor may lose (C.10). By these counts it is told whether it is worth while to look for lonely players; no floor is

@@ -6,14 +6,14 @@ ghost use Rattle.dutch_bracket.specs.declared.reached.BracketKind.TheVariants.{O
 ghost use Rattle.dutch_floors.specs.FloorOf.{is_flat};
 ghost use Rattle.dutch_bracket.specs.Prelude.{pairs_by_counts, group_here, IsAbove, IsOf};
 ghost use Rattle.dutch_floors.specs.Outlooks.{IsOutlookFrom, leaves_first};
-ghost use Rattle.dutch_order.specs.Prelude.{Spends};
+ghost use Rattle.dutch_arrangements.specs.Prelude.{Spends};
 
 use crate::ghost_value::ghost_value;
+use dutch_arrangements::{Budget, Numbers, Stopped};
 use dutch_bracket::context::Context;
 use dutch_bracket::quality::NextValue;
 use dutch_bracket::reached::BracketKind;
 use dutch_bracket::shaped::ShapedBracket;
-use dutch_order::{Budget, Numbers, Stopped};
 
 /// What the next bracket can be at best.
 #[derive(Drop)]

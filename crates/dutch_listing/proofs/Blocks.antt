@@ -1,8 +1,8 @@
 -- One turn of a level that goes through its blocks: the choice that comes is the cursor's own, or any other.
 use Rattle.std.proofs.Common.{◌≡◌, ℕ, Bool, true, false, if◌then◌else◌, List, [], ◌∷◌, ◌++◌, refl, map, sym, subst, inl, inr, append-nil, is_some, option_copied, Bor, Option, Some, None, ap, ◌∙◌}
 use Rattle.std.specs.List.{AllByRecursion}
-use Rattle.dutch_order.specs.Prelude.{Arrangement, IsPassedTuple, left_of, is_same, Of, arranged, blocks_from, if_own, in_s1r, in_s2, s1r_blocks, exchanges, GoesOn, Passes}
-use Rattle.dutch_order.specs.declared.prefix.Filling.TheVariants.{S2r}
+use Rattle.dutch_arrangements.specs.Prelude.{Arrangement, IsPassedTuple, left_of, is_same, Of, arranged, blocks_from, if_own, in_s1r, in_s2, s1r_blocks, exchanges, GoesOn, Passes}
+use Rattle.dutch_arrangements.specs.declared.prefix.Filling.TheVariants.{S2r}
 use Rattle.std.proofs.lemmas.Bool.{cases_Bool, true≢false}
 use Rattle.dutch_sequence.proofs.FromOn.{is_same-true}
 use Rattle.dutch_sequence.proofs.Skipping.{all-joined, passes-map, passes-none}

@@ -8,8 +8,8 @@ use Rattle.std.proofs.lemmas.List.{append-nil}
 use Rattle.std.proofs.lemmas.Bool.{cases_lt, and_parts, eqb-true, leb-true, true≢false, eq-eqb, not-true}
 use Rattle.std.proofs.lemmas.Bool.Decides.{nat_tests}
 use Rattle.std.proofs.lemmas.Fmt.{decimal_digit, decimal_step}
-use Rattle.dutch_order.specs.Prelude.{number_after, is_numeral, number_of}
-use Rattle.dutch_order.specs.Cursors.{numbers_of, ◌>>=◌}
+use Rattle.dutch_arrangements.specs.Prelude.{number_after, is_numeral, number_of}
+use Rattle.dutch_arrangements.specs.Cursors.{numbers_of, ◌>>=◌}
 use Rattle.dutch_sequence.specs.declared.numbers.TheConstants.{LIMIT}
 
 -- the numbers that a cursor may have

@@ -3,15 +3,15 @@ use Rattle.std.proofs.Common.{◌≡◌, ℕ, ◌+◌, ◌-◌, Bool, true, fals
 use Rattle.std.specs.Prelude.{Ok, Err}
 use Rattle.std.specs.Option.{is_some}
 use Rattle.std.proofs.lemmas.Bool.{cases_Bool, true≢false}
-use Rattle.dutch_order.specs.Prelude.{IsIn, Frame, Arrangement, IsBracket, residents_of, left_of, arrangements, parts, cursor_text, parsed, is_of, of_bracket, cursor_of}
-use Rattle.dutch_order.specs.declared.bracket.Shape.{Shape}
-use Rattle.dutch_order.specs.declared.cursor.CursorFault.{CursorFault}
-use Rattle.dutch_order.specs.declared.cursor.CursorFault.TheVariants.{Syntax, NotOfBracket}
+use Rattle.dutch_arrangements.specs.Prelude.{IsIn, Frame, Arrangement, IsBracket, residents_of, left_of, arrangements, parts, cursor_text, parsed, is_of, of_bracket, cursor_of}
+use Rattle.dutch_arrangements.specs.declared.bracket.Shape.{Shape}
+use Rattle.dutch_arrangements.specs.declared.cursor.CursorFault.{CursorFault}
+use Rattle.dutch_arrangements.specs.declared.cursor.CursorFault.TheVariants.{Syntax, NotOfBracket}
 use Rattle.dutch_sequence.proofs.Orders.{all_members}
-use Rattle.dutch_order.proofs.Parts.{glue-parts}
+use Rattle.dutch_arrangements.proofs.Parts.{glue-parts}
 use Rattle.dutch_listing.proofs.CursorNumbers.{IsNumber}
-use Rattle.dutch_order.proofs.CursorSets.{numbers-within, lists-are, left-within}
-use Rattle.dutch_order.proofs.CursorArrangements.{of-in, in-of}
+use Rattle.dutch_arrangements.proofs.CursorSets.{numbers-within, lists-are, left-within}
+use Rattle.dutch_arrangements.proofs.CursorArrangements.{of-in, in-of}
 use Rattle.dutch_listing.proofs.CursorTexts.{HasNumbers, parsed-text, arrangement-read}
 
 resident-number : (frame : Frame) (x : ℕ) → IsBracket frame.scores frame.mdps → IsIn x (residents_of frame) → IsNumber x

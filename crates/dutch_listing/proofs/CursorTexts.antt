@@ -9,9 +9,9 @@ use Rattle.std.proofs.lemmas.List.{append-nil}
 use Rattle.std.proofs.lemmas.Bool.{and_parts, true≢false, cases_Bool, eq-eqb, not-true}
 use Rattle.std.proofs.lemmas.Bool.Decides.{nat_tests}
 use Rattle.std.proofs.lemmas.Slice.Eq.{bytes_eq-Decides}
-use Rattle.dutch_order.specs.Prelude.{Arrangement, list_text, cursor_text, parts, is_numeral, list_of, arrangement_of, parsed}
-use Rattle.dutch_order.specs.Cursors.{numbers_of, ◌>>=◌}
-use Rattle.dutch_order.proofs.Parts.{IsFree, free-append, parts-free, parts-join, glue, parts-behind, glue-parts}
+use Rattle.dutch_arrangements.specs.Prelude.{Arrangement, list_text, cursor_text, parts, is_numeral, list_of, arrangement_of, parsed}
+use Rattle.dutch_arrangements.specs.Cursors.{numbers_of, ◌>>=◌}
+use Rattle.dutch_arrangements.proofs.Parts.{IsFree, free-append, parts-free, parts-join, glue, parts-behind, glue-parts}
 use Rattle.dutch_listing.proofs.CursorNumbers.{IsNumber, number_of-decimal, numbers_of-decimals, is_read, words_of}
 
 -- digits

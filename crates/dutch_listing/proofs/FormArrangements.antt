@@ -2,12 +2,12 @@
 use Rattle.std.proofs.Common.{◌≡◌, ℕ, ◌+◌, ◌-◌, ◌≤◌, List, [], ◌∷◌, ◌++◌, map, length, refl, sym, ap, ◌∙◌, arith, subst, inl, inr, ◌⊎◌, length-append}
 use Rattle.std.specs.List.{AllByRecursion}
 use Rattle.std.proofs.lemmas.List.{length-map}
-use Rattle.dutch_order.specs.declared.bracket.Shape.{Shape}
-use Rattle.dutch_order.specs.Prelude.{IsIn, Frame, Arrangement, arrangements, residents_of, left_of, remainder_pairs, paired, moved_down_of, by_place, pairs_by_number, players_in, NoneTwice, IsMovedDown, IsResident, IsInForm, HasArrangement}
+use Rattle.dutch_arrangements.specs.declared.bracket.Shape.{Shape}
+use Rattle.dutch_arrangements.specs.Prelude.{IsIn, Frame, Arrangement, arrangements, residents_of, left_of, remainder_pairs, paired, moved_down_of, by_place, pairs_by_number, players_in, NoneTwice, IsMovedDown, IsResident, IsInForm, HasArrangement}
 use Rattle.dutch_sequence.proofs.Orders.{all_members, IsIn-append, IsIn-front, IsIn-back}
-use Rattle.dutch_order.proofs.CursorSets.{AreLists, lists-are, numbers-within}
-use Rattle.dutch_order.proofs.CursorArrangements.{of-in, in-of, are-lists}
-use Rattle.dutch_order.proofs.NoneTwice.{different-twice, twice-different, rises-twice, twice-join, twice-front, twice-back, twice-apart, left-in, in-left, players-append, first-in, second-in, seconds-twice, halves-apart, firsts-rise, places-are, places-count, place-in, in-place, places-twice, places-all, places-ascend}
+use Rattle.dutch_arrangements.proofs.CursorSets.{AreLists, lists-are, numbers-within}
+use Rattle.dutch_arrangements.proofs.CursorArrangements.{of-in, in-of, are-lists}
+use Rattle.dutch_arrangements.proofs.NoneTwice.{different-twice, twice-different, rises-twice, twice-join, twice-front, twice-back, twice-apart, left-in, in-left, players-append, first-in, second-in, seconds-twice, halves-apart, firsts-rise, places-are, places-count, place-in, in-place, places-twice, places-all, places-ascend}
 use Rattle.dutch_sequence.proofs.FoundPaths.{in-numbers}
 
 -- the lists of an arrangement, as sets and tuples

@@ -2,11 +2,11 @@
 use Rattle.std.proofs.Common.{◌≡◌, ℕ, ◌+◌, ◌<◌, ◌≤◌, List, [], ◌∷◌, ◌++◌, length, refl, sym, ap, ◌∙◌, arith, subst, inl, inr, ◌⊎◌, length-append, append_assoc}
 use Rattle.std.specs.List.{AllByRecursion}
 use Rattle.std.proofs.lemmas.Bool.{cases_order, cases_lt}
-use Rattle.dutch_order.specs.declared.bracket.Shape.{Shape}
-use Rattle.dutch_order.specs.Prelude.{IsIn, Frame, Arrangement, arrangements, players_of, paired, down, pairs_by_number, players_in, NoneTwice, FirstsAscend, IsMovedDown, IsResident, IsInForm, IsInsertion, TakesPair}
+use Rattle.dutch_arrangements.specs.declared.bracket.Shape.{Shape}
+use Rattle.dutch_arrangements.specs.Prelude.{IsIn, Frame, Arrangement, arrangements, players_of, paired, down, pairs_by_number, players_in, NoneTwice, FirstsAscend, IsMovedDown, IsResident, IsInForm, IsInsertion, TakesPair}
 use Rattle.dutch_sequence.proofs.Orders.{IsIn-front, IsIn-back}
-use Rattle.dutch_order.proofs.CursorSets.{AreLists, numbers-within}
-use Rattle.dutch_order.proofs.NoneTwice.{in-left, players-append}
+use Rattle.dutch_arrangements.proofs.CursorSets.{AreLists, numbers-within}
+use Rattle.dutch_arrangements.proofs.NoneTwice.{in-left, players-append}
 use Rattle.dutch_listing.proofs.FormArrangements.{lists-in, pairs-paired, arrangement-form}
 
 -- ---- a pair among others

@@ -1,6 +1,6 @@
 -- What follows of the answer of a call for the next one.
 use Rattle.std.proofs.Common.{◌≡◌, sym, subst}
-use Rattle.dutch_order.specs.Prelude.{MatchStep}
+use Rattle.dutch_arrangements.specs.Prelude.{MatchStep}
 use Rattle.dutch_sequence.specs.declared.steps.Step.{Step}
 use Rattle.dutch_sequence.specs.declared.steps.Step.TheVariants.{Found, End, Undecided}
 

@@ -1,9 +1,9 @@
 -- What is passed over: less where less is idle, and what begins as a choice that was left.
 use Rattle.std.proofs.Common.{◌≡◌, ℕ, Bool, false, List, ◌++◌, ◌∙◌, ap, append_assoc, subst}
 use Rattle.std.specs.List.{AllByRecursion}
-use Rattle.dutch_order.specs.Prelude.{Arrangement, Beginning, Begins, BeginsAt, ExchangeClass, GoesOn, IsExchange, IsPassedSet, IsPassedTuple, Passes, filled, with_list}
-use Rattle.dutch_order.specs.declared.prefix.Filling.{Filling}
-use Rattle.dutch_order.specs.declared.prefix.Filling.TheVariants.{S1, S2, S2r}
+use Rattle.dutch_arrangements.specs.Prelude.{Arrangement, Beginning, Begins, BeginsAt, ExchangeClass, GoesOn, IsExchange, IsPassedSet, IsPassedTuple, Passes, filled, with_list}
+use Rattle.dutch_arrangements.specs.declared.prefix.Filling.{Filling}
+use Rattle.dutch_arrangements.specs.declared.prefix.Filling.TheVariants.{S1, S2, S2r}
 use Rattle.dutch_sequence.proofs.LeftOut.{all-each}
 
 -- where a fact follows from another one

@@ -1,13 +1,13 @@
 -- If a last bracket leaves two or more over, no arrangement is legal.
 use Rattle.std.proofs.Common.{◌≡◌, ℕ, ◌+◌, ◌-◌, ◌*◌, ◌<◌, Bool, true, false, not, ◌&&◌, ◌||◌, cond, List, [], ◌∷◌, ◌++◌, length, length-append, refl, ◌∙◌, ap, arith, inl, inr}
 use Rattle.std.specs.List.{filter}
-use Rattle.dutch_order.specs.declared.bracket.Shape.{Shape}
-use Rattle.dutch_order.specs.Prelude.{tuples, all_meet, IsIn, sorted, lower_first, exchanges, limbo_exchanges, Frame, Arrangement, Fits, players_of, residents_of, moved_down_scores, left_of, remainder_pairs, with_s2r, with_s1r, with_s2, arrangements, paired, down, leaves_one, is_legal, candidates, arranged}
+use Rattle.dutch_arrangements.specs.declared.bracket.Shape.{Shape}
+use Rattle.dutch_arrangements.specs.Prelude.{tuples, all_meet, IsIn, sorted, lower_first, exchanges, limbo_exchanges, Frame, Arrangement, Fits, players_of, residents_of, moved_down_scores, left_of, remainder_pairs, with_s2r, with_s1r, with_s2, arrangements, paired, down, leaves_one, is_legal, candidates, arranged}
 use Rattle.dutch_sequence.proofs.Orders.{IsIn-flat_map, IsIn-map}
 use Rattle.dutch_sequence.proofs.Sets.{sorted-in}
 use Rattle.dutch_sequence.proofs.Members.{length-numbers}
 use Rattle.dutch_sequence.proofs.Counts.{tuples-length, left-length, numbers-rise}
-use Rattle.dutch_order.proofs.Listed.{limbo-length, exchange-length}
+use Rattle.dutch_arrangements.proofs.Listed.{limbo-length, exchange-length}
 
 pub filter-none-in : {A : Type 0} (p : A → Bool) (xs : List A) → ((x : A) → IsIn x xs → p x ≡ false) → filter p xs ≡ []
 filter-none-in p [] none = refl

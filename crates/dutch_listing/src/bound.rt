@@ -2,13 +2,13 @@
 // them all out. A bound works its answer out in its `Room`, which the caller of the listing lends to each question: so
 // no question makes a list. What it leaves there serves the next question, whose beginning is often nearly the same.
 ghost use Rattle.std.specs.Prelude.{◌≡◌, ℕ, Bool, true};
-ghost use Rattle.dutch_order.specs.Arrangements.{Arrangement, Frame, candidates};
+ghost use Rattle.dutch_arrangements.specs.Arrangements.{Arrangement, Frame, candidates};
 ghost use Rattle.dutch_sequence.specs.Exchanged.{IsExchange};
 ghost use Rattle.dutch_sequence.specs.Keys.{IsIn};
-ghost use Rattle.dutch_order.specs.Prefixes.{Begins};
-ghost use Rattle.dutch_order.specs.declared.bracket.Shape.{Shape};
+ghost use Rattle.dutch_arrangements.specs.Prefixes.{Begins};
+ghost use Rattle.dutch_arrangements.specs.declared.bracket.Shape.{Shape};
 
-use dutch_order::Prefix;
+use dutch_arrangements::Prefix;
 use dutch_sequence::Exchange;
 
 /// Tells by how candidates of a bracket and a shape begin that they are idle. It answers for all beginnings.

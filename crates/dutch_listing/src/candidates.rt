@@ -10,12 +10,12 @@
 // so one listing serves all shapes of a bracket that are tried.
 ghost use Rattle.std.specs.Prelude.{◌≡◌, ◌++◌, ◌∷◌, [], Some, None, filter, length, not, ◌||◌, ◌&&◌, ◌-◌, ◌*◌, nat_lt};
 ghost use Rattle.std.specs.Prelude.{option_copied, true, false};
-ghost use Rattle.dutch_order.specs.Arrangements.{Fits, arrangements, candidates, down, leaves_one, rest};
+ghost use Rattle.dutch_arrangements.specs.Arrangements.{Fits, arrangements, candidates, down, leaves_one, rest};
 ghost use Rattle.dutch_sequence.specs.Choices.{is_member};
 ghost use Rattle.dutch_sequence.specs.Keys.{IsIn};
-ghost use Rattle.dutch_order.specs.Levels.{Of, in_bracket, may_leave};
-ghost use Rattle.dutch_order.specs.Listings.{AreCandidates, candidates_from, leaves_too_many, listed};
-ghost use Rattle.dutch_order.specs.Listings.{EndsAtOnce, TellsEnd, Gives, Ends, Stops, GivesPast, EndsPast, StopsPast};
+ghost use Rattle.dutch_arrangements.specs.Levels.{Of, in_bracket, may_leave};
+ghost use Rattle.dutch_arrangements.specs.Listings.{AreCandidates, candidates_from, leaves_too_many, listed};
+ghost use Rattle.dutch_arrangements.specs.Listings.{EndsAtOnce, TellsEnd, Gives, Ends, Stops, GivesPast, EndsPast, StopsPast};
 ghost use Rattle.dutch_sequence.specs.Steps.{MatchDrawn, MatchStep, Passes, Spends};
 ghost use Rattle.dutch_sequence.specs.declared.steps.Step.TheVariants.{Found, End, Undecided};
 
@@ -23,7 +23,7 @@ use crate::bound::Bound;
 use crate::choices::{Levels, no_levels};
 use crate::cuts::{BoundWithRoom, Cuts, NoCuts};
 use crate::levels::Arranges;
-use dutch_order::{
+use dutch_arrangements::{
     Arrangement, Bracket, Candidate, Cursor, FittingShape, LastArrangement, Prefix, Shape,
 };
 use dutch_sequence::{Budget, Drawn, Numbers, Rule, Step, Stopped};
@@ -77,7 +77,7 @@ fn ask_leave<R: Rule>(rule: &R, last: bool, down: &[u16], budget: &mut Budget) -
                 return Err(Stopped);
             }
             budget.used += 1;
-            Ok(rule.may_be_left(*player))
+            Ok(rule.last_ok(*player))
         }
         _ => Ok(false),
     }
@@ -159,7 +159,7 @@ fn draw_legal<R: Rule, L: Arranges, C: Cuts>(
 fn start_drawing<'a, R: Rule>(
     drawing: &mut Drawing<Levels<'a, R>>,
     fitting: &FittingShape<'_>,
-    own: Option<&'a Cursor>,
+    own: Option<&Arrangement>,
     rule: &'a R,
 )
     requires given { Of (λ cursor. IsIn cursor (arrangements fitting.now.bracket.now fitting.now.shape))
@@ -202,9 +202,9 @@ pub struct Candidates<'a, R: Rule> {
 
 impl<'a, R: Rule> Model for Candidates<'a, R> {
     ghost use Rattle.std.specs.Prelude.{◌≡◌, ◌++◌, ◌&&◌, ◌-◌, ◌*◌, [], filter, length, nat_lt, true};
-    ghost use Rattle.dutch_order.specs.Levels.{may_leave};
-    ghost use Rattle.dutch_order.specs.Listings.{AreCandidates, Listing, leaves_too_many, listed, only_if};
-    ghost use Rattle.dutch_order.specs.Listings.{still_coming};
+    ghost use Rattle.dutch_arrangements.specs.Levels.{may_leave};
+    ghost use Rattle.dutch_arrangements.specs.Listings.{AreCandidates, Listing, leaves_too_many, listed, only_if};
+    ghost use Rattle.dutch_arrangements.specs.Listings.{still_coming};
 
     ghost Value = { Listing R };
 
@@ -229,7 +229,7 @@ impl<'a, R: Rule> Model for Candidates<'a, R> {
 
 impl<'a, R: Rule> Candidates<'a, R> {
     /// A listing that has ended, with room for its lists. The room is made once: `restart` begins a listing anew in it.
-    #[tactic(auto, unfolding(dutch_order::specs::Listings::AreCandidates))]
+    #[tactic(auto, unfolding(dutch_arrangements::specs::Listings::AreCandidates))]
     pub fn ended(bracket: &'a Bracket, rule: &'a R) -> Candidates<'a, R>
         ensures coming { result.coming ≡ [] }
         ensures frame { result.frame ≡ bracket.now }
@@ -253,7 +253,7 @@ impl<'a, R: Rule> Candidates<'a, R> {
     }
 
     // Begins anew with a shape: all its candidates, or those that stand behind a cursor.
-    fn begin(&mut self, fitting: FittingShape<'a>, own: Option<&'a Cursor>)
+    fn begin(&mut self, fitting: FittingShape<'a>, own: Option<&Arrangement>)
         requires given { Of (λ cursor. IsIn cursor (arrangements fitting.bracket.now fitting.shape))
             (option_copied own) }
         ensures coming { self.new.coming ≡ candidates_from (R.meets self.old.rule) (R.may_be_left self.old.rule)
@@ -291,19 +291,19 @@ impl<'a, R: Rule> Candidates<'a, R> {
         bracket: &'a Bracket,
         shape: Shape,
         rule: &'a R,
-        cursor: &'a Cursor,
+        cursor: Cursor,
     ) -> Candidates<'a, R>
         requires fits { Fits bracket.now shape }
-        requires given { IsIn cursor.now (arrangements bracket.now shape) }
-        ensures coming { result.coming ≡ rest (R.meets rule.now) (R.may_be_left rule.now) bracket.now shape cursor.now }
+        requires given { IsIn cursor (arrangements bracket.now shape) }
+        ensures coming { result.coming ≡ rest (R.meets rule.now) (R.may_be_left rule.now) bracket.now shape cursor }
         ensures frame { result.frame ≡ bracket.now }
         ensures shape { result.shape ≡ shape }
         ensures rule { result.rule ≡ rule.now }
         ensures ended { result.ended ≡ false }
-        ensures latest { result.latest ≡ Some cursor.now }
+        ensures latest { result.latest ≡ Some cursor }
     {
         let mut candidates = Candidates::ended(bracket, rule);
-        candidates.begin(FittingShape { bracket, shape }, Some(cursor));
+        candidates.begin(FittingShape { bracket, shape }, Some(&cursor.lists));
         candidates
     }
 

@@ -7,18 +7,18 @@
 ghost use Rattle.std.specs.Prelude.{◌≡◌, ◌+◌, ◌≤◌, ℕ, List, None, [], ◌∷◌, length, option_copied, true};
 ghost use Rattle.std.specs.List.{AllByRecursion};
 ghost use Rattle.std.specs.List.Sorted.{IsStrictlyIncreasing};
-ghost use Rattle.dutch_order.specs.Arrangements.{Arrangement, arrangements};
+ghost use Rattle.dutch_arrangements.specs.Arrangements.{Arrangement, arrangements};
 ghost use Rattle.dutch_sequence.specs.Choices.{left_of, joined};
 ghost use Rattle.dutch_sequence.specs.Keys.{IsIn};
-ghost use Rattle.dutch_order.specs.Levels.{HasS1r, HasS2, HasS2r, Of, if_own, in_bracket, in_s1, in_s1r, in_s2};
-ghost use Rattle.dutch_order.specs.Levels.{without_own};
-ghost use Rattle.dutch_order.specs.Past.{IsPassedTuple};
+ghost use Rattle.dutch_arrangements.specs.Levels.{HasS1r, HasS2, HasS2r, Of, if_own, in_bracket, in_s1, in_s1r, in_s2};
+ghost use Rattle.dutch_arrangements.specs.Levels.{without_own};
+ghost use Rattle.dutch_arrangements.specs.Past.{IsPassedTuple};
 ghost use Rattle.dutch_sequence.specs.Steps.{MatchDrawn, Passes, Spends};
 
 use crate::cuts::Cuts;
 use crate::levels::{Arranges, Blocks, Level};
 use crate::past::{Chooser, Chosen, choose_next, choose_set, choose_tuple};
-use dutch_order::{Arrangement, Cursor, Filling, FittingShape, Prefix};
+use dutch_arrangements::{Arrangement, Filling, FittingShape, LastArrangement, Prefix};
 use dutch_sequence::numbers::{is_same, put_left_of, refill};
 use dutch_sequence::{
     Budget, Drawn, Exchanges, Generator, LimboExchanges, Meeting, Numbers, Rule, Sides,
@@ -41,8 +41,8 @@ pub struct ByS2r<'a, R: Rule> {
 #[derive(Drop)]
 struct Others<'a, R: Rule> {
     s2r: Chooser<Transpositions<'a, R>>,
-    // the cursor behind which the lists begin, until the first one has come
-    resume: Option<&'a Cursor>,
+    // the arrangement behind which the lists begin, until the first one has come
+    resume: LastArrangement,
 }
 
 /// An S1, an S2 and an S1R out of the remainder, from which a level begins.
@@ -57,13 +57,13 @@ struct InS1r<'s> {
 
 impl<'a, R: Rule> Model for ByS2r<'a, R> {
     ghost use Rattle.std.specs.Prelude.{List, map, option_copied};
-    ghost use Rattle.dutch_order.specs.Arrangements.{Arrangement};
-    ghost use Rattle.dutch_order.specs.Levels.{arranged, without_own};
+    ghost use Rattle.dutch_arrangements.specs.Arrangements.{Arrangement};
+    ghost use Rattle.dutch_arrangements.specs.Levels.{arranged, without_own};
 
     ghost Value = { List Arrangement };
 
     ghost view = { λ l. map (arranged l.s1.items l.s2.items l.s1r.items)
-        (without_own (option_copied l.others.resume) l.others.s2r.choices.coming) };
+        (without_own l.others.resume l.others.s2r.choices.coming) };
 }
 
 impl<'a, R: Rule> ByS2r<'a, R> {
@@ -81,14 +81,14 @@ impl<'a, R: Rule> ByS2r<'a, R> {
                     choices: Transpositions::ended(rule),
                     latest: Numbers::new(),
                 },
-                resume: None,
+                resume: LastArrangement::none(),
             },
         }
     }
 
     /// Begins anew.
-    #[tactic(auto, unfolding(dutch_order::specs::Levels::in_s1r))]
-    fn start(&mut self, from: &InS1r<'_>, own: Option<&'a Cursor>, rule: &'a R)
+    #[tactic(auto, unfolding(dutch_arrangements::specs::Levels::in_s1r))]
+    fn start(&mut self, from: &InS1r<'_>, own: Option<&Arrangement>, rule: &'a R)
         requires same { Of (λ cursor. cursor.s1r ≡ from.now.s1r.now.items) (option_copied own) }
         requires given { Of (HasS2r from.now.remainder.now.items) (option_copied own) }
         ensures { self.new ≡ in_s1r (R.meets rule.now) from.now.s1.now.items from.now.s2.now.items
@@ -98,19 +98,25 @@ impl<'a, R: Rule> ByS2r<'a, R> {
         refill(&mut self.s2, from.s2);
         refill(&mut self.s1r, from.s1r);
         put_left_of(from.remainder, from.s1r, &mut self.pool);
-        self.others.resume = own;
+        self.others.resume.put(own);
         let meeting = Meeting {
             first: from.s1r,
             pool: &self.pool,
         };
         match own {
-            Some(cursor) => self
-                .others
-                .s2r
-                .choices
-                .start_from(&meeting, rule, &cursor.lists.s2r),
+            Some(own) => self.others.s2r.choices.start_from(&meeting, rule, &own.s2r),
             None => self.others.s2r.choices.start(&meeting, rule),
         }
+    }
+}
+
+/// Yes if an S2R is that of the arrangement behind which the lists begin.
+fn is_own_s2r(resume: &LastArrangement, s2r: &Numbers) -> bool
+    ensures { result ≡ is_some (if_own (λ a. a.s2r) resume.now s2r.now.items) }
+{
+    match resume.held() {
+        Some(own) => is_same(s2r, &own.s2r),
+        None => false,
     }
 }
 
@@ -123,23 +129,23 @@ fn choose_other<R: Rule, C: Cuts>(
 ) -> Drawn
     ensures answer { let IsPassed = IsPassedTuple (C.Idle cuts.old) chosen.now.lists chosen.now.very_next in
         MatchDrawn result
-        (Passes IsPassed (without_own (option_copied others.old.resume) others.old.s2r.choices.coming)
-        (others.new.s2r.latest.items ∷ without_own (option_copied others.new.resume) others.new.s2r.choices.coming))
-        (Passes IsPassed (without_own (option_copied others.old.resume) others.old.s2r.choices.coming) [])
-        (Passes IsPassed (without_own (option_copied others.old.resume) others.old.s2r.choices.coming)
-        (without_own (option_copied others.new.resume) others.new.s2r.choices.coming)
+        (Passes IsPassed (without_own others.old.resume others.old.s2r.choices.coming)
+        (others.new.s2r.latest.items ∷ without_own others.new.resume others.new.s2r.choices.coming))
+        (Passes IsPassed (without_own others.old.resume others.old.s2r.choices.coming) [])
+        (Passes IsPassed (without_own others.old.resume others.old.s2r.choices.coming)
+        (without_own others.new.resume others.new.s2r.choices.coming)
         × (budget.new.used ≡ budget.new.limit)) }
     ensures keeps { (a : Arrangement) → C.Idle cuts.new a → C.Idle cuts.old a }
     ensures spends { Spends budget.old budget.new }
 {
-    let Some(cursor) = others.resume else {
+    if !others.resume.is_held() {
         return choose_tuple(&mut others.s2r, chosen, cuts, budget);
-    };
+    }
     if !choose_next(&mut others.s2r, budget)? {
         return Ok(false);
     }
-    let is_own = is_same(&others.s2r.latest, &cursor.lists.s2r);
-    others.resume = None;
+    let is_own = is_own_s2r(&others.resume, &others.s2r.latest);
+    others.resume.clear();
     if !is_own {
         return Ok(true);
     }
@@ -185,8 +191,8 @@ pub struct ByS1r<'a, R: Rule> {
     // the S1R of the block is the one that came last
     s1r: Chooser<Exchanges>,
     rule: &'a R,
-    // the cursor behind which the blocks begin, until the first one has come
-    resume: Option<&'a Cursor>,
+    // the arrangement behind which the blocks begin, until the first one has come
+    resume: LastArrangement,
 }
 
 /// An S1 and an S2 out of the residents, from which a level begins; the remainder makes `k` pairs.
@@ -203,16 +209,16 @@ struct InS2<'s> {
 impl<'a, R: Rule> Model for ByS1r<'a, R> {
     ghost use Rattle.std.specs.Prelude.{List, option_copied};
     ghost use Rattle.std.specs.List.Sorted.{IsStrictlyIncreasing};
-    ghost use Rattle.dutch_order.specs.Arrangements.{Arrangement};
-    ghost use Rattle.dutch_order.specs.Levels.{HasS2r, Of, s1r_blocks};
+    ghost use Rattle.dutch_arrangements.specs.Arrangements.{Arrangement};
+    ghost use Rattle.dutch_arrangements.specs.Levels.{HasS2r, Of, s1r_blocks};
 
     ghost Value = { List (List Arrangement) };
 
     ghost view = { λ l. s1r_blocks (R.meets l.rule.now) l.s1.items l.s2.items l.remainder.items
-        (option_copied l.resume) l.s1r.choices.coming };
+        l.resume l.s1r.choices.coming };
 
     ghost invariant = { λ l. IsStrictlyIncreasing l.remainder.items
-        × Of (HasS2r l.remainder.items) (option_copied l.resume) };
+        × Of (HasS2r l.remainder.items) l.resume };
 }
 
 impl<'a, R: Rule> ByS1r<'a, R> {
@@ -229,13 +235,13 @@ impl<'a, R: Rule> ByS1r<'a, R> {
                 latest: Numbers::new(),
             },
             rule,
-            resume: None,
+            resume: LastArrangement::none(),
         }
     }
 
     /// Begins anew.
-    #[tactic(auto, unfolding(dutch_order::specs::Levels::in_s2))]
-    fn start(&mut self, from: &InS2<'_>, own: Option<&'a Cursor>, rule: &'a R)
+    #[tactic(auto, unfolding(dutch_arrangements::specs::Levels::in_s2))]
+    fn start(&mut self, from: &InS2<'_>, own: Option<&Arrangement>, rule: &'a R)
         requires given { Of (HasS1r from.now.k (left_of from.now.residents.now.items from.now.s2.now.items))
             (option_copied own) }
         ensures { joined self.new ≡ in_s2 (R.meets rule.now) from.now.k from.now.s1.now.items
@@ -245,26 +251,25 @@ impl<'a, R: Rule> ByS1r<'a, R> {
         refill(&mut self.s2, from.s2);
         put_left_of(from.residents, from.s2, &mut self.remainder);
         self.rule = rule;
-        self.resume = own;
+        self.resume.put(own);
         let sides = Sides {
             pool: &self.remainder,
             k: from.k,
         };
         match own {
-            Some(cursor) => self.s1r.choices.start_from(&sides, &cursor.lists.s1r),
+            Some(own) => self.s1r.choices.start_from(&sides, &own.s1r),
             None => self.s1r.choices.start(&sides),
         }
     }
 }
 
-/// The cursor, if an S1R is its own.
-fn take_by_s1r<'a>(resume: &mut Option<&'a Cursor>, s1r: &Numbers) -> Option<&'a Cursor>
-    ensures own { option_copied result ≡ if_own (λ a. a.s1r) (option_copied resume.old) s1r.now.items }
-    ensures taken { resume.new ≡ None }
+/// The arrangement behind which blocks begin, if an S1R is its own.
+fn own_by_s1r<'r>(resume: &'r LastArrangement, s1r: &Numbers) -> Option<&'r Arrangement>
+    ensures { option_copied result ≡ if_own (λ a. a.s1r) resume.now s1r.now.items }
 {
-    let cursor = resume.take()?;
-    if is_same(s1r, &cursor.lists.s1r) {
-        Some(cursor)
+    let own = resume.held()?;
+    if is_same(s1r, &own.s1r) {
+        Some(own)
     } else {
         None
     }
@@ -289,7 +294,7 @@ impl<'a, R: Rule> Blocks for ByS1r<'a, R> {
                 s1r: &[],
                 s2r: &[],
             },
-            very_next: self.resume.is_some(),
+            very_next: self.resume.is_held(),
         };
         if cuts.cuts_at_first(&chosen.lists) {
             return Ok(false);
@@ -297,7 +302,7 @@ impl<'a, R: Rule> Blocks for ByS1r<'a, R> {
         if !choose_set(&mut self.s1r, &chosen, cuts, budget)? {
             return Ok(false);
         }
-        let own = take_by_s1r(&mut self.resume, &self.s1r.latest);
+        let own = own_by_s1r(&self.resume, &self.s1r.latest);
         let from = InS1r {
             s1: &self.s1,
             s2: &self.s2,
@@ -305,6 +310,7 @@ impl<'a, R: Rule> Blocks for ByS1r<'a, R> {
             s1r: &self.s1r.latest,
         };
         block.start(&from, own, self.rule);
+        self.resume.clear();
         Ok(true)
     }
 }
@@ -318,8 +324,8 @@ pub struct ByS2<'a, R: Rule> {
     // the S2 of the block is the one that came last
     s2: Chooser<Transpositions<'a, R>>,
     rule: &'a R,
-    // the cursor behind which the blocks begin, until the first one has come
-    resume: Option<&'a Cursor>,
+    // the arrangement behind which the blocks begin, until the first one has come
+    resume: LastArrangement,
 }
 
 /// An S1 and the residents, from which a level begins; the remainder makes `k` pairs.
@@ -336,19 +342,19 @@ impl<'a, R: Rule> Model for ByS2<'a, R> {
     ghost use Rattle.std.specs.Prelude.{◌≤◌, List, length, option_copied};
     ghost use Rattle.std.specs.List.{AllByRecursion};
     ghost use Rattle.std.specs.List.Sorted.{IsStrictlyIncreasing};
-    ghost use Rattle.dutch_order.specs.Arrangements.{Arrangement};
+    ghost use Rattle.dutch_arrangements.specs.Arrangements.{Arrangement};
     ghost use Rattle.dutch_sequence.specs.Choices.{left_of};
-    ghost use Rattle.dutch_order.specs.Levels.{HasS1r, Of, s2_blocks};
+    ghost use Rattle.dutch_arrangements.specs.Levels.{HasS1r, Of, s2_blocks};
 
     ghost Value = { List (List Arrangement) };
 
     ghost view = { λ l. s2_blocks (R.meets l.rule.now) l.k l.s1.items l.residents.items
-        (option_copied l.resume) l.s2.choices.coming };
+        l.resume l.s2.choices.coming };
 
     ghost invariant = { λ l.
         IsStrictlyIncreasing l.residents.items
         × AllByRecursion (λ s2. l.k ≤ length (left_of l.residents.items s2)) l.s2.choices.coming
-        × Of (λ own. HasS1r l.k (left_of l.residents.items own.s2) own) (option_copied l.resume) };
+        × Of (λ own. HasS1r l.k (left_of l.residents.items own.s2) own) l.resume };
 }
 
 impl<'a, R: Rule> ByS2<'a, R> {
@@ -365,13 +371,13 @@ impl<'a, R: Rule> ByS2<'a, R> {
                 latest: Numbers::new(),
             },
             rule,
-            resume: None,
+            resume: LastArrangement::none(),
         }
     }
 
     /// Begins anew.
-    #[tactic(auto, unfolding(dutch_order::specs::Levels::in_s1))]
-    fn start(&mut self, from: &InS1<'_>, own: Option<&'a Cursor>, rule: &'a R)
+    #[tactic(auto, unfolding(dutch_arrangements::specs::Levels::in_s1))]
+    fn start(&mut self, from: &InS1<'_>, own: Option<&Arrangement>, rule: &'a R)
         requires same { Of (λ cursor. cursor.s1 ≡ from.now.s1.now.items) (option_copied own) }
         requires given { Of (HasS2 from.now.k from.now.residents.now.items) (option_copied own) }
         ensures { joined self.new ≡ in_s1 (R.meets rule.now) from.now.k from.now.residents.now.items
@@ -381,26 +387,25 @@ impl<'a, R: Rule> ByS2<'a, R> {
         refill(&mut self.s1, from.s1);
         refill(&mut self.residents, from.residents);
         self.rule = rule;
-        self.resume = own;
+        self.resume.put(own);
         let meeting = Meeting {
             first: from.s1,
             pool: from.residents,
         };
         match own {
-            Some(cursor) => self.s2.choices.start_from(&meeting, rule, &cursor.lists.s2),
+            Some(own) => self.s2.choices.start_from(&meeting, rule, &own.s2),
             None => self.s2.choices.start(&meeting, rule),
         }
     }
 }
 
-/// The cursor, if an S2 is its own.
-fn take_by_s2<'a>(resume: &mut Option<&'a Cursor>, s2: &Numbers) -> Option<&'a Cursor>
-    ensures own { option_copied result ≡ if_own (λ a. a.s2) (option_copied resume.old) s2.now.items }
-    ensures taken { resume.new ≡ None }
+/// The arrangement behind which blocks begin, if an S2 is its own.
+fn own_by_s2<'r>(resume: &'r LastArrangement, s2: &Numbers) -> Option<&'r Arrangement>
+    ensures { option_copied result ≡ if_own (λ a. a.s2) resume.now s2.now.items }
 {
-    let cursor = resume.take()?;
-    if is_same(s2, &cursor.lists.s2) {
-        Some(cursor)
+    let own = resume.held()?;
+    if is_same(s2, &own.s2) {
+        Some(own)
     } else {
         None
     }
@@ -425,12 +430,12 @@ impl<'a, R: Rule> Blocks for ByS2<'a, R> {
                 s1r: &[],
                 s2r: &[],
             },
-            very_next: self.resume.is_some(),
+            very_next: self.resume.is_held(),
         };
         if !choose_tuple(&mut self.s2, &chosen, cuts, budget)? {
             return Ok(false);
         }
-        let own = take_by_s2(&mut self.resume, &self.s2.latest);
+        let own = own_by_s2(&self.resume, &self.s2.latest);
         let from = InS2 {
             k: self.k,
             s1: &self.s1,
@@ -439,6 +444,7 @@ impl<'a, R: Rule> Blocks for ByS2<'a, R> {
         };
         block.block.has_begun = false;
         block.blocks.start(&from, own, self.rule);
+        self.resume.clear();
         Ok(true)
     }
 }
@@ -452,25 +458,25 @@ pub struct ByS1<'a, R: Rule> {
     s1: Numbers,
     sets: LimboExchanges,
     rule: &'a R,
-    // the cursor behind which the blocks begin, until the first one has come
-    resume: Option<&'a Cursor>,
+    // the arrangement behind which the blocks begin, until the first one has come
+    resume: LastArrangement,
 }
 
 impl<'a, R: Rule> Model for ByS1<'a, R> {
     ghost use Rattle.std.specs.Prelude.{◌+◌, ◌≤◌, List, length, option_copied};
     ghost use Rattle.std.specs.List.{AllByRecursion};
     ghost use Rattle.std.specs.List.Sorted.{IsStrictlyIncreasing};
-    ghost use Rattle.dutch_order.specs.Arrangements.{Arrangement};
-    ghost use Rattle.dutch_order.specs.Levels.{HasS2, Of, s1_blocks};
+    ghost use Rattle.dutch_arrangements.specs.Arrangements.{Arrangement};
+    ghost use Rattle.dutch_arrangements.specs.Levels.{HasS2, Of, s1_blocks};
 
     ghost Value = { List (List Arrangement) };
 
-    ghost view = { λ l. s1_blocks (R.meets l.rule.now) l.k l.residents.items (option_copied l.resume) l.sets.coming };
+    ghost view = { λ l. s1_blocks (R.meets l.rule.now) l.k l.residents.items l.resume l.sets.coming };
 
     ghost invariant = { λ l.
         IsStrictlyIncreasing l.residents.items
         × AllByRecursion (λ s1. length s1 + l.k ≤ length l.residents.items) l.sets.coming
-        × Of (HasS2 l.k l.residents.items) (option_copied l.resume) };
+        × Of (HasS2 l.k l.residents.items) l.resume };
 }
 
 impl<'a, R: Rule> ByS1<'a, R> {
@@ -484,13 +490,13 @@ impl<'a, R: Rule> ByS1<'a, R> {
             s1: Numbers::new(),
             sets: LimboExchanges::ended(),
             rule,
-            resume: None,
+            resume: LastArrangement::none(),
         }
     }
 
     /// Begins anew: all arrangements, or those that stand behind a cursor.
-    #[tactic(auto, unfolding(dutch_order::specs::Levels::in_bracket))]
-    pub fn start(&mut self, from: &FittingShape<'_>, own: Option<&'a Cursor>, rule: &'a R)
+    #[tactic(auto, unfolding(dutch_arrangements::specs::Levels::in_bracket))]
+    pub fn start(&mut self, from: &FittingShape<'_>, own: Option<&Arrangement>, rule: &'a R)
         requires given { Of (λ cursor. IsIn cursor (arrangements from.now.bracket.now from.now.shape))
             (option_copied own) }
         ensures { joined self.new
@@ -500,24 +506,21 @@ impl<'a, R: Rule> ByS1<'a, R> {
         self.k = from.shape.pairs - from.shape.mdps;
         from.bracket.put_residents(&mut self.residents);
         self.rule = rule;
-        self.resume = own;
+        self.resume.put(own);
         match own {
-            Some(cursor) => self
-                .sets
-                .start_from(scores, from.shape.mdps, &cursor.lists.s1),
+            Some(own) => self.sets.start_from(scores, from.shape.mdps, &own.s1),
             None => self.sets.start(scores, from.shape.mdps),
         }
     }
 }
 
-/// The cursor, if an S1 is its own.
-fn take_by_s1<'a>(resume: &mut Option<&'a Cursor>, s1: &Numbers) -> Option<&'a Cursor>
-    ensures own { option_copied result ≡ if_own (λ a. a.s1) (option_copied resume.old) s1.now.items }
-    ensures taken { resume.new ≡ None }
+/// The arrangement behind which blocks begin, if an S1 is its own.
+fn own_by_s1<'r>(resume: &'r LastArrangement, s1: &Numbers) -> Option<&'r Arrangement>
+    ensures { option_copied result ≡ if_own (λ a. a.s1) resume.now s1.now.items }
 {
-    let cursor = resume.take()?;
-    if is_same(s1, &cursor.lists.s1) {
-        Some(cursor)
+    let own = resume.held()?;
+    if is_same(s1, &own.s1) {
+        Some(own)
     } else {
         None
     }
@@ -537,7 +540,7 @@ impl<'a, R: Rule> Blocks for ByS1<'a, R> {
         if !self.sets.put_next(&mut self.s1, budget)? {
             return Ok(false);
         }
-        let own = take_by_s1(&mut self.resume, &self.s1);
+        let own = own_by_s1(&self.resume, &self.s1);
         let from = InS1 {
             k: self.k,
             residents: &self.residents,
@@ -545,6 +548,7 @@ impl<'a, R: Rule> Blocks for ByS1<'a, R> {
         };
         block.block.has_begun = false;
         block.blocks.start(&from, own, self.rule);
+        self.resume.clear();
         Ok(true)
     }
 }

@@ -1,12 +1,12 @@
 // What the levels of a listing see of a bound: which beginnings lead to idle arrangements alone.
 ghost use Rattle.std.specs.Prelude.{◌≡◌, true};
-ghost use Rattle.dutch_order.specs.Arrangements.{Arrangement, candidates};
+ghost use Rattle.dutch_arrangements.specs.Arrangements.{Arrangement, candidates};
 ghost use Rattle.dutch_sequence.specs.Exchanged.{IsExchange};
 ghost use Rattle.dutch_sequence.specs.Keys.{IsIn};
-ghost use Rattle.dutch_order.specs.Prefixes.{Begins};
+ghost use Rattle.dutch_arrangements.specs.Prefixes.{Begins};
 
 use crate::bound::Bound;
-use dutch_order::Prefix;
+use dutch_arrangements::Prefix;
 use dutch_sequence::Exchange;
 
 /// Tells of a beginning of arrangements whether all arrangements that begin so are idle.

@@ -6,13 +6,13 @@
 // block, in which each of its blocks begins anew.
 ghost use Rattle.std.specs.Prelude.{◌≡◌, ℕ, List, [], ◌∷◌};
 ghost use Rattle.std.specs.List.{AllByRecursion};
-ghost use Rattle.dutch_order.specs.Arrangements.{Arrangement};
-ghost use Rattle.dutch_order.specs.Levels.{within};
+ghost use Rattle.dutch_arrangements.specs.Arrangements.{Arrangement};
+ghost use Rattle.dutch_arrangements.specs.Levels.{within};
 ghost use Rattle.dutch_sequence.specs.Choices.{joined};
 ghost use Rattle.dutch_sequence.specs.Steps.{MatchDrawn, Passes, Spends};
 
 use crate::cuts::Cuts;
-use dutch_order::Arrangement;
+use dutch_arrangements::Arrangement;
 use dutch_sequence::{Budget, Drawn};
 use std::marker::Model;
 
@@ -64,7 +64,7 @@ pub struct Block<T> {
 }
 
 impl<T: Arranges> Arranges for Block<T> {
-    ghost use Rattle.dutch_order.specs.Levels.{within};
+    ghost use Rattle.dutch_arrangements.specs.Levels.{within};
 
     ghost coming = { λ b. within b.has_begun (T.coming b.level) };
 
@@ -87,8 +87,8 @@ pub struct Level<B: Blocks> {
 
 impl<B: Blocks> Model for Level<B> {
     ghost use Rattle.std.specs.Prelude.{List, ◌++◌};
-    ghost use Rattle.dutch_order.specs.Arrangements.{Arrangement};
-    ghost use Rattle.dutch_order.specs.Levels.{within};
+    ghost use Rattle.dutch_arrangements.specs.Arrangements.{Arrangement};
+    ghost use Rattle.dutch_arrangements.specs.Levels.{within};
     ghost use Rattle.dutch_sequence.specs.Choices.{joined};
 
     ghost Value = { List Arrangement };

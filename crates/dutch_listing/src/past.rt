@@ -1,12 +1,12 @@
 // The next choice past those that are known to be idle: at each beginning where the search of the choices stands still
 // the cuts are asked, and what they know to be idle is left.
 ghost use Rattle.std.specs.Prelude.{◌≡◌, ◌∷◌, []};
-ghost use Rattle.dutch_order.specs.Arrangements.{Arrangement};
-ghost use Rattle.dutch_order.specs.Past.{IsPassedSet, IsPassedTuple};
+ghost use Rattle.dutch_arrangements.specs.Arrangements.{Arrangement};
+ghost use Rattle.dutch_arrangements.specs.Past.{IsPassedSet, IsPassedTuple};
 ghost use Rattle.dutch_sequence.specs.Steps.{MatchDrawn, Passes, Spends};
 
 use crate::cuts::Cuts;
-use dutch_order::Prefix;
+use dutch_arrangements::Prefix;
 use dutch_sequence::{
     Budget, Drawn, Exchanges, Generator, Numbers, Progress, Rule, Transpositions,
 };

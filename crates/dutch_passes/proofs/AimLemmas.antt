@@ -4,8 +4,8 @@ use Rattle.std.proofs.Common.{◌≡◌, Bool, true, false, not, ◌&&◌, ◌||
 use Rattle.std.specs.List.{list_any, AllByRecursion}
 use Rattle.std.specs.Option.{MatchOption}
 use Rattle.std.proofs.lemmas.Bool.{true≢false, not-true, not-false, or_right}
-use Rattle.dutch_order.specs.Prelude.{Passes, Arrangement}
-use Rattle.dutch_order.specs.declared.bracket.Shape.{Shape}
+use Rattle.dutch_arrangements.specs.Prelude.{Passes, Arrangement}
+use Rattle.dutch_arrangements.specs.declared.bracket.Shape.{Shape}
 use Rattle.dutch_listing.proofs.Passing.{passes-each}
 use Rattle.dutch_choice.specs.declared.finder.Best.{Best}
 use Rattle.dutch_candidates.specs.declared.wish.Wish.{Wish}

@@ -1,8 +1,8 @@
 -- A pass begins with all candidates of its shape, or with the first that can be chosen: those before it are idle.
 use Rattle.std.proofs.Common.{◌≡◌, Bool, Option, None, filter, inl, inr, refl, sym, ap, ◌∙◌, subst}
 use Rattle.std.proofs.lemmas.Bool.{and_parts}
-use Rattle.dutch_order.specs.declared.bracket.Shape.{Shape}
-use Rattle.dutch_order.specs.Prelude.{Arrangement, Candidate, IsIn, Listing}
+use Rattle.dutch_arrangements.specs.declared.bracket.Shape.{Shape}
+use Rattle.dutch_arrangements.specs.Prelude.{Arrangement, Candidate, IsIn, Listing}
 use Rattle.dutch_candidates.specs.declared.greatest.Lister.{Lister}
 use Rattle.dutch_candidates.specs.declared.narrowed.NarrowedRule.{NarrowedRule}
 use Rattle.dutch_candidates.specs.Wishes.{is_wished}

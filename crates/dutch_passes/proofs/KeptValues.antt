@@ -8,7 +8,7 @@ use Rattle.std.proofs.lemmas.List.{take-map}
 use Rattle.arrayvec.specs.ArrayVec.{ArrayVec}
 use Rattle.lru.specs.LruCache.{LruCache, lru_cache, promoted, put_entries}
 use Rattle.lru.proofs.CallerLemmas.{Contains-lookup_entry, Contains-lookup, Contains-promoted, Contains-put_entries}
-use Rattle.dutch_order.specs.Prelude.{is_same}
+use Rattle.dutch_arrangements.specs.Prelude.{is_same}
 use Rattle.dutch_sequence.specs.declared.numbers.TheConstants.{LIMIT}
 use Rattle.dutch_sequence.proofs.FromOn.{is_same-true}
 use Rattle.dutch_player.specs.Prelude.{Facts}

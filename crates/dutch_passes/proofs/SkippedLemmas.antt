@@ -1,6 +1,6 @@
 -- Lists of which some first ones are skipped.
 use Rattle.std.proofs.Common.{List, sym, subst}
-use Rattle.dutch_order.specs.Prelude.{IsIn, Passes}
+use Rattle.dutch_arrangements.specs.Prelude.{IsIn, Passes}
 use Rattle.dutch_sequence.proofs.Orders.{IsIn-back}
 
 -- who is left was there before

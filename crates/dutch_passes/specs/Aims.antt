@@ -1,8 +1,8 @@
 -- The best that one pass over the candidates of a shape finds, of all or of those that grant a wish, where an aim leaves out those that it
 -- is better than (C.04.3 B.8).
 use Rattle.std.specs.Prelude.{Bool, false, not, ◌&&◌, ◌||◌, List, Option, Some, None, option_map}
-use Rattle.dutch_order.specs.declared.bracket.Shape.{Shape}
-use Rattle.dutch_order.specs.Prelude.{Arrangement}
+use Rattle.dutch_arrangements.specs.declared.bracket.Shape.{Shape}
+use Rattle.dutch_arrangements.specs.Prelude.{Arrangement}
 use Rattle.dutch_choice.specs.declared.finder.Best.{Best}
 use Rattle.dutch_choice.specs.Prelude.{is_better_here}
 use Rattle.dutch_bracket.specs.declared.quality.Quality.{Quality as Fields}

@@ -1,6 +1,6 @@
 -- The best candidate so far, while a bracket's candidates are looked at one by one.
 use Rattle.std.specs.Prelude.{Bool, true, Option, Some, None, option_map}
-use Rattle.dutch_order.specs.Prelude.{Arrangement}
+use Rattle.dutch_arrangements.specs.Prelude.{Arrangement}
 use Rattle.dutch_bracket.specs.Prelude.{Context, Quality, is_better, quality_in}
 use Rattle.dutch_choice.specs.declared.finder.Best.{Best}
 use Rattle.dutch_choice.specs.Prelude.{HasItsQuality}

@@ -1,7 +1,7 @@
 -- What a pass draws, what is idle to it, and what it ends with (C.04.3 B.8).
 use Rattle.std.specs.Prelude.{◌≡◌, List, ◌∷◌, Option, None, Bool, true}
 use Rattle.std.specs.Option.{MatchOption}
-use Rattle.dutch_order.specs.Prelude.{Arrangement, down, Candidate, IsIn, Listing, Passes}
+use Rattle.dutch_arrangements.specs.Prelude.{Arrangement, down, Candidate, IsIn, Listing, Passes}
 use Rattle.dutch_candidates.specs.declared.greatest.Lister.{Lister}
 use Rattle.dutch_candidates.specs.declared.narrowed.NarrowedRule.{NarrowedRule}
 use Rattle.dutch_bracket.specs.Prelude.{Context, candidates_here, quality_here, IsOfBracket}

@@ -3,7 +3,7 @@ use Rattle.std.specs.Prelude.{◌≡◌, ℕ, Bool, true, false, ◌||◌, if◌
 use Rattle.std.specs.Cmp.Lexicographic.{pointwise}
 use Rattle.arrayvec.specs.ArrayVec.{ArrayVec}
 use Rattle.lru.specs.LruCache.{LruCache}
-use Rattle.dutch_order.specs.Prelude.{is_same}
+use Rattle.dutch_arrangements.specs.Prelude.{is_same}
 use Rattle.dutch_player.specs.Prelude.{Facts}
 use Rattle.dutch_bracket.specs.declared.reached.BracketKind.TheVariants.{Ordinary}
 use Rattle.dutch_passes.specs.declared.remembered.Look.{Look}

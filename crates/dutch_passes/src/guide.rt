@@ -7,15 +7,15 @@ ghost use Rattle.std.specs.Result.{MatchResult};
 ghost use Rattle.dutch_bracket.specs.Prelude.{Context};
 ghost use Rattle.dutch_candidates.specs.declared.wish.Wish.{Wish};
 ghost use Rattle.dutch_passes.specs.Passes.{Draws, ListsFor, PassesIdle};
-ghost use Rattle.dutch_order.specs.Prelude.{MatchDrawn, Spends};
-ghost use Rattle.dutch_order.specs.declared.bracket.Shape.{Shape};
+ghost use Rattle.dutch_arrangements.specs.Prelude.{MatchDrawn, Spends};
+ghost use Rattle.dutch_arrangements.specs.declared.bracket.Shape.{Shape};
 
 use crate::pass::PassSoFar;
+use dutch_arrangements::{Budget, Stopped};
 use dutch_bracket::quality::{Quality, QualityLists};
 use dutch_candidates::greatest::Lister;
 use dutch_candidates::narrowed::NarrowedRule;
 use dutch_candidates::wish::Wish;
-use dutch_order::{Budget, Stopped};
 
 /// Where the questions of a pass are worked out, and what its guide notes of a walk from one question to the next.
 #[derive(Default, Drop)]

@@ -1,16 +1,16 @@
 // One pass over the candidates of a shape (C.04.3 B.8): what it seeks, and the best candidate that it has found so far.
 ghost use Rattle.std.specs.Prelude.{◌≡◌, true, false};
-ghost use Rattle.dutch_order.specs.Prelude.{Arrangement, IsExchange, IsIn};
+ghost use Rattle.dutch_arrangements.specs.Prelude.{Arrangement, IsExchange, IsIn};
 ghost use Rattle.dutch_bracket.specs.Prelude.{OfEachWithBeginning, candidates_in, quality_in};
 ghost use Rattle.dutch_candidates.specs.Wishes.{is_wished};
 ghost use Rattle.dutch_passes.specs.Aims.{aim_in, loses};
 
+use dutch_arrangements::{Exchange, Prefix};
 use dutch_bracket::quality::Quality;
 use dutch_bracket::shaped::ShapedBracket;
 use dutch_candidates::wish::Wish;
 use dutch_choice::barred::{rules_out, rules_out_with};
 use dutch_choice::finder::Best;
-use dutch_order::{Exchange, Prefix};
 
 /// One pass over the candidates of a shape, in a bracket above all lower seats by rank. With an aim it seeks those
 /// alone that the aim is not better than, and with a wish those alone that grant it.

@@ -4,7 +4,7 @@
 ghost use Rattle.std.specs.Prelude.{◌≡◌, None, IfSome, true};
 ghost use Rattle.std.specs.Option.{MatchOption};
 ghost use Rattle.std.specs.Result.{MatchResult};
-ghost use Rattle.dutch_order.specs.Prelude.{Spends};
+ghost use Rattle.dutch_arrangements.specs.Prelude.{Spends};
 ghost use Rattle.dutch_choice.specs.Prelude.{IsBest};
 ghost use Rattle.dutch_choice.specs.declared.start.Start.TheVariants.{Anew};
 ghost use Rattle.dutch_passes.specs.Kept.{IsKept};
@@ -14,6 +14,7 @@ ghost use Rattle.dutch_passes.specs.Passes.{SeeksTheSame, near_of, wished_of};
 use crate::guide::Guide;
 use crate::pass::{Pass, PassSoFar, loses};
 use crate::remembered::{Judge, judge_candidate};
+use dutch_arrangements::{Budget, Candidate, Stopped};
 use dutch_bracket::reached::BracketKind;
 use dutch_bracket::spending::at_most;
 use dutch_candidates::greatest::Lister;
@@ -22,7 +23,6 @@ use dutch_candidates::wish::is_wished;
 use dutch_choice::finder::Best;
 use dutch_choice::start::Start;
 use dutch_completion::eligible::can_be_chosen;
-use dutch_order::{Budget, Candidate, Stopped};
 use std::mem::take;
 
 /// What the passes over the candidates of a shape are made with: what tells the quality of candidates, and keeps the

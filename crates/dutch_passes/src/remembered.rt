@@ -14,16 +14,16 @@ ghost use Rattle.dutch_bracket.specs.Prelude.{quality_here};
 ghost use Rattle.dutch_passes.specs.Remembered.{IsKeptAfter, IsLook, IsUsed, LooksBelow, Recalls, is_kept, is_key};
 ghost use Rattle.dutch_passes.specs.Remembered.{value_below};
 ghost use Rattle.dutch_passes.specs.Passes.{IsHere};
-ghost use Rattle.dutch_order.specs.Prelude.{Spends};
+ghost use Rattle.dutch_arrangements.specs.Prelude.{Spends};
 
 use crate::guide::{Guide, Workroom};
+use dutch_arrangements::{Budget, Candidate, LIMIT, Numbers, Stopped};
 use dutch_bracket::context::Context;
 use dutch_bracket::fault::PairFault;
 use dutch_bracket::quality::{NextValue, Quality, QualityLists, fill_quality};
 use dutch_bracket::reached::{BracketKind, Reached, Seats, copied, push_all};
 use dutch_choice::finder::Best;
 use dutch_choice::lookahead::{BracketAboveGroup, value_below};
-use dutch_order::{Budget, Candidate, LIMIT, Numbers, Stopped};
 use dutch_player::Field;
 use lru::LruCache;
 use std::alloc::Global;

@@ -12,12 +12,12 @@ use Rattle.std.proofs.lemmas.Map.Keys.{IsDistinct-IsPermutation}
 use Rattle.std.proofs.lemmas.Map.Views.{any-filter_same}
 use Rattle.std.proofs.lemmas.List.{get_or-map, length-map}
 use Rattle.std.proofs.Math.Bool.{and-true, and_comm}
-use Rattle.trf16.specs.declared.cell.Colour.{Colour}
-use Rattle.trf16.specs.Prelude.{Entry, Sheet, known, rounds_played, absent, apart, apart_from, some_carried, is_kind, is_named, names_both, words_of, columns, unfinished, starts_of, HasOwnStarts}
-use Rattle.trf16.proofs.RankLemmas.{ranked_moves}
+use Rattle.trf16_report.specs.declared.cell.Colour.{Colour}
+use Rattle.trf16_report.specs.Prelude.{Entry, Sheet, known, rounds_played, absent, apart, apart_from, some_carried, is_kind, is_named, names_both, words_of, columns, unfinished, starts_of, HasOwnStarts}
+use Rattle.trf16_report.proofs.RankLemmas.{ranked_moves}
 use Rattle.dutch_player.specs.declared.fault.FieldFault.{FieldFault}
 use Rattle.dutch_player.specs.declared.fault.FieldFault.TheVariants.{Unfinished, Unsupported, RoundsUnknown, RoundsOver}
-use Rattle.trf16.specs.Outcomes.{◌>>=◌}
+use Rattle.trf16_report.specs.Outcomes.{◌>>=◌}
 use Rattle.dutch_player.specs.Prelude.{SeatFacts, Facts, no_seat, seat_at, goes_before, ranked, seat_of, seats_of, initial_of, total_of, unsupported, refused, total_for, facts_of, IsFieldOf, start_ranks, is_kept_from, are_apart}
 
 -- ---- who is present

@@ -5,7 +5,7 @@ use Rattle.std.proofs.lemmas.Bool.{eq-eqb, eqb-true, true≢false}
 use Rattle.std.proofs.lemmas.Iterator.Adapters.{position_from-zero}
 use Rattle.std.proofs.lemmas.List.{drop_more, drop_all}
 use Rattle.std.proofs.lemmas.List.Quantifiers.{position-Some}
-use Rattle.trf16.proofs.MarkLemmas.{none_from}
+use Rattle.trf16_report.proofs.MarkLemmas.{none_from}
 use Rattle.dutch_player.specs.declared.seat.Seat.{Seat}
 use Rattle.dutch_player.specs.Prelude.{facts_in, Facts, no_seat, seat_at, has_start, seat_with, TellsSeat}
 

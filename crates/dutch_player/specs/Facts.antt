@@ -1,11 +1,11 @@
 -- What a round is paired from: the present players by rank, and how it comes from a report (C.04.3 A.2, A.7).
 use Rattle.std.specs.Prelude.{ℕ, ◌+◌, ◌-◌, Bool, false, ◌&&◌, ◌||◌, ◌==◌, nat_lt, if◌then◌else◌, List, [], ◌∷◌, take, slice_index_or, Option, Some, None, option_map, Result, Ok, Err}
 use Rattle.std.specs.Option.{ok_or, option_map_or}
-use Rattle.trf16.specs.declared.cell.Colour.{Colour}
-use Rattle.trf16.specs.declared.cell.Colour.TheVariants.{White}
-use Rattle.trf16.specs.declared.kind.LineKind.TheVariants.{Xxa, Xxs, Rank}
-use Rattle.trf16.specs.Prelude.{Entry, Sheet, rounds_played, unfinished, absent, apart_from, first_of, ranked_by, IsRankedBy}
-use Rattle.trf16.specs.Outcomes.{◌>>=◌}
+use Rattle.trf16_report.specs.declared.cell.Colour.{Colour}
+use Rattle.trf16_report.specs.declared.cell.Colour.TheVariants.{White}
+use Rattle.trf16_report.specs.declared.kind.LineKind.TheVariants.{Xxa, Xxs, Rank}
+use Rattle.trf16_report.specs.Prelude.{Entry, Sheet, rounds_played, unfinished, absent, apart_from, first_of, ranked_by, IsRankedBy}
+use Rattle.trf16_report.specs.Outcomes.{◌>>=◌}
 use Rattle.dutch_player.specs.declared.float.Float.{Float}
 use Rattle.dutch_player.specs.declared.fault.FieldFault.{FieldFault}
 use Rattle.dutch_player.specs.declared.fault.FieldFault.TheVariants.{Unfinished, Unsupported, RoundsUnknown, RoundsOver}

@@ -1,8 +1,8 @@
 -- What holds of every field (C.04.3 A.6, C.1, C.3, E).
 use Rattle.std.specs.Prelude.{◌≡◌, ℕ, ◌+◌, ◌<◌, ◌≤◌, true, false, nat_eq, List, map, All, Contains, Option, Some, None}
 use Rattle.std.specs.List.{IsDistinct}
-use Rattle.trf16.specs.Prelude.{Sheet, known, rounds_played, absent}
-use Rattle.trf16.specs.declared.cell.Colour.{Colour}
+use Rattle.trf16_report.specs.Prelude.{Sheet, known, rounds_played, absent}
+use Rattle.trf16_report.specs.declared.cell.Colour.{Colour}
 use Rattle.dutch_player.specs.declared.colour_rule.ColourRule.TheVariants.{BothPreferences, HigherRank, InitialColour}
 use Rattle.dutch_player.specs.declared.preference.Strength.TheVariants.{Absolute}
 use Rattle.dutch_player.specs.declared.preference.Pref.{Pref}

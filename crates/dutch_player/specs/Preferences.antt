@@ -1,7 +1,7 @@
 -- Colour preferences (C.04.3 A.6), from the colours of a player's games, the last game first.
 use Rattle.std.specs.Prelude.{ℕ, ◌+◌, Bool, true, false, nat_lt, if◌then◌else◌, List, [], ◌∷◌, Option, Some, None, count_by, ℤ, pos, ◌-ℤ◌}
-use Rattle.trf16.specs.declared.cell.Colour.{Colour}
-use Rattle.trf16.specs.declared.cell.Colour.TheVariants.{White, Black}
+use Rattle.trf16_report.specs.declared.cell.Colour.{Colour}
+use Rattle.trf16_report.specs.declared.cell.Colour.TheVariants.{White, Black}
 use Rattle.dutch_player.specs.declared.preference.Strength.{Strength}
 use Rattle.dutch_player.specs.declared.preference.Strength.TheVariants.{Absolute, Strong, Mild}
 use Rattle.dutch_player.specs.declared.preference.Pref.{Pref}

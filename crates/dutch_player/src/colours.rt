@@ -9,7 +9,7 @@ use crate::colour_rule::ColourRule;
 use crate::meetings::is_absolute;
 use crate::preference::{Pref, Strength, blacks, is_same, other, whites};
 use crate::seat::Seat;
-use trf16::Colour;
+use trf16_report::Colour;
 
 /// How the colours of two are decided.
 #[derive(Clone, Copy, Drop)]

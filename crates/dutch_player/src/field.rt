@@ -6,7 +6,7 @@ ghost use Rattle.dutch_player.specs.Outcomes.{Gives};
 ghost use Rattle.dutch_player.specs.SeatOf.{facts_in};
 ghost use Rattle.dutch_player.specs.Meetings.{colours_allow, is_topscorer, may_meet};
 ghost use Rattle.dutch_player.specs.Colours.{colours, colour_rule, decision_of};
-ghost use Rattle.trf16.specs.declared.limits.TheConstants.{MOST_PLAYERS, MOST_ROUNDS};
+ghost use Rattle.trf16_report.specs.declared.limits.TheConstants.{MOST_PLAYERS, MOST_ROUNDS};
 
 use crate::colour_rule::ColourRule;
 use crate::colours::{Decision, decided, with_colour};
@@ -20,7 +20,7 @@ use crate::refusals::total_for;
 use crate::seat::Seat;
 use std::alloc::Global;
 use std::marker::Model;
-use trf16::{Colour, Report};
+use trf16_report::{Colour, Report};
 
 /// The present players by rank: higher score first, then smaller start rank (A.2). A seat is a place in that order,
 /// from 0.
@@ -39,7 +39,7 @@ impl Model for Field {
     ghost use Rattle.std.specs.Prelude.{map, vec_len, ◌≡◌, ◌≤◌, ◌<◌};
     ghost use Rattle.dutch_player.specs.Facts.{Facts, IsRanked, no_seat};
     ghost use Rattle.dutch_player.specs.SeatOf.{facts_in};
-    ghost use Rattle.trf16.specs.declared.limits.TheConstants.{MOST_PLAYERS};
+    ghost use Rattle.trf16_report.specs.declared.limits.TheConstants.{MOST_PLAYERS};
 
     ghost Value = { Facts };
 
@@ -80,7 +80,7 @@ impl Field {
         })
     }
 
-    /// How many players are present: at most `MOST_PLAYERS` of `trf16`.
+    /// How many players are present: at most `MOST_PLAYERS` of `trf16_report`.
     pub fn len(&self) -> usize
         ensures value { result ≡ length self.now.seats }
         ensures few { result ≤ MOST_PLAYERS }

@@ -4,11 +4,11 @@ ghost use Rattle.std.specs.Prelude.{◌≡◌, ◌≤◌, length, IfOk, vec_len}
 ghost use Rattle.std.specs.List.{list_any};
 ghost use Rattle.dutch_player.specs.Histories.{colour_played, played, opponent_played, opponents, bars_bye, may_bye};
 ghost use Rattle.dutch_player.specs.Histories.{float_between, float_by, float_in};
-ghost use Rattle.trf16.specs.declared.limits.TheConstants.{MOST_ROUNDS};
+ghost use Rattle.trf16_report.specs.declared.limits.TheConstants.{MOST_ROUNDS};
 
 use crate::float::Float;
 use std::alloc::{AllocError, Global};
-use trf16::{Bye, Cell, Colour, Report, cell_at, front};
+use trf16_report::{Bye, Cell, Colour, Report, cell_at, front};
 
 /// The colour of a game that was played; that of a forfeit is none.
 pub fn colour_played(cell: &Cell) -> Option<Colour>

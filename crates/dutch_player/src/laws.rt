@@ -1,7 +1,7 @@
 // Laws of every field, which need what a `Field` keeps. Those of the definitions alone stand in `report_laws`.
 ghost use Rattle.std.specs.Prelude.{◌≡◌, ◌<◌, ◌≤◌, ℕ, false, length};
 ghost use Rattle.dutch_player.specs.Facts.{seat_at, goes_before};
-ghost use Rattle.trf16.specs.declared.limits.TheConstants.{MOST_PLAYERS};
+ghost use Rattle.trf16_report.specs.declared.limits.TheConstants.{MOST_PLAYERS};
 
 use crate::field::Field;
 
@@ -16,7 +16,7 @@ pub fn seats_are_ranked(field: &Field, a: u16, b: u16)
     let _ = &field.seats;
 }
 
-/// Scores do not ascend along the seats of a field, of which there are at most `MOST_PLAYERS` of `trf16` (A.2).
+/// Scores do not ascend along the seats of a field, of which there are at most `MOST_PLAYERS` of `trf16_report` (A.2).
 #[tactic(auto, using(crate::proofs::RankLemmas::scores_fall))]
 pub fn scores_do_not_ascend(field: &Field)
     ensures scores { (a b : ℕ) → a < b → b < length field.now.seats

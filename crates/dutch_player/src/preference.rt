@@ -2,9 +2,9 @@
 ghost use Rattle.std.specs.Prelude.{◌≡◌, ◌≤◌, ◌-ℤ◌, ◌≤ℤ◌, pos, length, count_by};
 ghost use Rattle.dutch_player.specs.Preferences.{other, is_white, is_black, is_same, whites, blacks, difference};
 ghost use Rattle.dutch_player.specs.Preferences.{last_two, mild, strong_or_mild, preference};
-ghost use Rattle.trf16.specs.declared.limits.TheConstants.{MOST_ROUNDS};
+ghost use Rattle.trf16_report.specs.declared.limits.TheConstants.{MOST_ROUNDS};
 
-use trf16::Colour;
+use trf16_report::Colour;
 
 /// How strong a colour preference is.
 #[derive(Clone, Copy, PartialEq)]

@@ -1,16 +1,16 @@
 // The present players of a report, by rank.
 ghost use Rattle.std.specs.Prelude.{◌≡◌, ◌≤◌, map, IfOk, vec_len};
-ghost use Rattle.trf16.specs.Prelude.{entry_of, rounds_played};
+ghost use Rattle.trf16_report.specs.Prelude.{entry_of, rounds_played};
 ghost use Rattle.dutch_player.specs.SeatOf.{facts_in};
 ghost use Rattle.dutch_player.specs.Facts.{seat_of, seats_of, ranked};
-ghost use Rattle.trf16.specs.declared.limits.TheConstants.{MOST_PLAYERS};
+ghost use Rattle.trf16_report.specs.declared.limits.TheConstants.{MOST_PLAYERS};
 
 use crate::history::{float_in, may_bye, opponents, played};
 use crate::preference::preference;
 use crate::ranking::ranked;
 use crate::seat::Seat;
 use std::alloc::{AllocError, Global};
-use trf16::{Player, Report, front};
+use trf16_report::{Player, Report, front};
 
 // What the rounds that were paired make of a player.
 #[tactic(auto, unfolding(crate::specs::Facts::seat_of))]

@@ -4,7 +4,7 @@ ghost use Rattle.dutch_player.specs.declared.fault.FieldFault.TheVariants.{OutOf
 ghost use Rattle.dutch_player.specs.Facts.{total_for};
 
 use crate::fault::FieldFault;
-use trf16::{LineKind, Report};
+use trf16_report::{LineKind, Report};
 
 /// The total of rounds, if a further round can be paired.
 #[tactic(auto, unfolding(crate::specs::Facts::total_for))]

@@ -1,11 +1,11 @@
 // A present player, and their rank among others (C.04.3 A.2).
 ghost use Rattle.std.specs.Prelude.{◌≡◌, ◌≤◌, ◌*◌, vec_len};
-ghost use Rattle.trf16.specs.declared.limits.TheConstants.{MOST_ROUNDS};
+ghost use Rattle.trf16_report.specs.declared.limits.TheConstants.{MOST_ROUNDS};
 ghost use Rattle.dutch_player.specs.Preferences.{preference as preference_of};
 
 use crate::float::Float;
 use crate::preference::Pref;
-use trf16::Colour;
+use trf16_report::Colour;
 
 /// What the rounds that were paired make of a player.
 #[derive(Drop)]

@@ -3,7 +3,7 @@ ghost use Rattle.std.specs.Prelude.{◌≡◌, ◌≤◌, length, map};
 ghost use Rattle.std.specs.List.{position_from};
 ghost use Rattle.dutch_player.specs.SeatOf.{facts_in};
 ghost use Rattle.dutch_player.specs.StartRanks.{has_start, seat_with, TellsSeat};
-ghost use Rattle.trf16.specs.declared.limits.TheConstants.{MOST_PLAYERS};
+ghost use Rattle.trf16_report.specs.declared.limits.TheConstants.{MOST_PLAYERS};
 
 use crate::field::Field;
 use crate::seat::Seat;

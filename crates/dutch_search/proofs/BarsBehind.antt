@@ -1,7 +1,7 @@
 -- Where a floor lies beyond the bar of the candidate that is kept, or of the aim, no candidate behind it is better (C.04.3 C.6 to C.19).
 use Rattle.std.proofs.Common.{◌≡◌, ℕ, ◌<◌, ◌≤◌, ◌⊎◌, true, false, not, Option, Some, None, inl, inr, refl, ap, subst, ◌∙◌, arith}
 use Rattle.std.proofs.Math.Logic.{∥∥₁_elim}
-use Rattle.dutch_order.specs.Prelude.{Arrangement, IsIn}
+use Rattle.dutch_arrangements.specs.Prelude.{Arrangement, IsIn}
 use mathlib.Core.Bool.{Bool-set}
 use Rattle.dutch_bracket.specs.Prelude.{Quality, is_better, next_in, quality_in, candidates_in, quality_here}
 use Rattle.dutch_passes.specs.Prelude.{aim_in, beats, wins, kept_in}

@@ -1,7 +1,7 @@
 -- What floors say behind a beginning they say of the bracket and the shape that they are of (C.04.3 C.6 to C.19).
 use Rattle.std.proofs.Common.{◌≡◌, ℕ, false, List, subst}
-use Rattle.dutch_order.specs.declared.bracket.Shape.{Shape}
-use Rattle.dutch_order.specs.Prelude.{Arrangement, Begins, Beginning, IsIn}
+use Rattle.dutch_arrangements.specs.declared.bracket.Shape.{Shape}
+use Rattle.dutch_arrangements.specs.Prelude.{Arrangement, Begins, Beginning, IsIn}
 use Rattle.dutch_player.specs.Prelude.{Facts}
 use Rattle.dutch_bracket.specs.declared.shaped.ShapedBracket.{ShapedBracket}
 use Rattle.dutch_bracket.specs.Prelude.{HasNoBetter, NextValue, OfEachWithBeginning, Quality, Reached, candidates_of, is_better, quality_here, quality_of}

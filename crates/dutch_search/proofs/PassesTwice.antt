@@ -1,7 +1,7 @@
 -- A list that goes on as another one, which goes on as a third one, goes on as the third: what is skipped on the way is idle.
 use Rattle.std.proofs.Common.{List, ◌++◌, sym, ap, ◌∙◌}
 use Rattle.std.proofs.lemmas.List.{append_assoc}
-use Rattle.dutch_order.specs.Prelude.{Passes}
+use Rattle.dutch_arrangements.specs.Prelude.{Passes}
 use Rattle.dutch_bracket.proofs.AllLemmas.{all_join}
 
 pub passes_twice : {T : Type 0} (Idle : T → Type 0) (xs ys zs : List T) → Passes Idle xs ys → Passes Idle ys zs → Passes Idle xs zs

@@ -1,6 +1,6 @@
 -- What a skipper tells of the candidates that it leaves out (C.04.3 B.8). Only private functions' clauses cite these.
 use Rattle.std.specs.Prelude.{◌≡◌, ℕ, not, true}
-use Rattle.dutch_order.specs.Prelude.{Arrangement, ExchangeClass, IsIn, Beginning}
+use Rattle.dutch_arrangements.specs.Prelude.{Arrangement, ExchangeClass, IsIn, Beginning}
 use Rattle.dutch_bracket.specs.Prelude.{Context, OfEachWithBeginning, candidates_in, quality_here, NextValue}
 use Rattle.dutch_passes.specs.declared.pass.Pass.{Pass}
 use Rattle.dutch_passes.specs.Prelude.{aim_in, beats, wins}

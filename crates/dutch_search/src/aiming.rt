@@ -3,11 +3,11 @@
 // Whoever finds a matching is not trusted, and nothing is promised of an aim: a pass that finds no candidate near it is
 // made again without one.
 use crate::both::BothFloors;
+use dutch_arrangements::{LIMIT, Numbers};
 use dutch_bracket::context::Context;
 use dutch_bracket::differences::put;
 use dutch_bracket::quality::{NextValue, Quality, fill_seated};
 use dutch_bracket::seated::{Pair, Seated, difference_down};
-use dutch_order::{LIMIT, Numbers};
 use dutch_weights::asking::Matched;
 use dutch_weights::unpaired_graph::is_in;
 

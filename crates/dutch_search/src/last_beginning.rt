@@ -1,8 +1,8 @@
 // What a walk of a pass notes from one question to the next.
 use arrayvec::ArrayVec;
+use dutch_arrangements::{LIMIT, Prefix};
 use dutch_bracket::seated::Pair;
 use dutch_floors::notes::FloorNotes;
-use dutch_order::{LIMIT, Prefix};
 use dutch_weights::scope::Scope;
 
 /// The beginning that a walk asked about last. Behind it the walk is stuck if its steps end.

@@ -15,10 +15,10 @@ ghost use Rattle.dutch_search.specs.Skips.{context_of};
 use crate::bars::Skipper;
 use crate::last_beginning::WalkNotes;
 use dual::Wide;
+use dutch_arrangements::{Exchange, Prefix};
 use dutch_bracket::quality::Quality;
 use dutch_floors::notes::FloorQuestion;
 use dutch_listing::Bound;
-use dutch_order::{Exchange, Prefix};
 use dutch_passes::{Workroom, is_barred, is_barred_with, loses};
 
 impl<'a, 'k> Skipper<'a, 'k> {

@@ -1,13 +1,14 @@
 // The best candidate of a shape (C.04.3 B.8), found within floors of both kinds.
 ghost use Rattle.std.specs.Prelude.{◌≡◌, None};
 ghost use Rattle.std.specs.Result.{MatchResult};
-ghost use Rattle.dutch_order.specs.Prelude.{MatchStep, Spends};
+ghost use Rattle.dutch_arrangements.specs.Prelude.{MatchStep, Spends};
 ghost use Rattle.dutch_choice.specs.Prelude.{IsBest};
 ghost use Rattle.dutch_passes.specs.Prelude.{IsLentFor, LooksFor, wished_of};
 ghost use Rattle.dutch_search.specs.Searching.{AreFor};
 ghost use Rattle.dutch_floors.specs.Behind.{IsBasisFor};
 
 use crate::both::BothFloors;
+use dutch_arrangements::{Budget, Step, Stopped};
 use dutch_bracket::fault::PairFault;
 use dutch_bracket::reached::Seats;
 use dutch_bracket::shaped::ShapedBracket;
@@ -16,7 +17,6 @@ use dutch_candidates::greatest::Lister;
 use dutch_candidates::narrowed::NarrowedRule;
 use dutch_choice::finder::{Best, Finder, FinderRequest};
 use dutch_floors::floor::Floors;
-use dutch_order::{Budget, Step, Stopped};
 use dutch_passes::{Judge, Pass, PassRoom, Workroom, best_in_time, look_below};
 
 /// In how many steps it is looked for what the next bracket can be at best: a step for each player of the bracket with

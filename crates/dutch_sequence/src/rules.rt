@@ -14,7 +14,7 @@ pub trait Rule {
         ensures { result ≡ meets self.now a b };
 
     /// Yes if `a` may be the one player left over (C.04.3 C.2).
-    fn may_be_left(&self, a: u16) -> bool
+    fn last_ok(&self, a: u16) -> bool
         ensures { result ≡ may_be_left self.now a };
 
     /// If `a` may meet `b`, then `b` may meet `a`.

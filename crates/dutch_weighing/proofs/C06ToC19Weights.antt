@@ -7,9 +7,9 @@ use Rattle.std.specs.Option.{ForSome}
 use Rattle.std.proofs.lemmas.List.{length-map, map-append}
 use Rattle.std.proofs.lemmas.List.Sums.{sum_by-cons, sum_by-append}
 use Rattle.std.proofs.Math.Nat.{mul-add}
-use Rattle.trf16.specs.declared.cell.Colour.{Colour}
-use Rattle.trf16.specs.declared.cell.Colour.TheVariants.{White, Black}
-use Rattle.dutch_order.specs.Prelude.{Arrangement, down}
+use Rattle.trf16_report.specs.declared.cell.Colour.{Colour}
+use Rattle.trf16_report.specs.declared.cell.Colour.TheVariants.{White, Black}
+use Rattle.dutch_arrangements.specs.Prelude.{Arrangement, down}
 use Rattle.dual.specs.Prelude.{cost}
 use Rattle.dual.proofs.Sums.{sum_map}
 use Rattle.dutch_player.specs.declared.float.Float.{Float}

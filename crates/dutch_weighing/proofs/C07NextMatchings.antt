@@ -10,11 +10,11 @@ use Rattle.std.proofs.lemmas.List.Sums.{sum_by-append, sum_by-cons}
 use Rattle.std.proofs.lemmas.Simd.{map-map}
 use Rattle.dual.specs.Prelude.{MakeUp, in_both}
 use Rattle.dual.proofs.Sums.{sum_map, sum_of_ones}
-use Rattle.dutch_order.specs.declared.bracket.Shape.{Shape}
-use Rattle.dutch_order.specs.Prelude.{Arrangement, Frame, arrangements, down, is_legal, remainder_pairs, all_meet, numbers_from, NoneTwice, IsIn}
+use Rattle.dutch_arrangements.specs.declared.bracket.Shape.{Shape}
+use Rattle.dutch_arrangements.specs.Prelude.{Arrangement, Frame, arrangements, down, is_legal, remainder_pairs, all_meet, numbers_from, NoneTwice, IsIn}
 use Rattle.dutch_sequence.proofs.Lists.{map-numbers_from}
 use Rattle.dutch_sequence.proofs.Members.{length-numbers, numbers-append}
-use Rattle.dutch_order.proofs.NoneTwice.{twice-front}
+use Rattle.dutch_arrangements.proofs.NoneTwice.{twice-front}
 use Rattle.dutch_sequence.proofs.Orders.{Rises, Rises-from, all_members, member_has}
 use Rattle.dutch_sequence.proofs.Turns.{at_index}
 use Rattle.dutch_player.specs.Prelude.{Facts, may_meet}

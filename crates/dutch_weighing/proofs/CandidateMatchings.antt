@@ -8,8 +8,8 @@ use Rattle.std.proofs.lemmas.List.{length-map}
 use Rattle.std.proofs.lemmas.List.Elements.{All-nil, All-cons}
 use Rattle.std.proofs.lemmas.List.Sums.{sum_by-cons, sum_by-append}
 use Rattle.dual.specs.Prelude.{IsMatching, IsPartOf, in_both}
-use Rattle.dutch_order.specs.declared.bracket.Shape.{Shape}
-use Rattle.dutch_order.specs.Prelude.{Arrangement, Fits, arrangements, down, is_legal, leaves_one, all_meet, numbers_from, IsIn, GoesOn}
+use Rattle.dutch_arrangements.specs.declared.bracket.Shape.{Shape}
+use Rattle.dutch_arrangements.specs.Prelude.{Arrangement, Fits, arrangements, down, is_legal, leaves_one, all_meet, numbers_from, IsIn, GoesOn}
 use Rattle.dutch_player.specs.Prelude.{Facts}
 use Rattle.dutch_bracket.specs.Prelude.{HasPairsOf, beyond, IsOf, Reached, ends_round, frame_of, number_may_be_left, numbers_meet, candidates_of, quality_of, score_at, number_pairs}
 use Rattle.dutch_weighing.specs.Prelude.{HasDigits, IsScaleFor, Scale, numbers, weighing}

@@ -15,7 +15,7 @@ use Rattle.std.proofs.lemmas.Bool.Decides.{nat_tests}
 use Rattle.std.proofs.lemmas.Cmp.{tied_itself, nat_list_cmp_total}
 use Rattle.std.proofs.lemmas.List.Sums.{sum_by-cons}
 use Rattle.std.proofs.Math.Nat.{le_of_mul-le-mul_left, mul-add, mul-le-mul_left}
-use Rattle.dutch_order.specs.Prelude.{IsIn}
+use Rattle.dutch_arrangements.specs.Prelude.{IsIn}
 use Rattle.dutch_sequence.proofs.Comparing.{lists_tied}
 use Rattle.dutch_bracket.specs.Prelude.{is_lower, Quality, NextValue, highest_first, is_better, one_if, next_in}
 use Rattle.dutch_weighing.specs.Prelude.{HasDigits, IsAmong, IsOn, IsOnNext, IsScale, IsWithin, NextScale, Scale, alone_by, counts, digits, digits_below, float_digits, in_base, player_digits, weight_above, weight_of, weight_with, written, HasNoBetterOn, HasSameNextOn, nobody}

@@ -14,10 +14,10 @@ ghost use Rattle.dutch_sequence.specs.declared.numbers.TheConstants.{LIMIT};
 
 use crate::scale::Scale;
 use dual::Wide;
+use dutch_arrangements::Rule;
 use dutch_bracket::context::Context;
 use dutch_bracket::quality::{Quality, QualityLists, fill_seated};
 use dutch_bracket::seated::{Pair, Seated, difference_down};
-use dutch_order::Rule;
 use dutch_player::Field;
 use std::alloc::{AllocError, Global};
 use std::marker::Model;
@@ -461,7 +461,7 @@ impl dual::MatchingRule for Weighing<'_> {
     }
 
     fn may_be_left(&self, a: u16) -> bool {
-        !self.context.reached().kind().ends_round() || self.context.rule().may_be_left(a)
+        !self.context.reached().kind().ends_round() || self.context.rule().last_ok(a)
     }
 
     fn left_cost(&self, a: u16) -> Wide {

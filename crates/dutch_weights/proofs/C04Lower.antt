@@ -10,8 +10,8 @@ use Rattle.std.proofs.lemmas.List.Sums.{sum_by-append}
 use Rattle.dual.specs.Prelude.{FloorTable, IsFloor, extra_in, IsMatching, IsPartOf, cost, in_both}
 use Rattle.dual.proofs.Sums.{sum_none}
 use Rattle.dual.proofs.WeakDuality.{counted}
-use Rattle.dutch_order.specs.declared.bracket.Shape.{Shape}
-use Rattle.dutch_order.specs.Prelude.{Arrangement, Fits, down, numbers_from, IsIn, Begins, Beginning}
+use Rattle.dutch_arrangements.specs.declared.bracket.Shape.{Shape}
+use Rattle.dutch_arrangements.specs.Prelude.{Arrangement, Fits, down, numbers_from, IsIn, Begins, Beginning}
 use Rattle.dutch_sequence.proofs.Lists.{map-numbers_from}
 use Rattle.dutch_sequence.proofs.Members.{length-numbers, numbers-append}
 use Rattle.dutch_player.specs.Prelude.{Facts}

@@ -4,7 +4,7 @@ use Rattle.std.proofs.Common.{◌≡◌, ℕ, ◌+◌, ◌<◌, ◌≤◌, Bool,
 use Rattle.std.specs.List.{AllByRecursion, zip}
 use Rattle.std.proofs.lemmas.Bool.{false_from_ne_true, ltb-true}
 use Rattle.std.proofs.lemmas.List.Sums.{sum_by-append, sum_by-cons}
-use Rattle.dutch_order.specs.Prelude.{Arrangement, Beginning}
+use Rattle.dutch_arrangements.specs.Prelude.{Arrangement, Beginning}
 use Rattle.dutch_weights.specs.Prelude.{Order, added, with_lesser, with_order, IsMostAdded}
 use Rattle.dutch_bracket.specs.Prelude.{number_pairs}
 use Rattle.dutch_weights.proofs.OrderLemmas.{with_first}

@@ -5,8 +5,8 @@ use Rattle.std.specs.Option.{IfSome}
 use Rattle.std.proofs.Math.Nat.{mul-add}
 use Rattle.std.proofs.lemmas.Bool.{false_from_ne_true, true≢false}
 use Rattle.std.proofs.lemmas.List.Sums.{sum_by-cons}
-use Rattle.dutch_order.specs.Prelude.{is_member, subsets, sum_of, IsExchange, ExchangeClass, IsIn, total}
-use Rattle.dutch_order.proofs.CursorSets.{AreSet, subset-from, subset-to}
+use Rattle.dutch_arrangements.specs.Prelude.{is_member, subsets, sum_of, IsExchange, ExchangeClass, IsIn, total}
+use Rattle.dutch_arrangements.proofs.CursorSets.{AreSet, subset-from, subset-to}
 use Rattle.dutch_sequence.proofs.Orders.{in-member, member-in, IsIn-append, IsIn-back, IsIn-filter, IsIn-front, IsIn-map, Rises, all_members, filter-IsIn, Rises-filter, Rises-from, member_has}
 use Rattle.dutch_weights.specs.Prelude.{Order, added, kept, lesser, more_of, short_of, with_lesser}
 

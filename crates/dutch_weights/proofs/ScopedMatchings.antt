@@ -5,10 +5,10 @@ use Rattle.std.specs.List.{AllByRecursion, zip}
 use Rattle.std.proofs.lemmas.Bool.{cases_Bool, true≢false}
 use Rattle.std.proofs.lemmas.Bool.Decides.{nat_tests}
 use Rattle.dual.specs.Prelude.{Costs, IsMatching}
-use Rattle.dutch_order.specs.declared.bracket.Shape.{Shape}
-use Rattle.dutch_order.specs.declared.prefix.Filling.{Filling}
-use Rattle.dutch_order.specs.declared.prefix.Filling.TheVariants.{S1, S2, S2r}
-use Rattle.dutch_order.specs.Prelude.{Arrangement, Fits, Frame, arrangements, down, left_of, paired, players_of, remainder_pairs, residents_of, is_member, IsIn, Begins, BeginsAt, Beginning}
+use Rattle.dutch_arrangements.specs.declared.bracket.Shape.{Shape}
+use Rattle.dutch_arrangements.specs.declared.prefix.Filling.{Filling}
+use Rattle.dutch_arrangements.specs.declared.prefix.Filling.TheVariants.{S1, S2, S2r}
+use Rattle.dutch_arrangements.specs.Prelude.{Arrangement, Fits, Frame, arrangements, down, left_of, paired, players_of, remainder_pairs, residents_of, is_member, IsIn, Begins, BeginsAt, Beginning}
 use Rattle.dutch_sequence.proofs.Counts.{member-four}
 use Rattle.dutch_sequence.proofs.Orders.{in-member, member-in, IsIn-filter, all_members, member_has}
 use Rattle.dutch_sequence.proofs.HalfWalks.{Climbs}

@@ -6,10 +6,10 @@ use Rattle.std.specs.Option.{ForSome}
 use Rattle.std.proofs.lemmas.Bool.{eq-eqb, ne_eqb}
 use Rattle.dual.specs.Prelude.{FloorTable, IsFloor, extra_in, extra_left_in, Costs, IsPartOf, cost}
 use Rattle.dual.proofs.Sums.{sum_none}
-use Rattle.dutch_order.specs.declared.bracket.Shape.{Shape}
-use Rattle.dutch_order.specs.declared.prefix.Filling.{Filling}
-use Rattle.dutch_order.specs.declared.prefix.Filling.TheVariants.{S1, S2, S2r}
-use Rattle.dutch_order.specs.Prelude.{Arrangement, Fits, Frame, arrangements, down, left_of, remainder_pairs, residents_of, numbers_from, subsets, IsIn, Begins, BeginsAt, Beginning}
+use Rattle.dutch_arrangements.specs.declared.bracket.Shape.{Shape}
+use Rattle.dutch_arrangements.specs.declared.prefix.Filling.{Filling}
+use Rattle.dutch_arrangements.specs.declared.prefix.Filling.TheVariants.{S1, S2, S2r}
+use Rattle.dutch_arrangements.specs.Prelude.{Arrangement, Fits, Frame, arrangements, down, left_of, remainder_pairs, residents_of, numbers_from, subsets, IsIn, Begins, BeginsAt, Beginning}
 use Rattle.dutch_sequence.proofs.Members.{length-numbers}
 use Rattle.dutch_sequence.proofs.Orders.{IsIn-append, IsIn-map}
 use Rattle.dutch_player.specs.Prelude.{Facts}

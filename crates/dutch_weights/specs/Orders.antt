@@ -1,6 +1,6 @@
 -- What players add to costs where they are in S1R, so that what an arrangement costs tells of its place in the order of D.2 (C.04.3).
 use Rattle.std.specs.Prelude.{◌≡◌, ℕ, ◌+◌, ◌-◌, ◌*◌, ◌^◌, ◌<◌, ◌≤◌, if◌then◌else◌, List, length, min, nat_lt, slice_index, slice_index_or}
-use Rattle.dutch_order.specs.Prelude.{is_member}
+use Rattle.dutch_arrangements.specs.Prelude.{is_member}
 
 -- what a number of a bracket adds to a cost where it is in S1R: so many units for each number, and something more for each of them [D.2;
 -- own]

@@ -3,7 +3,7 @@
 -- those left over fit it. What bounds the choice by beginnings stands on these; a reader of its promise may pass them by.
 use Rattle.std.specs.Prelude.{◌≡◌, ℕ, ◌+◌, ◌-◌, ◌^◌, ◌%◌, ◌<◌, ◌≤◌, [], length, min, Bool, true, ◌&&◌, ◌||◌, not, ◌==◌, if◌then◌else◌, nat_lt, nat_le, List, ◌++◌, slice_index_or, is_some, Option}
 use Rattle.dual.specs.Prelude.{FloorTable, IsFloor, Costs}
-use Rattle.dutch_order.specs.Prelude.{numbers_from}
+use Rattle.dutch_arrangements.specs.Prelude.{numbers_from}
 use Rattle.dutch_player.specs.Prelude.{may_meet}
 use Rattle.dutch_weights.specs.declared.scoped.Reach.{Reach}
 use Rattle.dutch_weights.specs.declared.scoped.Reach.TheVariants.{Bracket, Lower, Next}

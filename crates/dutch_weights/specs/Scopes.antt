@@ -1,9 +1,9 @@
 -- Which arrangements of a bracket a floor is for (C.04.3 B.3, B.6, B.7). What bounds the choice by beginnings stands on these; a reader of
 -- its promise may pass them by.
 use Rattle.std.specs.Prelude.{◌≡◌, ℕ, Bool, true, false, if◌then◌else◌, nat_lt, List}
-use Rattle.dutch_order.specs.declared.prefix.Filling.{Filling}
-use Rattle.dutch_order.specs.declared.prefix.Filling.TheVariants.{S1, S2, S2r}
-use Rattle.dutch_order.specs.Prelude.{is_member, Beginning}
+use Rattle.dutch_arrangements.specs.declared.prefix.Filling.{Filling}
+use Rattle.dutch_arrangements.specs.declared.prefix.Filling.TheVariants.{S1, S2, S2r}
+use Rattle.dutch_arrangements.specs.Prelude.{is_member, Beginning}
 use Rattle.dutch_weights.specs.declared.scope.Standing.{Standing}
 use Rattle.dutch_weights.specs.declared.scope.Standing.TheVariants.{Any, Outside, First, Resident, FirstResident, OtherResident}
 use Rattle.dutch_bracket.specs.Beginnings.{has_s1}

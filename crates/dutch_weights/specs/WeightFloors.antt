@@ -3,10 +3,10 @@
 use Rattle.std.specs.Prelude.{◌≡◌, ℕ, zero, suc, ◌+◌, ◌≤◌, ◌==◌, true, false, Bool, if◌then◌else◌, List, [], ◌∷◌, All, drop, sum_by, Option, Some, None}
 use Rattle.std.specs.Option.{ForSome}
 use Rattle.dual.specs.Prelude.{FloorTable, extra_in, extra_left_in}
-use Rattle.dutch_order.specs.declared.bracket.Shape.{Shape}
-use Rattle.dutch_order.specs.declared.prefix.Filling.{Filling}
-use Rattle.dutch_order.specs.declared.prefix.Filling.TheVariants.{S1, S2, S2r}
-use Rattle.dutch_order.specs.Prelude.{Arrangement, Fits, IsExchange, ExchangeClass, IsIn, Begins, Beginning}
+use Rattle.dutch_arrangements.specs.declared.bracket.Shape.{Shape}
+use Rattle.dutch_arrangements.specs.declared.prefix.Filling.{Filling}
+use Rattle.dutch_arrangements.specs.declared.prefix.Filling.TheVariants.{S1, S2, S2r}
+use Rattle.dutch_arrangements.specs.Prelude.{Arrangement, Fits, IsExchange, ExchangeClass, IsIn, Begins, Beginning}
 use Rattle.dutch_player.specs.Prelude.{Facts}
 use Rattle.dutch_candidates.specs.declared.wish.Wish.{Wish}
 use Rattle.dutch_bracket.specs.Prelude.{Context, fixed_lists, NextValue, Quality, IsOf, Reached, frame_of, can_be_chosen, candidates_of, quality_of, number_pairs}

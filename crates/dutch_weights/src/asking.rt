@@ -5,7 +5,7 @@
 ghost use Rattle.std.specs.Prelude.{◌≡◌, ◌<◌, ◌≤◌};
 ghost use Rattle.std.specs.Result.{MatchResult};
 ghost use Rattle.dutch_sequence.specs.declared.numbers.TheConstants.{LIMIT};
-ghost use Rattle.dutch_order.specs.Prelude.{Spends};
+ghost use Rattle.dutch_arrangements.specs.Prelude.{Spends};
 
 use crate::certificate_table::table_of;
 use crate::order::{Halves, Order};
@@ -16,9 +16,9 @@ use crate::unpaired_graph::{LeftOverCost, UnpairedGraph, is_in};
 use crate::weight_floor::{Bar, WeightFloors};
 use cheapest::{Fault, Found, LOOKS_IN_A_STEP, cheapest};
 use dual::{Table, Wide};
+use dutch_arrangements::{Budget, Stopped};
 use dutch_bracket::seated::Pair;
 use dutch_bracket::spending::spend;
-use dutch_order::{Budget, Stopped};
 use std::alloc::{AllocError, Global};
 
 /// The number of pairs of a beginning is halved so often at most.

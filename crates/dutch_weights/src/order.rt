@@ -4,12 +4,12 @@
 ghost use Rattle.std.specs.Prelude.{◌≡◌, ℕ, ◌+◌, ◌*◌, ◌<◌, ◌≤◌, ◌^◌, if◌then◌else◌, List, [], All, IfOk, IfSome};
 ghost use Rattle.std.specs.Prelude.{min, sum_by, true};
 ghost use Rattle.std.specs.Option.{SomeIff};
-ghost use Rattle.dutch_order.specs.Prelude.{is_member, IsExchange};
+ghost use Rattle.dutch_arrangements.specs.Prelude.{is_member, IsExchange};
 ghost use Rattle.dutch_sequence.specs.declared.numbers.TheConstants.{LIMIT};
 ghost use Rattle.dutch_weights.specs.Orders.{AreAdded, added, kept, lesser, more_of, short_of, with_lesser};
 
 use dual::Wide;
-use dutch_order::{Exchange, LIMIT};
+use dutch_arrangements::{Exchange, LIMIT};
 use dutch_weighing::bits_for;
 use std::alloc::{AllocError, Global};
 use std::marker::Model;

@@ -4,15 +4,15 @@
 // Behind an S1 no other moved-down player is in a pair. Behind an S1R each pair of residents is one of a member and one
 // of another resident. So fewer pairs are possible than in all arrangements, and a floor can be higher.
 ghost use Rattle.std.specs.Prelude.{◌≡◌, ◌<◌, ◌≤◌, IfSome, true};
-ghost use Rattle.dutch_order.specs.declared.prefix.Filling.TheVariants.{S2r};
+ghost use Rattle.dutch_arrangements.specs.declared.prefix.Filling.TheVariants.{S2r};
 ghost use Rattle.dutch_bracket.specs.Beginnings.{has_s1};
-ghost use Rattle.dutch_order.specs.Prelude.{is_member};
+ghost use Rattle.dutch_arrangements.specs.Prelude.{is_member};
 ghost use Rattle.dutch_weights.specs.Scopes.{Covers, is_joined, may_stay, moved_down_standing, resident_standing};
 ghost use Rattle.dutch_weights.specs.Scopes.{standing_of};
 
+use dutch_arrangements::{Filling, Numbers, Prefix};
 use dutch_bracket::reached::copied;
 use dutch_candidates::fixed_lists::has_s1;
-use dutch_order::{Filling, Numbers, Prefix};
 use std::marker::Model;
 
 /// Where a player of a bracket stands in the arrangements of a scope.

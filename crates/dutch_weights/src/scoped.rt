@@ -24,10 +24,10 @@ use crate::order::Order;
 use crate::scope::{Scope, Standing};
 use arrayvec::ArrayVec;
 use dual::{Floor, MatchingRule, Pool, Table, Wide};
+use dutch_arrangements::{LIMIT, Numbers, numbered_from};
 use dutch_bracket::context::Context;
 use dutch_candidates::wish::{Wish, fits_as_left, fits_as_pair};
 use dutch_completion::seats::{BySeat, seats};
-use dutch_order::{LIMIT, Numbers, numbered_from};
 use dutch_weighing::Weighing;
 use std::alloc::AllocError;
 use std::marker::Model;
@@ -302,7 +302,7 @@ impl<'a, 'b> Scoped<'a, 'b> {
     fn may_have_bye(&self, number: u16) -> bool
         ensures { result ≡ (lower_costs self.now).may_be_left number }
     {
-        self.goes_down(number) && self.by_seat().may_be_left(self.seat(number))
+        self.goes_down(number) && self.by_seat().last_ok(self.seat(number))
     }
 
     /// What one who goes down weighs; a lower player weighs nothing.

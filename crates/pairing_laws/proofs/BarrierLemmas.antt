@@ -2,11 +2,11 @@
 use Rattle.std.proofs.Common.{◌≡◌, false, None, sym}
 use Rattle.dual.proofs.Barriers.{not_completable}
 use Rattle.dutch_player.specs.Prelude.{Facts}
-use Rattle.dutch_pair.specs.Prelude.{Barrier, Blocks, label, everybody, round}
+use Rattle.dutch_rounds.specs.Prelude.{Barrier, Blocks, label, everybody, round}
 use Rattle.dutch_bracket.specs.Completion.{Completable}
 use Rattle.dutch_bracket.specs.Prelude.{completable, seats_meet, seats_may_be_left}
 use Rattle.dutch_completion.proofs.Completions.{told_no}
-use Rattle.dutch_pair.proofs.NoDeadEnd.{not_complete, unpaired_exactly}
+use Rattle.dutch_rounds.proofs.NoDeadEnd.{not_complete, unpaired_exactly}
 
 module _ (facts : Facts) (barrier : Barrier) (blocks : Blocks facts barrier) where
   fails : completable facts (everybody facts) ≡ false

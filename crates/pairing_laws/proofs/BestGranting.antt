@@ -5,11 +5,11 @@ use Rattle.std.specs.List.{list_any}
 use Rattle.std.proofs.lemmas.Bool.{not-true, not-false, not_from_false, false_from_ne_true, true≢false}
 use Rattle.std.proofs.lemmas.Bool.Decides.{nat_tests}
 use Rattle.std.proofs.lemmas.List.Elements.{filter-append}
-use Rattle.dutch_order.specs.declared.bracket.Shape.{Shape}
-use Rattle.dutch_order.specs.Prelude.{Arrangement, Frame, down, paired, players_of, is_member, pairs_by_number, HasEachOnce, IsIn}
+use Rattle.dutch_arrangements.specs.declared.bracket.Shape.{Shape}
+use Rattle.dutch_arrangements.specs.Prelude.{Arrangement, Frame, down, paired, players_of, is_member, pairs_by_number, HasEachOnce, IsIn}
 use Rattle.dutch_sequence.proofs.Orders.{in-member, member-in, IsIn-back, IsIn-filter, filter-IsIn}
-use Rattle.dutch_order.proofs.NoneTwice.{in-left, left-in}
-use Rattle.dutch_order.proofs.Once.{candidates-once, filter-once}
+use Rattle.dutch_arrangements.proofs.NoneTwice.{in-left, left-in}
+use Rattle.dutch_arrangements.proofs.Once.{candidates-once, filter-once}
 use Rattle.dutch_candidates.specs.declared.wish.Wish.{Wish}
 use Rattle.dutch_candidates.specs.declared.wish.Wish.TheVariants.{LeftOver, Pair}
 use Rattle.dutch_bracket.specs.Prelude.{first_unbeaten, is_unbeaten, Context, can_be_chosen_here, candidates_here, eligible_here, frame_here, quality_here, Quality, is_better, number_may_be_left, numbers_meet, best_of_shape, candidates_of, eligible}

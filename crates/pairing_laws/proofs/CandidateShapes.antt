@@ -4,8 +4,8 @@ use Rattle.std.specs.Prelude.{filter}
 use Rattle.std.proofs.lemmas.Bool.{or_left}
 use Rattle.std.proofs.lemmas.List.{append_assoc, length-append, length-map}
 use Rattle.std.proofs.lemmas.List.Elements.{All-nil, All-cons, All-head, All-tail, filter-append}
-use Rattle.dutch_order.specs.declared.bracket.Shape.{Shape}
-use Rattle.dutch_order.specs.Prelude.{Arrangement, IsIn, by_place}
+use Rattle.dutch_arrangements.specs.declared.bracket.Shape.{Shape}
+use Rattle.dutch_arrangements.specs.Prelude.{Arrangement, IsIn, by_place}
 use Rattle.dutch_bracket.specs.Prelude.{Context, FitsHere, IsOf, candidates_of, score_at}
 use Rattle.dutch_candidates.proofs.CandidatePairs.{first_count, lists, low, other_count, s1_low}
 use Rattle.dutch_bracket.proofs.LegalPairs.{IsArranged, legal_of}

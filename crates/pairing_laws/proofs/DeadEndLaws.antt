@@ -1,16 +1,16 @@
 -- Whoever pairs out those whom the penultimate bracket leaves over with all lower players pairs no two of them (C.04.3 A.9).
 use Rattle.std.proofs.Common.{◌≡◌, ℕ, List, ◌++◌, Some, sym, ap, ◌∙◌, subst}
-use Rattle.dutch_order.specs.Prelude.{IsIn}
+use Rattle.dutch_arrangements.specs.Prelude.{IsIn}
 use Rattle.dutch_sequence.proofs.Orders.{member_has}
 use Rattle.dutch_player.specs.Prelude.{Facts}
 use Rattle.dutch_bracket.specs.declared.reached.BracketKind.TheVariants.{Penultimate}
-use Rattle.dutch_pair.specs.Prelude.{HasNoPairOf, PairOut, lower_of, Visit, round, GoesOut, HasWayOut}
+use Rattle.dutch_rounds.specs.Prelude.{HasNoPairOf, PairOut, lower_of, Visit, round, GoesOut, HasWayOut}
 use Rattle.dutch_bracket.specs.Prelude.{Reached, Choice, bracket, choice, downfloaters, seats_meet_sym, seats_meet, seats_may_be_left}
 use Rattle.dutch_completion.proofs.Mates.{pairs_mates}
-use Rattle.dutch_pair.proofs.NoDeadEnd.{left_twice, no_mates}
+use Rattle.dutch_rounds.proofs.NoDeadEnd.{left_twice, no_mates}
 use Rattle.pairing_laws.proofs.StandsAbove.{IsPassed, all_passed}
-use Rattle.dutch_pair.proofs.WalkLemmas.{Descends}
-use Rattle.dutch_pair.proofs.WalkSteps.{stands_lower}
+use Rattle.dutch_rounds.proofs.WalkLemmas.{Descends}
+use Rattle.dutch_rounds.proofs.WalkSteps.{stands_lower}
 
 module _ (facts : Facts) where
   left_of : (number : ℕ) (md residents lower : List ℕ) (made : Choice) (pairs : List (ℕ × ℕ)) → GoesOut facts md (residents ++ lower)

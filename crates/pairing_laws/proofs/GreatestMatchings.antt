@@ -1,8 +1,8 @@
 -- The shape of a bracket is that of its greatest matchings (C.04.3 C.5, B.1).
 use Rattle.std.proofs.Common.{◌≡◌, ℕ, ◌<◌, ◌≤◌, true, List, Option, Some, None, inl, inr, refl, sym, ap, subst, ◌∙◌, arith}
 use Rattle.std.proofs.lemmas.Bool.{cases_lt}
-use Rattle.dutch_order.specs.declared.bracket.Shape.{Shape}
-use Rattle.dutch_order.specs.Prelude.{IsIn}
+use Rattle.dutch_arrangements.specs.declared.bracket.Shape.{Shape}
+use Rattle.dutch_arrangements.specs.Prelude.{IsIn}
 use Rattle.dutch_sequence.proofs.Orders.{IsIn-filter}
 use Rattle.dutch_bracket.specs.Prelude.{Context, FitsHere, IsGreater, IsOf, can_be_chosen, candidates_of, eligible_here, has_member, is_penultimate, shape_here}
 use Rattle.dutch_completion.proofs.EligibleLemmas.{eligible_is}

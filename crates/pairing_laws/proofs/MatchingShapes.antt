@@ -12,8 +12,8 @@ use Rattle.std.proofs.lemmas.List.Sums.{sum_by-cons, sum_by-append}
 use Rattle.dual.specs.Prelude.{Completable, IsWitness, MakeUp, in_both}
 use Rattle.dual.proofs.Sums.{named, of_member, one, one_itself, sum_map, sum_named, sum_of_ones, sum_plus}
 use Rattle.dual.proofs.Witnesses.{completable as witness_completes}
-use Rattle.dutch_order.specs.declared.bracket.Shape.{Shape}
-use Rattle.dutch_order.specs.Prelude.{leaves_one, numbers_from}
+use Rattle.dutch_arrangements.specs.declared.bracket.Shape.{Shape}
+use Rattle.dutch_arrangements.specs.Prelude.{leaves_one, numbers_from}
 use Rattle.dutch_sequence.proofs.Members.{numbers-append}
 use Rattle.dutch_bracket.specs.declared.reached.BracketKind.{BracketKind}
 use Rattle.dutch_bracket.specs.declared.reached.BracketKind.TheVariants.{Ordinary}

@@ -5,7 +5,7 @@ use Rattle.std.proofs.lemmas.List.Elements.{All-head, All-tail}
 use Rattle.std.proofs.lemmas.List.Sums.{sum_by-cons}
 use Rattle.dual.specs.Prelude.{MakeUp, in_both}
 use Rattle.dual.proofs.Sums.{one, one_itself}
-use Rattle.dutch_order.specs.Prelude.{numbers_from}
+use Rattle.dutch_arrangements.specs.Prelude.{numbers_from}
 
 -- the partner of a number in some pairs; whoever is in none is their own
 abbrev pub partner_in : List (ℕ × ℕ) → ℕ → ℕ

@@ -2,19 +2,19 @@
 use Rattle.std.proofs.Common.{◌≡◌, ℕ, zero, suc, ◌+◌, ◌<◌, ◌≤◌, Bool, true, false, List, [], ◌∷◌, ◌++◌, length, drop, Option, Some, None, refl, sym, ap, ◌∙◌, subst, arith}
 use Rattle.std.proofs.lemmas.Bool.{cond_both}
 use Rattle.std.specs.List.{AllByRecursion, concat}
-use Rattle.dutch_order.specs.declared.bracket.Shape.{Shape}
+use Rattle.dutch_arrangements.specs.declared.bracket.Shape.{Shape}
 use Rattle.dutch_player.specs.Prelude.{Facts}
 use Rattle.dutch_bracket.specs.declared.reached.BracketKind.{BracketKind}
 use Rattle.dutch_bracket.specs.declared.reached.BracketKind.TheVariants.{Ordinary, Last, Penultimate, Collapsed}
 use Rattle.dutch_bracket.specs.Prelude.{Reached, IsAbove, Choice, bracket, choice, completable, downfloaters, first_group, scoregroups, shape_of}
-use Rattle.dutch_pair.specs.Prelude.{Goes, GoesOut, StandsBefore, lower_of, shown, visit_at, visit_of, group_kind, Round, Visit, everybody, no_pairing, passing, pairing_in, penultimate_bracket, paired_again, brackets, round}
-use Rattle.dutch_pair.proofs.RoundBy.{final_by, penultimate_by, ordinary_by}
+use Rattle.dutch_rounds.specs.Prelude.{Goes, GoesOut, StandsBefore, lower_of, shown, visit_at, visit_of, group_kind, Round, Visit, everybody, no_pairing, passing, pairing_in, penultimate_bracket, paired_again, brackets, round}
+use Rattle.dutch_rounds.proofs.RoundBy.{final_by, penultimate_by, ordinary_by}
 use Rattle.dutch_choice.proofs.BestLemmas.{chosen_is}
 use Rattle.dutch_bracket.proofs.GroupLemmas.{concat_scoregroups}
-use Rattle.dutch_pair.proofs.GroupWalk.{IsParted, parted_by, everybody_few, everybody_goes}
-use Rattle.dutch_pair.proofs.NoDeadEnd.{everybody_out, ordinary_out}
-use Rattle.dutch_pair.proofs.WalkLemmas.{Descends}
-use Rattle.dutch_pair.proofs.WalkSteps.{stands_above, stands_again, stands_collapsed, stands_group, stands_left, stands_lower, stands_number}
+use Rattle.dutch_rounds.proofs.GroupWalk.{IsParted, parted_by, everybody_few, everybody_goes}
+use Rattle.dutch_rounds.proofs.NoDeadEnd.{everybody_out, ordinary_out}
+use Rattle.dutch_rounds.proofs.WalkLemmas.{Descends}
+use Rattle.dutch_rounds.proofs.WalkSteps.{stands_above, stands_again, stands_collapsed, stands_group, stands_left, stands_lower, stands_number}
 
 ordinary_kind : (lower : List ℕ) → 0 < length lower → group_kind lower ≡ Ordinary
 ordinary_kind [] h = absurd (omega (arith, h))

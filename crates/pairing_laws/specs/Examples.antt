@@ -1,14 +1,14 @@
 -- Rounds that can be followed by hand, on which the definitions are tried.
 use Rattle.std.specs.Prelude.{ℕ, true, false, List, [], ◌∷◌, Option, Some, None, option_map, map}
-use Rattle.trf16.specs.declared.cell.Colour.{Colour}
-use Rattle.trf16.specs.declared.cell.Colour.TheVariants.{White, Black}
+use Rattle.trf16_report.specs.declared.cell.Colour.{Colour}
+use Rattle.trf16_report.specs.declared.cell.Colour.TheVariants.{White, Black}
 use Rattle.dutch_player.specs.declared.float.Float.{Float}
 use Rattle.dutch_player.specs.declared.float.Float.TheVariants.{Up, Down}
 use Rattle.dutch_player.specs.Prelude.{SeatFacts, Facts}
-use Rattle.dutch_order.specs.Prelude.{Arrangement, exchange_cmp, limbo_cmp}
+use Rattle.dutch_arrangements.specs.Prelude.{Arrangement, exchange_cmp, limbo_cmp}
 use Rattle.dutch_bracket.specs.declared.reached.BracketKind.TheVariants.{Ordinary}
 use Rattle.dutch_bracket.specs.Prelude.{quality, value_of, Reached, numbers_meet, number_may_be_left, Quality, count_in, is_better, psd, quality_with, best_of_shape, bracket, candidates_of, choice, completable, eligible, quality_of, shape_of, seats_meet, seats_may_be_left, going_down, going_up}
-use Rattle.dutch_pair.specs.Prelude.{board_of, boards, goes_before, goes_before_by_sum, round}
+use Rattle.dutch_rounds.specs.Prelude.{board_of, boards, goes_before, goes_before_by_sum, round}
 
 -- the boards of a round, if it has a pairing [own]
 unfoldable pub boards_of : Facts → Option (List (ℕ × ℕ))

@@ -1,8 +1,8 @@
 -- What the shape of a bracket is, by matchings of its players, in the penultimate bracket with all lower ones (C.04.3 B.1, C.1 to C.5).
 use Rattle.std.specs.Prelude.{◌≡◌, ℕ, ◌≤◌, Bool, ◌||◌, nat_le, List, filter, length}
 use Rattle.dual.specs.Prelude.{IsMatching}
-use Rattle.dutch_order.specs.declared.bracket.Shape.{Shape}
-use Rattle.dutch_order.specs.Prelude.{numbers_from}
+use Rattle.dutch_arrangements.specs.declared.bracket.Shape.{Shape}
+use Rattle.dutch_arrangements.specs.Prelude.{numbers_from}
 use Rattle.dutch_bracket.specs.declared.reached.BracketKind.TheVariants.{Ordinary}
 use Rattle.dutch_bracket.specs.Prelude.{Context, IsGreater}
 use Rattle.dutch_choice.specs.ShapeCosts.{are_pair, count_all, shape_costs}

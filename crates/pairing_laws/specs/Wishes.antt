@@ -1,7 +1,7 @@
 -- What the laws of wishes name (C.04.3 B.8): which of two candidates stands first.
 use Rattle.std.specs.Prelude.{◌≡◌, ◌⊎◌, List, ◌∷◌, ◌++◌}
-use Rattle.dutch_order.specs.declared.bracket.Shape.{Shape}
-use Rattle.dutch_order.specs.Prelude.{Arrangement, IsIn}
+use Rattle.dutch_arrangements.specs.declared.bracket.Shape.{Shape}
+use Rattle.dutch_arrangements.specs.Prelude.{Arrangement, IsIn}
 use Rattle.dutch_bracket.specs.Prelude.{Context, eligible_here, quality_here}
 
 -- of some candidates one stands before another one [with IsAsGoodBefore]

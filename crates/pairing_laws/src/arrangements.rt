@@ -3,12 +3,12 @@ ghost use Rattle.std.specs.Prelude.{◌≡◌, ◌≤◌, ◌↔◌, ℕ, Bool, 
 ghost use Rattle.std.specs.Cmp.{IsTotalOrder};
 ghost use Rattle.std.specs.declared.cmp.Ordering.TheVariants.{Equal};
 ghost use Rattle.std.specs.List.Sorted.{IsStrictlyIncreasing};
-ghost use Rattle.dutch_order.specs.Prelude.{subsets, tuples, all_meet, numbers_from, lower_first, IsIn, HasEachOnce, Ascends};
-ghost use Rattle.dutch_order.specs.Prelude.{all_tuples, transpositions, sum_of, moved_out, moved_in, exchange_cmp, exchanges};
-ghost use Rattle.dutch_order.specs.Prelude.{limbo_cmp, limbo_exchanges, Frame, Arrangement, IsBracket, arrangements, behind};
-ghost use Rattle.dutch_order.specs.Prelude.{candidates, rest, cursor_text, has_syntax, is_of, cursor_of};
-ghost use Rattle.dutch_order.specs.declared.bracket.Shape.{Shape};
-ghost use Rattle.dutch_order.specs.declared.cursor.CursorFault.TheVariants.{Syntax};
+ghost use Rattle.dutch_arrangements.specs.Prelude.{subsets, tuples, all_meet, numbers_from, lower_first, IsIn, HasEachOnce, Ascends};
+ghost use Rattle.dutch_arrangements.specs.Prelude.{all_tuples, transpositions, sum_of, moved_out, moved_in, exchange_cmp, exchanges};
+ghost use Rattle.dutch_arrangements.specs.Prelude.{limbo_cmp, limbo_exchanges, Frame, Arrangement, IsBracket, arrangements, behind};
+ghost use Rattle.dutch_arrangements.specs.Prelude.{candidates, rest, cursor_text, has_syntax, is_of, cursor_of};
+ghost use Rattle.dutch_arrangements.specs.declared.bracket.Shape.{Shape};
+ghost use Rattle.dutch_arrangements.specs.declared.cursor.CursorFault.TheVariants.{Syntax};
 
 /// Each order of choices is a total order (D.1, D.2, D.3).
 pub fn orders_are_total()

@@ -4,8 +4,8 @@ ghost use Rattle.std.specs.Prelude.{◌≡◌, ◌+◌, ◌*◌, ◌<◌, ◌≤
 ghost use Rattle.std.specs.Prelude.{length, slice_index, true, false};
 ghost use Rattle.std.specs.List.{AllByRecursion, concat};
 ghost use Rattle.std.specs.Option.{IsSomeAnd};
-ghost use Rattle.dutch_order.specs.Prelude.{Candidate, Fits, Frame, IsNonAscending};
-ghost use Rattle.dutch_order.specs.declared.bracket.Shape.{Shape};
+ghost use Rattle.dutch_arrangements.specs.Prelude.{Candidate, Fits, Frame, IsNonAscending};
+ghost use Rattle.dutch_arrangements.specs.declared.bracket.Shape.{Shape};
 ghost use Rattle.dutch_player.specs.Prelude.{Facts};
 ghost use Rattle.dutch_bracket.specs.Prelude.{IsScoregroup, NeighboursDiffer, scoregroups, highest_first, score_at, lowest};
 ghost use Rattle.dutch_bracket.specs.Prelude.{Quality, is_better, first_difference, DifferFirstIn, IsInFrontIn, quality};
@@ -62,7 +62,7 @@ pub fn better_at_the_first_difference()
 {}
 
 /// Of each candidate of a bracket an item counts as many players as it says (C.8 to C.15).
-#[tactic(auto, using(dutch_pair::proofs::ItemSeats::as_many_count))]
+#[tactic(auto, using(dutch_rounds::proofs::ItemSeats::as_many_count))]
 pub fn as_many_count_as_the_item_says()
     ensures { (facts : Facts) (reached : Reached) (next : List ℕ) (draw : Candidate) (item : Item)
         → length (who_counts facts reached draw item) ≡ players_counted item (quality facts reached next draw) }

@@ -1,14 +1,14 @@
 // What the calls on a bracket ask for (C.04.3 A.3, C.4 to C.19): where it comes from, it holds.
 ghost use Rattle.std.specs.Prelude.{◌≡◌, Some};
-ghost use Rattle.dutch_order.specs.Prelude.{IsIn, down};
+ghost use Rattle.dutch_arrangements.specs.Prelude.{IsIn, down};
 ghost use Rattle.dutch_bracket.specs.Prelude.{HasCandidate, IsAbove, IsNext, IsOfBracket, candidates_of, first_group, frame_of};
 ghost use Rattle.dutch_bracket.specs.Prelude.{scoregroups, shape_of};
-ghost use Rattle.dutch_pair.specs.Prelude.{IsStage, lower_of, round, shown, visit_of};
+ghost use Rattle.dutch_rounds.specs.Prelude.{IsStage, lower_of, round, shown, visit_of};
 
-use dutch_order::{Candidate, Shape};
-use dutch_pair::{Reached, Stage};
+use dutch_arrangements::{Candidate, Shape};
 use dutch_player::Field;
 use dutch_player::laws::scores_do_not_ascend;
+use dutch_rounds::{Reached, Stage};
 
 /// A bracket of a round stands above the players below it, and above them it has its shape: whoever has asked for the
 /// bracket can ask for its choice.
@@ -39,7 +39,7 @@ pub fn a_stage_stands_above_the_lower(field: &Field, stage: &Stage)
 {}
 
 /// A candidate of a bracket and a shape is one whose quality can be asked for.
-#[tactic(auto, using(dutch_pair::proofs::WalkEnds::candidate_of_bracket))]
+#[tactic(auto, using(dutch_rounds::proofs::WalkEnds::candidate_of_bracket))]
 pub fn candidates_are_of_the_bracket(
     field: &Field,
     reached: &Reached,

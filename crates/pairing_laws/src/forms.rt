@@ -2,9 +2,9 @@
 // more.
 ghost use Rattle.std.specs.Prelude.{◌≤◌, ◌<◌, ℕ, List, length};
 ghost use Rattle.dutch_sequence.specs.Keys.{IsIn};
-ghost use Rattle.dutch_order.specs.Arrangements.{Frame, Arrangement, arrangements, down};
-ghost use Rattle.dutch_order.specs.declared.bracket.Shape.{Shape};
-ghost use Rattle.dutch_order.specs.Forms.{HasArrangement, IsInForm, TakesPair, pairs_by_number};
+ghost use Rattle.dutch_arrangements.specs.Arrangements.{Frame, Arrangement, arrangements, down};
+ghost use Rattle.dutch_arrangements.specs.declared.bracket.Shape.{Shape};
+ghost use Rattle.dutch_arrangements.specs.Forms.{HasArrangement, IsInForm, TakesPair, pairs_by_number};
 
 /// Pairs in form are those of some arrangement of their shape, and the pairs of each arrangement are in form.
 pub fn pairs_in_form_are_arranged()

@@ -1,46 +1,46 @@
 // Laws of a round and its boards (C.04.3 A.9, B.8): who stands on a board and in a bracket, in which order boards stand,
 // why no bracket is a dead end, and when a round is paired.
 ghost use Rattle.std.specs.Prelude.{◌≡◌, ◌++◌, ◌<◌, ◌≤◌, ◌↔◌, ℕ, List, None, Some, false, true, is_some, length};
-ghost use Rattle.dutch_order.specs.Prelude.{IsIn};
+ghost use Rattle.dutch_arrangements.specs.Prelude.{IsIn};
 ghost use Rattle.dutch_player.specs.Prelude.{Facts, CountFromOne};
 ghost use Rattle.dutch_bracket.specs.Prelude.{completable, downfloaters, seats_meet, seats_may_be_left};
 ghost use Rattle.dutch_bracket.specs.Completion.{Completable};
 ghost use Rattle.dutch_bracket.specs.declared.reached.BracketKind.TheVariants.{Collapsed, Penultimate};
-ghost use Rattle.dutch_pair.specs.Prelude.{Pairing, Visit, round, everybody, lower_of, AreInOrder, boards, ordered, Barrier};
-ghost use Rattle.dutch_pair.specs.Prelude.{NameEverybodyOnce, is_reached, HasNoPairOf, NoTwoMayMeet, PairOut, moved_down};
-ghost use Rattle.dutch_pair.specs.Prelude.{Blocks};
+ghost use Rattle.dutch_rounds.specs.Prelude.{Pairing, Visit, round, everybody, lower_of, AreInOrder, boards, ordered, Barrier};
+ghost use Rattle.dutch_rounds.specs.Prelude.{NameEverybodyOnce, is_reached, HasNoPairOf, NoTwoMayMeet, PairOut, moved_down};
+ghost use Rattle.dutch_rounds.specs.Prelude.{Blocks};
 
 use dutch_player::Field;
 use dutch_player::laws::scores_do_not_ascend;
 
 /// In a round that is paired each present player stands on exactly one board, once, and nobody else does.
-#[tactic(auto, using(dutch_pair::proofs::NamedBoards::everybody_named))]
+#[tactic(auto, using(dutch_rounds::proofs::NamedBoards::everybody_named))]
 pub fn everybody_is_named_once()
     ensures { (facts : Facts) (pairing : Pairing) → CountFromOne facts → (round facts).pairing ≡ Some pairing
         → NameEverybodyOnce facts (boards facts pairing) }
 {}
 
 /// In a round that is paired each present player stands in one of the brackets that it reaches.
-#[tactic(auto, using(dutch_pair::proofs::EverybodyStands::stands_in_one))]
+#[tactic(auto, using(dutch_rounds::proofs::EverybodyStands::stands_in_one))]
 pub fn everybody_stands_in_a_bracket()
     ensures { (facts : Facts) (pairing : Pairing) (seat : ℕ) → (round facts).pairing ≡ Some pairing
         → seat < length facts.seats → is_reached (round facts).reached seat ≡ true }
 {}
 
 /// In a round that is paired at most one player has the bye.
-#[tactic(auto, using(dutch_pair::proofs::WholeRounds::one_bye))]
+#[tactic(auto, using(dutch_rounds::proofs::WholeRounds::one_bye))]
 pub fn at_most_one_has_the_bye()
     ensures { (facts : Facts) (pairing : Pairing) → (round facts).pairing ≡ Some pairing → length pairing.bye ≤ 1 }
 {}
 
 /// The pairs of a round stand in the order of their boards: none goes before one that stands in front of it.
-#[tactic(auto, using(dutch_pair::proofs::BoardOrder::boards_in_order))]
+#[tactic(auto, using(dutch_rounds::proofs::BoardOrder::boards_in_order))]
 pub fn boards_stand_in_order()
     ensures { (facts : Facts) (pairs : List (ℕ × ℕ)) → AreInOrder facts (ordered facts pairs) }
 {}
 
 /// No two players who were moved down into a bracket that a round reaches may meet, but in the collapsed one (A.9).
-#[tactic(auto, using(dutch_pair::proofs::NoDeadEnd::moved_down_apart))]
+#[tactic(auto, using(dutch_rounds::proofs::NoDeadEnd::moved_down_apart))]
 pub fn no_two_moved_down_may_meet()
     ensures { (facts : Facts) (visit : Visit) → IsIn visit (round facts).reached → ¬ (visit.bracket.kind ≡ Collapsed)
         → NoTwoMayMeet facts (moved_down visit.bracket) }
@@ -59,7 +59,7 @@ pub fn no_two_left_by_the_penultimate_are_paired(field: &Field)
 
 /// There is no dead end: a round is paired exactly if some list of pairs of present players who may meet leaves out at
 /// most one of them, who may have the bye. So each bracket on the way has a candidate that can be chosen.
-#[tactic(auto, using(dutch_pair::proofs::NoDeadEnd::unpaired_exactly))]
+#[tactic(auto, using(dutch_rounds::proofs::NoDeadEnd::unpaired_exactly))]
 pub fn a_round_is_paired_where_it_can_be()
     ensures paired { (facts : Facts)
         → Completable (seats_meet facts) (seats_may_be_left facts) (everybody facts) ↔

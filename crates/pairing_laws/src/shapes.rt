@@ -1,6 +1,6 @@
 // The law of the shape of a bracket (C.04.3 B.1, C.5): it is that of a greatest matching.
 ghost use Rattle.std.specs.Prelude.{◌≡◌, ℕ, List, None, Some};
-ghost use Rattle.dutch_order.specs.declared.bracket.Shape.{Shape};
+ghost use Rattle.dutch_arrangements.specs.declared.bracket.Shape.{Shape};
 ghost use Rattle.dutch_bracket.specs.Prelude.{Context, IsOf, shape_here};
 ghost use Rattle.pairing_laws.specs.GreatestMatchings.{HasGreatestMatching, IsBracketMatching, IsGreatestMatching, made_shape};
 

@@ -2,8 +2,8 @@
 // the next bracket can be where that is measured, C.7, as the digits of one number. A floor of `dual` bounds it for all
 // candidates with a beginning.
 ghost use Rattle.std.specs.Prelude.{◌≡◌, ℕ, Option, true, ◌+◌, ◌≤◌, is_some, sum_by, nat_lt};
-ghost use Rattle.dutch_order.specs.Prelude.{Arrangement, down, IsIn, numbers_from, NoneTwice, Begins, Beginning};
-ghost use Rattle.dutch_order.specs.declared.bracket.Shape.{Shape};
+ghost use Rattle.dutch_arrangements.specs.Prelude.{Arrangement, down, IsIn, numbers_from, NoneTwice, Begins, Beginning};
+ghost use Rattle.dutch_arrangements.specs.declared.bracket.Shape.{Shape};
 ghost use Rattle.dutch_bracket.specs.Prelude.{Context, fixed_lists, FitsHere, candidates_here, frame_here};
 ghost use Rattle.dutch_bracket.specs.Prelude.{quality_here, IsSmall, JoinsBelow, MayPairBelow, count_below};
 ghost use Rattle.dutch_bracket.specs.Prelude.{players_below, seat_below, Quality, is_better, next_in, IsAbove};

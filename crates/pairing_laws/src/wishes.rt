@@ -2,8 +2,8 @@
 // that grant it and beside the choice.
 ghost use Rattle.std.specs.Prelude.{◌≡◌, ◌⊎◌, ◌↔◌, ℕ, List, Some, false, true};
 ghost use Rattle.std.specs.List.{list_any};
-ghost use Rattle.dutch_order.specs.Prelude.{Arrangement, Frame, down, players_of, pairs_by_number, IsIn};
-ghost use Rattle.dutch_order.specs.declared.bracket.Shape.{Shape};
+ghost use Rattle.dutch_arrangements.specs.Prelude.{Arrangement, Frame, down, players_of, pairs_by_number, IsIn};
+ghost use Rattle.dutch_arrangements.specs.declared.bracket.Shape.{Shape};
 ghost use Rattle.dutch_candidates.specs.declared.wish.Wish.{Wish};
 ghost use Rattle.dutch_candidates.specs.declared.wish.Wish.TheVariants.{LeftOver, Pair};
 ghost use Rattle.dutch_bracket.specs.Prelude.{Context, eligible_here, best_of_shape};

@@ -1,14 +1,14 @@
 // The choice in a bracket, as a caller asks for it who has the bracket alone.
 
 use crate::reports::{PlayerLine, field_of};
-use dutch_order::{Budget, Shape};
-use dutch_pair::{BracketAt, Choice, bracket_at, choose, lower_of};
+use dutch_arrangements::{Budget, Shape};
 use dutch_player::Field;
+use dutch_rounds::{BracketAt, Choice, bracket_at, choose, lower_of};
 use dutch_search::WithFloors;
 use pairing_laws::calls::a_bracket_stands_above_the_lower;
 use std::alloc::Global;
 use std::test::Fail;
-use trf16::Colour;
+use trf16_report::Colour;
 
 // The first won against the third, and the others drew: the first moves down to the second and the fourth.
 const ONE_MOVES_DOWN: [PlayerLine<'static>; 4] = [

@@ -1,7 +1,7 @@
 // In how many steps completion says yes.
 
-use dutch_order::{Budget, Rule};
-use dutch_pair::{Answer, completes};
+use dutch_arrangements::{Budget, Rule};
+use dutch_rounds::{Answer, completes};
 
 /// A rule that allows every bye and every meeting.
 #[derive(Drop)]
@@ -18,7 +18,7 @@ impl Rule for Free {
         true
     }
 
-    fn may_be_left(&self, _a: u16) -> bool {
+    fn last_ok(&self, _a: u16) -> bool {
         true
     }
 

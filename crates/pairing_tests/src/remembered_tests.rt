@@ -3,14 +3,14 @@ ghost use Rattle.std.specs.Prelude.{◌≡◌, IfOk};
 ghost use Rattle.dutch_bracket.specs.Prelude.{IsOf};
 
 use crate::reports::{PlayerLine, field_of};
-use dutch_order::{Budget, Numbers};
-use dutch_pair::{BracketAt, BracketKind, Reached, are_left, bracket_at, is_next};
+use dutch_arrangements::{Budget, Numbers};
 use dutch_passes::{Look, LookAhead};
 use dutch_player::Field;
+use dutch_rounds::{BracketAt, BracketKind, Reached, are_left, bracket_at, is_next};
 use dutch_search::WithFloors;
 use std::alloc::Global;
 use std::test::Fail;
-use trf16::Colour;
+use trf16_report::Colour;
 
 // Eight with a full-point bye, by rank, above four who drew.
 const TWELVE: [PlayerLine<'static>; 12] = [

@@ -3,7 +3,7 @@
 use dutch_player::Field;
 use std::alloc::{AllocError, Global};
 use std::test::Fail;
-use trf16::Colour;
+use trf16_report::Colour;
 
 // What stands in front of column 9 of a player's line, and what stands from column 92 on.
 pub(crate) type PlayerLine<'a> = (&'a str, &'a str);

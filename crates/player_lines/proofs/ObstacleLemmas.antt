@@ -1,6 +1,6 @@
 -- The first of the rounds that passes a test, round by round.
 use Rattle.std.proofs.Common.{◌≡◌, ◌∙◌, ℕ, suc, Bool, true, false, ◌+◌, ◌-◌, ◌≤◌, ◌<◌, ◌∷◌, Some, None, refl, ap, arith, find}
-use Rattle.dutch_order.specs.Prelude.{numbers_from}
+use Rattle.dutch_arrangements.specs.Prelude.{numbers_from}
 
 one_more : (i n : ℕ) → i < n → numbers_from (i + 1) (n - i) ≡ (i + 1) ∷ numbers_from (i + 1 + 1) (n - (i + 1))
 one_more i n lt =

@@ -3,9 +3,9 @@ use Rattle.std.specs.Prelude.{ℕ, Bool, true, false, ◌==◌, if◌then◌else
 use Rattle.std.specs.Fmt.{decimal}
 use Rattle.std.specs.List.{find}
 use Rattle.std.specs.Option.{option_map_or}
-use Rattle.dutch_order.specs.Prelude.{numbers_from}
+use Rattle.dutch_arrangements.specs.Prelude.{numbers_from}
 use Rattle.dutch_player.specs.Prelude.{Facts, seat_at, opponent_played, colours_allow}
-use Rattle.trf16.specs.Prelude.{apart, Sheet, cell_in, rounds_played}
+use Rattle.trf16_report.specs.Prelude.{apart, Sheet, cell_in, rounds_played}
 use Rattle.round_lines.specs.Tellings.{TellingFacts, in_wording, player_words}
 use Rattle.player_lines.specs.declared.obstacle.Obstacle.{Obstacle}
 use Rattle.player_lines.specs.declared.obstacle.Obstacle.TheVariants.{Absent, Met, Apart, Colours, HadBye, Even}

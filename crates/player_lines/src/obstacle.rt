@@ -13,7 +13,7 @@ use round_lines::pieces::put;
 use round_lines::telling::Telling;
 use std::alloc::AllocError;
 use std::fmt;
-use trf16::Report;
+use trf16_report::Report;
 
 /// Why a player does not meet another one in the next round, or does not have the bye, whatever is chosen in a bracket.
 #[derive(Clone, Copy)]

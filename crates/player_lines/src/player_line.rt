@@ -3,7 +3,7 @@ ghost use Rattle.std.specs.Prelude.{◌≡◌, ◌++◌, IfOk, OnOk, codes};
 ghost use Rattle.std.specs.List.{flat_map};
 ghost use Rattle.std.specs.Fmt.{decimal};
 ghost use Rattle.dutch_player.specs.Prelude.{seat_at};
-ghost use Rattle.trf16.specs.Prelude.{rounds_played};
+ghost use Rattle.trf16_report.specs.Prelude.{rounds_played};
 ghost use Rattle.player_lines.specs.PlayerTexts.{absent_text, ascending, colour_text, colours_text, difference_text};
 ghost use Rattle.player_lines.specs.PlayerTexts.{float_text, floats_text, game_text, games_text, history_text};
 ghost use Rattle.player_lines.specs.PlayerTexts.{met_text, placed, player_line, player_text, preference_text};
@@ -16,7 +16,7 @@ use requests::Wording;
 use round_lines::page::Page;
 use round_lines::telling::{Telling, put_one};
 use std::alloc::{AllocError, Global};
-use trf16::{Colour, Report};
+use trf16_report::{Colour, Report};
 
 /// Puts what a present player of a report brings to the next round: their score, the colours of their games round by
 /// round, what these come to (A.6), their floats in the last round and in the one before it (A.4), whom they have met

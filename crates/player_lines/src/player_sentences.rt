@@ -1,7 +1,7 @@
 // What a player brings to the next round, in five sentences.
 ghost use Rattle.std.specs.Prelude.{◌≡◌, ◌++◌, OnOk, codes};
 ghost use Rattle.dutch_player.specs.Prelude.{seat_at};
-ghost use Rattle.trf16.specs.Prelude.{rounds_played};
+ghost use Rattle.trf16_report.specs.Prelude.{rounds_played};
 ghost use Rattle.player_lines.specs.PlayerTexts.{colours_words, floats_words, game_behind};
 ghost use Rattle.player_lines.specs.PlayerTexts.{game_words, games_words, met_words, player_sentences, preference_words};
 ghost use Rattle.player_lines.specs.PlayerTexts.{rights_words, score_words, wish_words};
@@ -13,7 +13,7 @@ use round_lines::pieces::Piece::{Player, Players, Points, Text};
 use round_lines::pieces::put;
 use round_lines::telling::Telling;
 use std::alloc::AllocError;
-use trf16::{Colour, Report};
+use trf16_report::{Colour, Report};
 
 /// Puts the sentences of a player.
 #[tactic(auto, unfolding(crate::specs::PlayerTexts::player_sentences))]

@@ -1,7 +1,7 @@
 -- What calls made of a source, and a device that was left alone.
 use Rattle.std.specs.Prelude.{◌≡◌, ℕ, List, Option}
 use Rattle.std.specs.Io.KnownBytes.{Keeps}
-use Rattle.trf16.specs.Prelude.{Use, use_of, HasNotFailed}
+use Rattle.trf16_report.specs.Prelude.{Use, use_of, HasNotFailed}
 
 -- a source before and after, and how many calls of it were made
 pub record Reading : Type 0 where

@@ -1,9 +1,9 @@
 -- The games of a player in the standings, round by round.
 use Rattle.std.specs.Prelude.{ℕ, zero, suc, ◌+◌, if◌then◌else◌, List, [], ◌∷◌, ◌++◌, Some, codes}
 use Rattle.std.specs.Fmt.{decimal}
-use Rattle.trf16.specs.declared.cell.Cell.{Cell}
-use Rattle.trf16.specs.declared.cell.Cell.TheVariants.{Blank, Bye, Game, Forfeit, Unfinished}
-use Rattle.trf16.specs.Prelude.{Sheet, cell_in, bye_letter, colour_letter, outcome_letter}
+use Rattle.trf16_report.specs.declared.cell.Cell.{Cell}
+use Rattle.trf16_report.specs.declared.cell.Cell.TheVariants.{Blank, Bye, Game, Forfeit, Unfinished}
+use Rattle.trf16_report.specs.Prelude.{Sheet, cell_in, bye_letter, colour_letter, outcome_letter}
 use Rattle.replies.specs.Tables.{LabelFacts, right}
 
 -- a cell, with the letters that it has in the report: opponent, colour and result, the letter of a bye, or a dash where it is blank [with

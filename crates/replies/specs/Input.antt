@@ -1,10 +1,10 @@
 -- The input of a run: the bytes that the source gives, read no further than tells that they are too many.
 use Rattle.std.specs.Prelude.{◌<◌, ◌≤◌, ◌+◌, ℕ, List, Result, Ok, Err, length}
 use Rattle.std.specs.Io.KnownBytes.{Consumes, IsAtEnd}
-use Rattle.trf16.specs.Prelude.{Use, HasNotFailed, HasFailed}
+use Rattle.trf16_report.specs.Prelude.{Use, HasNotFailed, HasFailed}
 use Rattle.replies.specs.declared.input.InputFault.{InputFault}
 use Rattle.replies.specs.declared.input.InputFault.TheVariants.{Read, Memory}
-use Rattle.trf16.specs.declared.limits.TheConstants.{MOST_BYTES}
+use Rattle.trf16_report.specs.declared.limits.TheConstants.{MOST_BYTES}
 
 -- how many bytes are read at most: one more than a report may have [with ReadsInput]
 abbrev pub most_read : ℕ

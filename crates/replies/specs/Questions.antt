@@ -1,6 +1,6 @@
 -- What is wrong with the players whom a question names.
 use Rattle.std.specs.Prelude.{ℕ, not, ◌==◌, if◌then◌else◌, Option, Some, None}
-use Rattle.trf16.specs.Prelude.{Sheet, known}
+use Rattle.trf16_report.specs.Prelude.{Sheet, known}
 use Rattle.requests.specs.declared.options.Question.{Question}
 use Rattle.replies.specs.declared.question.QuestionFault.{QuestionFault}
 use Rattle.replies.specs.declared.question.QuestionFault.TheVariants.{NotKnown, NamedTwice}

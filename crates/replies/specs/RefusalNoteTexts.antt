@@ -2,11 +2,11 @@
 use Rattle.std.specs.Prelude.{ℕ, nat_le, if◌then◌else◌, List, [], ◌++◌, codes, Option, Some, None, option_and_then, Result, Ok, Err}
 use Rattle.std.specs.Option.{option_map_or}
 use Rattle.std.specs.Fmt.{decimal}
-use Rattle.trf16.specs.Prelude.{Sheet, unfinished, verdict_unsummed}
-use Rattle.trf16.specs.declared.fault.Excess.TheVariants.{Players, Rounds}
-use Rattle.trf16.specs.declared.fault.Fault.{Fault}
-use Rattle.trf16.specs.declared.fault.Fault.TheVariants.{BadExtension, TooMany, NoPlayers, NoSuchOpponent, NotMutual, Points}
-use Rattle.trf16.specs.declared.limits.TheConstants.{MOST_ROUNDS}
+use Rattle.trf16_report.specs.Prelude.{Sheet, unfinished, verdict_unsummed}
+use Rattle.trf16_report.specs.declared.fault.Excess.TheVariants.{Players, Rounds}
+use Rattle.trf16_report.specs.declared.fault.Fault.{Fault}
+use Rattle.trf16_report.specs.declared.fault.Fault.TheVariants.{BadExtension, TooMany, NoPlayers, NoSuchOpponent, NotMutual, Points}
+use Rattle.trf16_report.specs.declared.limits.TheConstants.{MOST_ROUNDS}
 use Rattle.report_notes.specs.RefusalNotes.{byte_order, cell_held, columns_of, extension_at, first_kind_note, fits_in_bytes, held, line_of}
 use Rattle.report_notes.specs.RefusalNotes.{opponent_held, sums_among}
 use Rattle.report_notes.specs.declared.encoding.ByteOrder.{ByteOrder}

@@ -5,10 +5,10 @@ use Rattle.dutch_player.specs.declared.fault.FieldFault.{FieldFault}
 use Rattle.dutch_player.specs.declared.fault.FieldFault.TheVariants.{Unfinished, Unsupported, RoundsUnknown, RoundsOver, OutOfMemory as FieldMemory}
 use Rattle.tables.specs.declared.fault.TieFault.{TieFault}
 use Rattle.tables.specs.declared.fault.TieFault.TheVariants.{Unfinished as TieUnfinished, Unsupported as TieUnsupported, OutOfMemory as TieMemory}
-use Rattle.trf16.specs.declared.fault.Excess.{Excess}
-use Rattle.trf16.specs.declared.fault.Excess.TheVariants.{Bytes, Players, Rounds}
-use Rattle.trf16.specs.declared.fault.Fault.{Fault}
-use Rattle.trf16.specs.declared.fault.Fault.TheVariants.{BadNumber, Duplicate, Misaligned, BadCell, BadExtension, TooMany, NoPlayers, NoSuchOpponent, SelfOpponent, NotMutual, Colours, Results, Points, OutOfMemory}
+use Rattle.trf16_report.specs.declared.fault.Excess.{Excess}
+use Rattle.trf16_report.specs.declared.fault.Excess.TheVariants.{Bytes, Players, Rounds}
+use Rattle.trf16_report.specs.declared.fault.Fault.{Fault}
+use Rattle.trf16_report.specs.declared.fault.Fault.TheVariants.{BadNumber, Duplicate, Misaligned, BadCell, BadExtension, TooMany, NoPlayers, NoSuchOpponent, SelfOpponent, NotMutual, Colours, Results, Points, OutOfMemory}
 
 -- memory was refused
 abbrev pub memory_text : List ℕ

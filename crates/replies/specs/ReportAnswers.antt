@@ -2,8 +2,8 @@
 use Rattle.std.specs.Prelude.{ℕ, Bool, true, false, List, ◌++◌, length, Result, Ok, Err}
 use Rattle.std.specs.Option.{option_map_or}
 use Rattle.report_notes.specs.Notes.{notes_of}
-use Rattle.trf16.specs.Prelude.{Sheet, first_unread, renumbered, rounds_played, summed, verdict_unsummed, verdict, written}
-use Rattle.trf16.specs.declared.fault.Fault.{Fault}
+use Rattle.trf16_report.specs.Prelude.{Sheet, first_unread, renumbered, rounds_played, summed, verdict_unsummed, verdict, written}
+use Rattle.trf16_report.specs.declared.fault.Fault.{Fault}
 use Rattle.replies.specs.NoteTexts.{notes_text}
 use Rattle.replies.specs.RefusalNoteTexts.{with_note, refusal_note}
 use Rattle.replies.specs.Statuses.{Answer, done, refusal, unread_refusal}

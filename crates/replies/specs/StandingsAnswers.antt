@@ -3,7 +3,7 @@ use Rattle.std.specs.Prelude.{ℕ, Bool, true, false, if◌then◌else◌, List,
 use Rattle.tables.specs.Prelude.{RowFacts, standings_of}
 use Rattle.tables.specs.declared.fault.TieFault.{TieFault}
 use Rattle.tables.specs.declared.key.Key.{Key}
-use Rattle.trf16.specs.Prelude.{Sheet, rounds_played}
+use Rattle.trf16_report.specs.Prelude.{Sheet, rounds_played}
 use Rattle.replies.specs.StandingsTexts.{rows_text}
 use Rattle.replies.specs.Statuses.{Answer, done, tie_refusal}
 use Rattle.replies.specs.Views.{unseen_answer}

@@ -4,7 +4,7 @@ use Rattle.std.specs.Fmt.{decimal}
 use Rattle.tables.specs.Prelude.{RowFacts}
 use Rattle.tables.specs.declared.key.Key.{Key}
 use Rattle.tables.specs.declared.key.Key.TheVariants.{Direct, Buchholz, SonnebornBerger}
-use Rattle.trf16.specs.Prelude.{Sheet}
+use Rattle.trf16_report.specs.Prelude.{Sheet}
 use Rattle.replies.specs.GameTexts.{games_text}
 use Rattle.common_texts.specs.Texts.{halves_text}
 

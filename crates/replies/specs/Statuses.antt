@@ -4,8 +4,8 @@ use Rattle.dutch_player.specs.declared.fault.FieldFault.{FieldFault}
 use Rattle.dutch_player.specs.declared.fault.FieldFault.TheVariants.{OutOfMemory as FieldMemory}
 use Rattle.tables.specs.declared.fault.TieFault.{TieFault}
 use Rattle.tables.specs.declared.fault.TieFault.TheVariants.{OutOfMemory as TieMemory}
-use Rattle.trf16.specs.declared.fault.Fault.{Fault}
-use Rattle.trf16.specs.declared.fault.Fault.TheVariants.{OutOfMemory}
+use Rattle.trf16_report.specs.declared.fault.Fault.{Fault}
+use Rattle.trf16_report.specs.declared.fault.Fault.TheVariants.{OutOfMemory}
 use Rattle.replies.specs.RefusalTexts.{fault_text, field_text, memory_text, tie_text, unread_text}
 use Rattle.replies.specs.Texts.{not_of_bracket_text, not_reached_text, question_text, read_text, round_not_reached_text}
 use Rattle.common_texts.specs.Texts.{undecided_text}

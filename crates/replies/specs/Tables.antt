@@ -2,7 +2,7 @@
 use Rattle.std.specs.Prelude.{ℕ, zero, suc, ◌+◌, ◌-◌, Bool, max, List, [], ◌∷◌, ◌++◌, length, slice_index_or, slice_get, codes}
 use Rattle.std.specs.List.{flat_map}
 use Rattle.std.specs.Option.{option_map_or}
-use Rattle.trf16.specs.Prelude.{columns, blanks, left_in}
+use Rattle.trf16_report.specs.Prelude.{columns, blanks, left_in}
 use Rattle.replies.specs.declared.table.Alignment.{Alignment}
 use Rattle.replies.specs.declared.table.Alignment.TheVariants.{Left, Right}
 

@@ -1,8 +1,8 @@
 -- The report that a command answers on: the one that was read, or that one as it stood before a round.
 use Rattle.std.specs.Prelude.{ℕ, Option, Some, None, Result, Ok, Err}
 use Rattle.std.specs.Option.{ok_or}
-use Rattle.trf16.specs.Prelude.{Sheet, before_round}
-use Rattle.trf16.specs.declared.fault.Fault.{Fault}
+use Rattle.trf16_report.specs.Prelude.{Sheet, before_round}
+use Rattle.trf16_report.specs.declared.fault.Fault.{Fault}
 use Rattle.replies.specs.Statuses.{Answer, refusal, round_not_reached}
 use Rattle.replies.specs.declared.views.Unseen.{Unseen}
 use Rattle.replies.specs.declared.views.Unseen.TheVariants.{Refused, NotReached}

@@ -3,9 +3,9 @@ use Rattle.std.specs.Prelude.{ℕ, ◌+◌, ◌-◌, true, ◌==◌, if◌then�
 use Rattle.std.specs.Fmt.{decimal}
 use Rattle.tables.specs.Prelude.{RowFacts}
 use Rattle.tables.specs.declared.key.Key.{Key}
-use Rattle.trf16.specs.declared.cell.Cell.{Cell}
-use Rattle.trf16.specs.declared.cell.Cell.TheVariants.{Game, Forfeit}
-use Rattle.trf16.specs.Prelude.{cell_in, name_in, outcome_letter, Sheet, points_upto, rounds_played}
+use Rattle.trf16_report.specs.declared.cell.Cell.{Cell}
+use Rattle.trf16_report.specs.declared.cell.Cell.TheVariants.{Game, Forfeit}
+use Rattle.trf16_report.specs.Prelude.{cell_in, name_in, outcome_letter, Sheet, points_upto, rounds_played}
 use Rattle.replies.specs.GameTexts.{games_labels}
 use Rattle.replies.specs.StandingsTexts.{value_text}
 use Rattle.replies.specs.Tables.{LabelFacts, left, right, table_text}

@@ -1,7 +1,7 @@
 -- How an answer is written: to standard output or to standard error, and a note beside it.
 use Rattle.std.specs.Prelude.{◌≡◌, ◌⊎◌, ℕ, Bool, true, false, List, [], ◌∷◌, Option}
 use Rattle.replies.specs.Devices.{IsKept}
-use Rattle.trf16.specs.Prelude.{Use, HasText, HasPart}
+use Rattle.trf16_report.specs.Prelude.{Use, HasText, HasPart}
 use Rattle.replies.specs.Statuses.{Answer, is_output}
 use Rattle.replies.specs.Texts.{write_text}
 use Rattle.replies.specs.declared.reply.Status.{Status}

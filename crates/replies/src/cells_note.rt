@@ -1,12 +1,12 @@
 // The cells of two players of whom only the first names the other.
 ghost use Rattle.std.specs.Prelude.{◌≡◌, ◌≤◌, IfOk, string_bytes};
-ghost use Rattle.trf16.specs.declared.limits.TheConstants.{MOST_ROUNDS};
+ghost use Rattle.trf16_report.specs.declared.limits.TheConstants.{MOST_ROUNDS};
 ghost use Rattle.replies.specs.RefusalNoteTexts.{cells_note, cells_text, front_of_answer, front_of_cell};
 
 use common_texts::put_without_controls;
 use report_notes::{cell_held, opponent_held};
 use std::alloc::{AllocError, Global};
-use trf16::MOST_ROUNDS;
+use trf16_report::MOST_ROUNDS;
 
 /// What a player's line holds of a round, and that of the opponent whom it names; nothing if there can be no such
 /// round.

@@ -1,6 +1,6 @@
 // The command `check`: whether a report is accepted, how many players and rounds it has, and what looks like a mistake.
 ghost use Rattle.std.specs.Prelude.{◌≡◌, ℕ, ◌≤◌, ◌++◌, IfOk, Ok, string_bytes};
-ghost use Rattle.trf16.specs.Prelude.{verdict};
+ghost use Rattle.trf16_report.specs.Prelude.{verdict};
 ghost use Rattle.report_notes.specs.Notes.{notes_of};
 ghost use Rattle.replies.specs.ReportAnswers.{check_answer};
 ghost use Rattle.replies.specs.NoteTexts.{notes_text};
@@ -13,7 +13,7 @@ use crate::refusal_notes::refused_with_note;
 use crate::reply::{Reply, Status};
 use requests::CheckOptions;
 use std::alloc::{AllocError, Global};
-use trf16::{Fault, Report};
+use trf16_report::{Fault, Report};
 
 /// What `check` says of the bytes of a report in which the pairing-allocated bye gives `bye` half points.
 pub fn check(

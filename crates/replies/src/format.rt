@@ -1,6 +1,6 @@
 // The command `format`: a report in canonical columns.
 ghost use Rattle.std.specs.Prelude.{◌≡◌, ◌≤◌, IfOk, false, true};
-ghost use Rattle.trf16.specs.Prelude.{summed, verdict_unsummed, verdict, written};
+ghost use Rattle.trf16_report.specs.Prelude.{summed, verdict_unsummed, verdict, written};
 ghost use Rattle.replies.specs.Views.{seen_before};
 ghost use Rattle.replies.specs.ReportAnswers.{format_answer, format_verdict, written_answer};
 ghost use Rattle.replies.specs.Replies.{answer_of};
@@ -11,7 +11,7 @@ use crate::reply::{Reply, Status};
 use crate::views::{not_seen, read_before, read_unsummed_before};
 use requests::FormatOptions;
 use std::alloc::{AllocError, Global};
-use trf16::{Counted, Failed, Report};
+use trf16_report::{Counted, Failed, Report};
 use trf16_writer::{first_unread, renumbered_text, summed, write};
 
 /// What `format` says of the bytes of a report in which the pairing-allocated bye gives `bye` half points.

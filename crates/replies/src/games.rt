@@ -1,6 +1,6 @@
 // The games of a player in the standings, round by round.
 ghost use Rattle.std.specs.Prelude.{◌≡◌, ◌++◌, ◌∷◌, [], OnOk, Some, string_bytes};
-ghost use Rattle.trf16.specs.Prelude.{bye_letter, colour_letter, outcome_letter};
+ghost use Rattle.trf16_report.specs.Prelude.{bye_letter, colour_letter, outcome_letter};
 ghost use Rattle.replies.specs.GameTexts.{game_text, games_labels, games_text};
 ghost use Rattle.replies.specs.StandingsAnswers.{rounds_shown};
 
@@ -8,7 +8,7 @@ use crate::table::TableLine;
 use requests::StandingsOptions;
 use std::alloc::AllocError;
 use std::fmt;
-use trf16::{Bye, Cell, Colour, GameOutcome, Report};
+use trf16_report::{Bye, Cell, Colour, GameOutcome, Report};
 
 // What one round holds for a player, shown as opponent, colour and result, with the letters of the report.
 #[derive(Drop)]

@@ -1,10 +1,10 @@
 // The input of a run: all bytes of a source, or one byte more than a report may have, in a counted number of calls.
 ghost use Rattle.std.specs.Prelude.{◌≤◌, ◌+◌};
-ghost use Rattle.trf16.specs.Prelude.{use_of};
+ghost use Rattle.trf16_report.specs.Prelude.{use_of};
 ghost use Rattle.replies.specs.Input.{ReadsInput, most_read};
 
 use std::alloc::Global;
-use trf16::{MOST_BYTES, Source};
+use trf16_report::{MOST_BYTES, Source};
 
 /// How many bytes are read at most: one more than a report may have, so that one that is too long
 /// is known as such, and an endless source comes to an end.

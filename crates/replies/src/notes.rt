@@ -9,7 +9,7 @@ use common_texts::put_without_controls;
 use report_notes::{Note, Place, RoundNote, next_note};
 use std::alloc::{AllocError, Global};
 use std::fmt;
-use trf16::Report;
+use trf16_report::Report;
 
 /// Puts a line for each note of a report that stands in some bytes.
 pub fn put_notes(

@@ -3,7 +3,7 @@ ghost use Rattle.std.specs.Prelude.{◌≡◌};
 ghost use Rattle.replies.specs.Questions.{instead_fault, question_fault};
 
 use requests::Question;
-use trf16::Report;
+use trf16_report::Report;
 
 /// What is wrong with the players whom a question names.
 #[derive(Clone, Copy)]

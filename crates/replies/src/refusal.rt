@@ -12,7 +12,7 @@ use crate::{refusal_texts, texts};
 use dutch_player::FieldFault;
 use std::alloc::{AllocError, Global};
 use tables::TieFault;
-use trf16::Fault;
+use trf16_report::Fault;
 
 /// Why a report is refused, unless memory was.
 pub fn refused(alloc: Global, fault: Fault) -> Result<Reply, AllocError>

@@ -1,7 +1,7 @@
 // The lines of `check --notes` beside a refusal: what was found.
 ghost use Rattle.std.specs.Prelude.{◌≡◌, ◌≢◌, ◌≤◌, ◌++◌, [], IfOk, Err, Ok, codes, string_bytes};
 ghost use Rattle.std.specs.Option.{option_map_or};
-ghost use Rattle.trf16.specs.Prelude.{verdict_unsummed};
+ghost use Rattle.trf16_report.specs.Prelude.{verdict_unsummed};
 ghost use Rattle.report_notes.specs.RefusalNotes.{are_lines_read, fits_in_bytes};
 ghost use Rattle.replies.specs.RefusalNoteTexts.{columns_text, held_text, line_in_bytes, line_note};
 ghost use Rattle.replies.specs.RefusalNoteTexts.{found, kind_or, order_text, points_note, refusal_note, sums_text};
@@ -21,7 +21,7 @@ use report_notes::{
     has_characters, held, line_in, line_of, sums_of,
 };
 use std::alloc::{AllocError, Global};
-use trf16::{Excess, Fault, Report};
+use trf16_report::{Excess, Fault, Report};
 
 /// Why a report that stands in some bytes is refused, and as a note what was found.
 pub fn refused_with_note(

@@ -5,7 +5,7 @@ ghost use Rattle.replies.specs.RefusalTexts.{fault_text, field_text, line_text, 
 use dutch_player::FieldFault;
 use std::alloc::{AllocError, Global};
 use tables::TieFault;
-use trf16::{Excess, Fault};
+use trf16_report::{Excess, Fault};
 
 /// Why a report is refused.
 ///

@@ -1,13 +1,13 @@
 // The reply of a run: a status and a text, which is written to standard output or to standard error; beside a refusal
 // perhaps a note.
 ghost use Rattle.std.specs.Prelude.{◌≡◌, ◌⊎◌, IfOk, string_bytes};
-ghost use Rattle.trf16.specs.Prelude.{use_of};
+ghost use Rattle.trf16_report.specs.Prelude.{use_of};
 ghost use Rattle.replies.specs.Statuses.{behind, code_of, is_output, plain};
 ghost use Rattle.replies.specs.Replies.{answer_of, note_of, text_of};
 ghost use Rattle.replies.specs.WrittenAnswers.{HasTextOrPart, IsCut, IsPrinted, IsToldWith, IsWritten};
 
 use std::alloc::{AllocError, Global};
-use trf16::{Sink, put_all};
+use trf16_report::{Sink, put_all};
 
 // What standard error tells where standard output failed.
 const WRITE_FAILED: &[u8] = b"device: write failed\n";

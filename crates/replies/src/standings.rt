@@ -1,6 +1,6 @@
 // The command `standings`: the players by score and by the keys that break ties.
 ghost use Rattle.std.specs.Prelude.{◌≡◌, ◌++◌, ◌≤◌, ◌<◌, IfOk, Ok, OnOk, codes, string_bytes};
-ghost use Rattle.trf16.specs.Prelude.{verdict};
+ghost use Rattle.trf16_report.specs.Prelude.{verdict};
 ghost use Rattle.replies.specs.Replies.{answer_of};
 ghost use Rattle.replies.specs.StandingsAnswers.{rounds_shown, standings_answer, table_answer};
 ghost use Rattle.replies.specs.StandingsTexts.{row_text, rows_text, value_text, values_text};
@@ -16,7 +16,7 @@ use common_texts::HalfPoints;
 use requests::StandingsOptions;
 use std::alloc::{AllocError, Global};
 use tables::{Key, Row, TieFault};
-use trf16::Report;
+use trf16_report::Report;
 
 /// What `standings` says of the bytes of a report in which the pairing-allocated bye gives `bye` half points.
 pub fn standings(

@@ -3,12 +3,12 @@ ghost use Rattle.std.specs.Prelude.{◌≡◌, ◌++◌, ◌∷◌, [], IfOk, On
 ghost use Rattle.replies.specs.Tables.{gap, labels_text, left, padded, right, table_text, widest};
 ghost use Rattle.replies.specs.Tables.{width, width_in, widths};
 ghost use Rattle.common_texts.specs.Texts.{shown};
-ghost use Rattle.trf16.specs.Prelude.{blanks};
+ghost use Rattle.trf16_report.specs.Prelude.{blanks};
 
 use common_texts::shown;
 use std::alloc::{AllocError, Global};
 use std::marker::Model;
-use trf16::column_count;
+use trf16_report::column_count;
 
 /// The side of its column at which a label stands.
 #[derive(Clone, Copy)]

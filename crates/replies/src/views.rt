@@ -1,13 +1,13 @@
 // The report that a command answers on: the one that some bytes are, or that one as it stood before a round.
 ghost use Rattle.std.specs.Prelude.{◌≡◌, ◌≤◌, IfOk, Ok, Some};
-ghost use Rattle.trf16.specs.Prelude.{verdict, verdict_unsummed};
+ghost use Rattle.trf16_report.specs.Prelude.{verdict, verdict_unsummed};
 ghost use Rattle.replies.specs.Replies.{answer_of};
 ghost use Rattle.replies.specs.Views.{seen_before, unseen_answer};
 
 use crate::refusal::{refused, round_not_reached};
 use crate::reply::Reply;
 use std::alloc::{AllocError, Global};
-use trf16::{Fault, Report};
+use trf16_report::{Fault, Report};
 use trf16_writer::before_round;
 
 /// Why there is no report to answer on.

@@ -19,7 +19,7 @@ use common_texts::HalfPoints;
 use requests::StandingsOptions;
 use std::alloc::{AllocError, Global};
 use tables::{Key, Row};
-use trf16::{Cell, GameOutcome, Report};
+use trf16_report::{Cell, GameOutcome, Report};
 
 /// The start ranks of white and of black at a board; black 0 is the bye.
 type Board = (u16, u16);

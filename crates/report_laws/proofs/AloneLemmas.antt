@@ -1,7 +1,7 @@
 -- The text of a line alone, whose columns are bytes.
 use Rattle.std.proofs.Common.{◌≡◌, ℕ, List, [], ◌∷◌, Bool, true, false, ◌&&◌, ◌==◌, if◌then◌else◌, refl, ap, ◌∙◌}
 use Rattle.std.specs.Str.{byte, chars, is_utf8}
-use Rattle.trf16.specs.Prelude.{without_marks}
+use Rattle.trf16_report.specs.Prelude.{without_marks}
 use Rattle.trf16_laws.proofs.WrittenText.{utf8_split}
 use Rattle.report_notes.specs.RefusalNotes.{alone_in_bytes}
 

@@ -5,9 +5,9 @@ use Rattle.std.proofs.lemmas.Cmp.{nat_eq_equiv}
 use Rattle.std.proofs.lemmas.List.Sorted.{All-permutation, list_any-IsPermutation}
 use Rattle.std.proofs.lemmas.Map.Keys.{IsDistinct-IsPermutation}
 use Rattle.std.proofs.lemmas.Map.Views.{list_any-from_Contains}
-use Rattle.trf16.specs.declared.cell.Colour.{Colour}
-use Rattle.trf16.specs.declared.limits.TheConstants.{MOST_ROUNDS}
-use Rattle.trf16.specs.Prelude.{Sheet, known, absent, rounds_played, CanBePaired, named_by, with_round, before_round, verdict, HasOwnStarts}
+use Rattle.trf16_report.specs.declared.cell.Colour.{Colour}
+use Rattle.trf16_report.specs.declared.limits.TheConstants.{MOST_ROUNDS}
+use Rattle.trf16_report.specs.Prelude.{Sheet, known, absent, rounds_played, CanBePaired, named_by, with_round, before_round, verdict, HasOwnStarts}
 use Rattle.trf16_writer.proofs.BoardLemmas.{eq-sym}
 use Rattle.trf16_writer.proofs.StartRanks.{own_starts}
 use Rattle.dutch_player.specs.Prelude.{Facts, facts_of, total_of, start_ranks, IsFieldOf}

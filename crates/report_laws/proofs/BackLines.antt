@@ -12,16 +12,16 @@ use Rattle.std.proofs.lemmas.Bool.{and_parts, and_from, cases_Bool, true≢false
 use Rattle.std.proofs.lemmas.Bool.Decides.{nat_tests}
 use Rattle.std.proofs.lemmas.List.{take-append-drop}
 use Rattle.std.proofs.lemmas.List.Folds.{list_all-append}
-use Rattle.trf16.specs.Prelude.{columns, joined, text, words_of, number_of, is_kind, rounds_in, colour_in, are_start_ranks, Entry, Sheet, with_player, lines, player_at, start_at, is_player, is_too_long, rounds_onto, colour_onto, start_ranks_onto, player_onto, line_onto, lines_onto, carried_line, has_too_many_rounds, line_back}
-use Rattle.trf16.specs.Outcomes.{◌>>=◌}
-use Rattle.trf16.specs.declared.cell.Colour.{Colour}
-use Rattle.trf16.specs.declared.fault.Fault.{Fault}
-use Rattle.trf16.specs.declared.fault.Fault.TheVariants.{BadExtension, Duplicate}
-use Rattle.trf16.proofs.AnsweringLemmas.{not_of_kind}
-use Rattle.trf16.proofs.BackLemmas.{lower_is, alone, no_other, IsOfOthers, test_back}
-use Rattle.trf16.proofs.ColumnLemmas.{joined-append, joined-columns}
-use Rattle.trf16.proofs.LineSteps.{line_keeps, line_adds}
-use Rattle.trf16.proofs.StepLemmas.{same_ok}
+use Rattle.trf16_report.specs.Prelude.{columns, joined, text, words_of, number_of, is_kind, rounds_in, colour_in, are_start_ranks, Entry, Sheet, with_player, lines, player_at, start_at, is_player, is_too_long, rounds_onto, colour_onto, start_ranks_onto, player_onto, line_onto, lines_onto, carried_line, has_too_many_rounds, line_back}
+use Rattle.trf16_report.specs.Outcomes.{◌>>=◌}
+use Rattle.trf16_report.specs.declared.cell.Colour.{Colour}
+use Rattle.trf16_report.specs.declared.fault.Fault.{Fault}
+use Rattle.trf16_report.specs.declared.fault.Fault.TheVariants.{BadExtension, Duplicate}
+use Rattle.trf16_report.proofs.AnsweringLemmas.{not_of_kind}
+use Rattle.trf16_report.proofs.BackLemmas.{lower_is, alone, no_other, IsOfOthers, test_back}
+use Rattle.trf16_report.proofs.ColumnLemmas.{joined-append, joined-columns}
+use Rattle.trf16_report.proofs.LineSteps.{line_keeps, line_adds}
+use Rattle.trf16_report.proofs.StepLemmas.{same_ok}
 use Rattle.trf16_laws.proofs.WrittenCells.{ascii-digits}
 use Rattle.trf16_writer.proofs.AcceptedReport.{first_onto}
 use Rattle.trf16_laws.proofs.WrittenReport.{onto_from}

@@ -3,10 +3,10 @@ use Rattle.std.proofs.Common.{◌≡◌, ◌⊎◌, inl, inr, ℕ, zero, suc, �
 use Rattle.std.specs.Prelude.{option_map, sum_by}
 use Rattle.std.specs.List.{list_all}
 use Rattle.std.proofs.lemmas.Bool.{eqb-true, eqb-false, eq-eqb, ne_eqb, lt-ltb}
-use Rattle.trf16.specs.Prelude.{without_last, Entry, Sheet, cell_at, half_points, rounds_played, is_blank_cell, with_cell, cell_back, cells_back, entry_back, line_back, taken_back, before_round}
-use Rattle.trf16.specs.declared.cell.Cell.{Cell}
-use Rattle.trf16.specs.declared.cell.Cell.TheVariants.{Blank}
-use Rattle.trf16.proofs.BackLemmas.{line_back-twice}
+use Rattle.trf16_report.specs.Prelude.{without_last, Entry, Sheet, cell_at, half_points, rounds_played, is_blank_cell, with_cell, cell_back, cells_back, entry_back, line_back, taken_back, before_round}
+use Rattle.trf16_report.specs.declared.cell.Cell.{Cell}
+use Rattle.trf16_report.specs.declared.cell.Cell.TheVariants.{Blank}
+use Rattle.trf16_report.proofs.BackLemmas.{line_back-twice}
 use Rattle.trf16_laws.proofs.PairedRound.{with_cell-here, with_cell-there}
 use Rattle.report_laws.proofs.CellLemmas.{AreAlike, all-alike, look_alike, taken-alike, rest_alike}
 use Rattle.report_laws.proofs.FieldLemmas.{points-alike}

@@ -5,8 +5,8 @@ use Rattle.std.specs.List.{cons_option, filter_map, list_any, IsDistinct, AllByR
 use Rattle.std.proofs.lemmas.List.Sorted.{sum_by-IsPermutation}
 use Rattle.std.proofs.lemmas.List.Sums.{sum_by-cons}
 use Rattle.std.proofs.lemmas.Bool.Decides.{nat_tests}
-use Rattle.trf16.specs.Prelude.{Entry, Sheet, known, starts_of, ranked_by}
-use Rattle.trf16.proofs.RankLemmas.{ranked_moves}
+use Rattle.trf16_report.specs.Prelude.{Entry, Sheet, known, starts_of, ranked_by}
+use Rattle.trf16_report.proofs.RankLemmas.{ranked_moves}
 use Rattle.tables.specs.declared.board.RankedBoard.{RankedBoard}
 use Rattle.tables.specs.Prelude.{board_at, boards_of, boards_unordered, board_goes_before}
 

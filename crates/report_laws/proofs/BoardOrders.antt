@@ -3,7 +3,7 @@ use Rattle.std.proofs.Common.{◌≡◌, ◌⊎◌, inl, inr, Bool, true, false,
 use Rattle.std.specs.Cmp.{IsStrictWeakOrder}
 use Rattle.std.specs.List.{AllByRecursion, IsDistinct, cons_option, filter_map}
 use Rattle.std.proofs.lemmas.Bool.{true≢false}
-use Rattle.trf16.specs.Prelude.{placed_by, ranked_by, NoneBefore, IsRankedBy}
+use Rattle.trf16_report.specs.Prelude.{placed_by, ranked_by, NoneBefore, IsRankedBy}
 
 -- one is a member of some
 abbrev pub In : {T : Type 0} → T → List T → Type 0

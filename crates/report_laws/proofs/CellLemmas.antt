@@ -7,9 +7,9 @@ use Rattle.std.proofs.lemmas.Bool.{cases_lt}
 use Rattle.std.proofs.lemmas.List.{append-nil, get_or_past, get_or-take, reverse-append, length-take}
 use Rattle.std.proofs.lemmas.List.Elements.{filter_map-append}
 use Rattle.std.proofs.lemmas.List.Sums.{sum_by-cons}
-use Rattle.trf16.specs.Prelude.{is_paired, last_paired, is_unfinished, first_unfinished}
-use Rattle.trf16.specs.declared.cell.Cell.{Cell}
-use Rattle.trf16.specs.declared.cell.Cell.TheVariants.{Blank, Bye, Game, Forfeit, Unfinished}
+use Rattle.trf16_report.specs.Prelude.{is_paired, last_paired, is_unfinished, first_unfinished}
+use Rattle.trf16_report.specs.declared.cell.Cell.{Cell}
+use Rattle.trf16_report.specs.declared.cell.Cell.TheVariants.{Blank, Bye, Game, Forfeit, Unfinished}
 use Rattle.trf16_laws.proofs.PairedRound.{not_paired}
 
 -- the cell of each round passes the same look

@@ -4,10 +4,10 @@ use Rattle.std.proofs.Common.{◌≡◌, ℕ, zero, suc, ◌+◌, ◌-◌, ◌<�
 use Rattle.std.specs.List.{list_all}
 use Rattle.std.proofs.lemmas.Bool.{and_parts, eqb-true, eqb-false}
 use Rattle.std.proofs.lemmas.List.{get_or_past, get_or-take, length-take}
-use Rattle.trf16.specs.Prelude.{without_last, cell_at, is_paired, is_blank_cell, with_cell, cell_back, cells_back}
-use Rattle.trf16.specs.declared.cell.Cell.{Cell}
-use Rattle.trf16.specs.declared.cell.Cell.TheVariants.{Blank, Bye, Game, Forfeit, Unfinished}
-use Rattle.trf16.specs.declared.cell.Bye.TheVariants.{Half, Full, Allocated, Zero}
+use Rattle.trf16_report.specs.Prelude.{without_last, cell_at, is_paired, is_blank_cell, with_cell, cell_back, cells_back}
+use Rattle.trf16_report.specs.declared.cell.Cell.{Cell}
+use Rattle.trf16_report.specs.declared.cell.Cell.TheVariants.{Blank, Bye, Game, Forfeit, Unfinished}
+use Rattle.trf16_report.specs.declared.cell.Bye.TheVariants.{Half, Full, Allocated, Zero}
 use Rattle.trf16_laws.proofs.PairedRound.{with_cell-here, with_cell-there}
 use Rattle.report_laws.proofs.CellLemmas.{StartAlike, EndsUnpaired}
 

@@ -8,10 +8,10 @@ use Rattle.std.specs.Prelude.{sum_by, option_map}
 use Rattle.std.specs.List.{AllByRecursion, filter}
 use Rattle.std.specs.Option.{ok_or, option_map_or}
 use Rattle.std.proofs.lemmas.List.Elements.{filter_agree}
-use Rattle.trf16.specs.declared.cell.Colour.{Colour}
-use Rattle.trf16.specs.declared.cell.Cell.{Cell}
-use Rattle.trf16.specs.Prelude.{Entry, Sheet, cell_at, cells_of, half_points, points_upto, is_paired, last_paired, last_paired_of, rounds_played, is_unfinished, first_unfinished, unfinished, unfinished_of, absent, apart, apart_from, starts_of}
-use Rattle.trf16.specs.Outcomes.{◌>>=◌}
+use Rattle.trf16_report.specs.declared.cell.Colour.{Colour}
+use Rattle.trf16_report.specs.declared.cell.Cell.{Cell}
+use Rattle.trf16_report.specs.Prelude.{Entry, Sheet, cell_at, cells_of, half_points, points_upto, is_paired, last_paired, last_paired_of, rounds_played, is_unfinished, first_unfinished, unfinished, unfinished_of, absent, apart, apart_from, starts_of}
+use Rattle.trf16_report.specs.Outcomes.{◌>>=◌}
 use Rattle.dutch_player.specs.declared.float.Float.{Float}
 use Rattle.dutch_player.specs.declared.float.Float.TheVariants.{Down}
 use Rattle.dutch_player.specs.declared.fault.FieldFault.{FieldFault}

@@ -5,12 +5,12 @@ use Rattle.std.specs.List.{list_any}
 use Rattle.std.proofs.lemmas.Bool.{cases_Bool}
 use Rattle.std.proofs.lemmas.Bool.Decides.{nat_tests}
 use Rattle.std.proofs.lemmas.List.Elements.{All-head, All-tail}
-use Rattle.trf16.specs.declared.cell.Bye.TheVariants.{Half, Full, Allocated, Zero}
-use Rattle.trf16.specs.declared.cell.Cell.{Cell}
-use Rattle.trf16.specs.declared.cell.Cell.TheVariants.{Blank, Bye, Game, Forfeit, Unfinished}
-use Rattle.trf16.specs.declared.cell.Colour.{Colour}
-use Rattle.trf16.specs.declared.cell.Colour.TheVariants.{White, Black}
-use Rattle.trf16.specs.Prelude.{AnswerEachOther, Entry, HasOwnStarts, IsAnswered, Sheet, cell_at, cell_in, cells_of, is_paired, known, opponent_in_cell, starts_of, verdict}
+use Rattle.trf16_report.specs.declared.cell.Bye.TheVariants.{Half, Full, Allocated, Zero}
+use Rattle.trf16_report.specs.declared.cell.Cell.{Cell}
+use Rattle.trf16_report.specs.declared.cell.Cell.TheVariants.{Blank, Bye, Game, Forfeit, Unfinished}
+use Rattle.trf16_report.specs.declared.cell.Colour.{Colour}
+use Rattle.trf16_report.specs.declared.cell.Colour.TheVariants.{White, Black}
+use Rattle.trf16_report.specs.Prelude.{AnswerEachOther, Entry, HasOwnStarts, IsAnswered, Sheet, cell_at, cell_in, cells_of, is_paired, known, opponent_in_cell, starts_of, verdict}
 use Rattle.trf16_laws.proofs.MeetingLemmas.{answered}
 use Rattle.trf16_writer.proofs.StartRanks.{own_starts}
 use Rattle.report_laws.specs.EachOnOne.{EachOnOne, has, is_bye_of, is_of}

@@ -1,8 +1,8 @@
 -- The new start ranks are a map that tells the players apart.
 use Rattle.std.proofs.Common.{◌≡◌, ℕ, ◌<◌, ◌≤◌, ◌==◌, false, length, arith}
 use Rattle.std.proofs.lemmas.Bool.{ne_eqb}
-use Rattle.trf16.specs.Prelude.{Sheet, new_start}
-use Rattle.trf16.specs.declared.limits.TheConstants.{MOST_PLAYERS}
+use Rattle.trf16_report.specs.Prelude.{Sheet, new_start}
+use Rattle.trf16_report.specs.declared.limits.TheConstants.{MOST_PLAYERS}
 use Rattle.report_laws.proofs.NewStarts.{new_within, new_once, new_none, new_most}
 use Rattle.report_laws.proofs.UnderMap.{IsMap}
 

@@ -11,7 +11,7 @@ use Rattle.std.proofs.lemmas.Bool.{eqb-true, eqb-false, ne_eqb, eq-eqb, or_parts
 use Rattle.std.proofs.lemmas.List.{length-map}
 use Rattle.std.proofs.lemmas.List.Sums.{sum_by-cons, count_by-le-length}
 use Rattle.std.proofs.lemmas.Map.Steps.{length-le_from_distinct_below}
-use Rattle.trf16.specs.Prelude.{Entry, Sheet, known, player_of, starts_of, goes_before, rank_among, new_start}
+use Rattle.trf16_report.specs.Prelude.{Entry, Sheet, known, player_of, starts_of, goes_before, rank_among, new_start}
 use Rattle.report_laws.proofs.OrderLemmas.{goes_further, goes_never, goes_either}
 
 -- ---- counting

@@ -8,14 +8,14 @@ use Rattle.std.specs.Option.{option_map_or}
 use Rattle.std.specs.Str.{is_utf8}
 use Rattle.std.proofs.lemmas.Bool.{cases_lt, cases_Bool, or_parts, true≢false, eq-eqb, ne_eqb}
 use Rattle.std.proofs.lemmas.List.Folds.{list_any-append}
-use Rattle.trf16.specs.Prelude.{columns, lines, without_marks, words_of, Entry, Sheet, cell_at, cell_in, cells_of, game_points, outcome_points, known, rounds_played, is_blank, is_blank_cell, is_kind, is_named_absent, is_paired, is_unfinished, is_player, last_paired, lines_onto, player_at, player_of, without_players, verdict, number_of}
-use Rattle.trf16.proofs.StepLemmas.{same_ok}
+use Rattle.trf16_report.specs.Prelude.{columns, lines, without_marks, words_of, Entry, Sheet, cell_at, cell_in, cells_of, game_points, outcome_points, known, rounds_played, is_blank, is_blank_cell, is_kind, is_named_absent, is_paired, is_unfinished, is_player, last_paired, lines_onto, player_at, player_of, without_players, verdict, number_of}
+use Rattle.trf16_report.proofs.StepLemmas.{same_ok}
 use Rattle.trf16_writer.proofs.AcceptedReport.{accepted, first_onto}
 use Rattle.std.proofs.lemmas.List.{append_assoc, append-nil}
-use Rattle.trf16.proofs.LineSteps.{line_keeps, line_adds}
+use Rattle.trf16_report.proofs.LineSteps.{line_keeps, line_adds}
 use Rattle.trf16_laws.proofs.WrittenPlayers.{player_is}
-use Rattle.trf16.specs.declared.cell.Cell.{Cell}
-use Rattle.trf16.specs.declared.cell.Cell.TheVariants.{Blank, Bye, Game, Forfeit, Unfinished}
+use Rattle.trf16_report.specs.declared.cell.Cell.{Cell}
+use Rattle.trf16_report.specs.declared.cell.Cell.TheVariants.{Blank, Bye, Game, Forfeit, Unfinished}
 use Rattle.report_notes.specs.Games.{start_in, played_last}
 use Rattle.report_notes.specs.Noted.{Noted, NoPlayer, PlayedLast, UnknownKind, BlankBefore, OnePlayer, ManyRounds, BeforeName, LongName, EarlyPoints, InRound, BehindColumn, NoGame, Byes, RoundsUnknown}
 use Rattle.report_notes.specs.Notes.{absent_notes, begins_blank, carried_notes, extension_notes, goes_on_behind, has_many_rounds, is_known, kind_in, last_column, line_notes, name_notes, name_runs_on, names_one, note_if, notes_from, notes_of, number_notes, player_notes, points_come_early, rating_notes, rounds_notes, stands_before_name, strangers}

@@ -13,14 +13,14 @@ use Rattle.std.proofs.lemmas.Bool.{and_parts, or_cases, lt-ltb, true≢false, fa
 use Rattle.std.proofs.lemmas.Bool.Decides.{nat_tests}
 use Rattle.std.proofs.lemmas.List.{append-nil}
 use Rattle.std.proofs.lemmas.Slice.Eq.{bytes_eq-Decides}
-use Rattle.trf16.specs.Prelude.{columns, joined, text, words, words_of, number_of, is_kind, is_word, are_start_ranks, Sheet, lines, is_player, start_ranks_onto, line_onto, names_start_ranks, number_behind, renumbered_word, renumbered_line}
-use Rattle.trf16.specs.declared.fault.Fault.{Fault}
-use Rattle.trf16.specs.declared.fault.Fault.TheVariants.{BadExtension}
-use Rattle.trf16.proofs.AnsweringLemmas.{not_of_kind}
-use Rattle.trf16.proofs.FieldLemmas.{words-blank}
-use Rattle.trf16.proofs.StepLemmas.{same_ok}
+use Rattle.trf16_report.specs.Prelude.{columns, joined, text, words, words_of, number_of, is_kind, is_word, are_start_ranks, Sheet, lines, is_player, start_ranks_onto, line_onto, names_start_ranks, number_behind, renumbered_word, renumbered_line}
+use Rattle.trf16_report.specs.declared.fault.Fault.{Fault}
+use Rattle.trf16_report.specs.declared.fault.Fault.TheVariants.{BadExtension}
+use Rattle.trf16_report.proofs.AnsweringLemmas.{not_of_kind}
+use Rattle.trf16_report.proofs.FieldLemmas.{words-blank}
+use Rattle.trf16_report.proofs.StepLemmas.{same_ok}
 use Rattle.trf16_laws.proofs.WrittenCells.{list_all-append, plain-digits}
-use Rattle.trf16.proofs.WrittenColumns.{is_plain, each, joined-each, columns-ascii, ascii-plain}
+use Rattle.trf16_report.proofs.WrittenColumns.{is_plain, each, joined-each, columns-ascii, ascii-plain}
 use Rattle.trf16_laws.proofs.WrittenFields.{inside-plain}
 use Rattle.trf16_laws.proofs.WrittenNumbers.{words-digits, digits-decimal, length-decimal, number_of-decimal}
 use Rattle.trf16_laws.proofs.WrittenText.{is_inside, has_mark, line-no_mark, utf8_ascii}

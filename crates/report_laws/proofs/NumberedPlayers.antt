@@ -10,17 +10,17 @@ use Rattle.std.proofs.Math.ListN.{get_or-map}
 use Rattle.std.proofs.lemmas.Bool.{and_from, eqb-true, eqb-false, eq-eqb, ne_eqb, lt-ltb, le-leb}
 use Rattle.std.proofs.lemmas.List.{length-map}
 use Rattle.std.proofs.lemmas.List.Sums.{sum_by-cons}
-use Rattle.trf16.specs.Prelude.{columns, without_last, is_kind, Entry, Sheet, known, cell_at, cell_in, cells_of, is_paired, last_paired, last_paired_of, rounds_played, half_points, game_points, opponent_in_cell, colour_in_cell, is_forfeit, are_of_one_class, has_other_points, pair_fits, cell_fits, cells_fit, points_fit, player_fits, players_fit, is_blank_cell, new_start, renumbered_by, renumbered_cell, renumbered_entry, renumbered_line}
-use Rattle.trf16.specs.declared.cell.Bye.TheVariants.{Half, Full, Allocated, Zero}
-use Rattle.trf16.specs.declared.cell.Cell.{Cell}
-use Rattle.trf16.specs.declared.cell.Cell.TheVariants.{Blank, Bye, Game, Forfeit, Unfinished}
-use Rattle.trf16.specs.declared.fault.Fault.{Fault}
-use Rattle.trf16.specs.declared.fault.Fault.TheVariants.{Points}
-use Rattle.trf16.specs.declared.limits.TheConstants.{MOST_PLAYERS}
+use Rattle.trf16_report.specs.Prelude.{columns, without_last, is_kind, Entry, Sheet, known, cell_at, cell_in, cells_of, is_paired, last_paired, last_paired_of, rounds_played, half_points, game_points, opponent_in_cell, colour_in_cell, is_forfeit, are_of_one_class, has_other_points, pair_fits, cell_fits, cells_fit, points_fit, player_fits, players_fit, is_blank_cell, new_start, renumbered_by, renumbered_cell, renumbered_entry, renumbered_line}
+use Rattle.trf16_report.specs.declared.cell.Bye.TheVariants.{Half, Full, Allocated, Zero}
+use Rattle.trf16_report.specs.declared.cell.Cell.{Cell}
+use Rattle.trf16_report.specs.declared.cell.Cell.TheVariants.{Blank, Bye, Game, Forfeit, Unfinished}
+use Rattle.trf16_report.specs.declared.fault.Fault.{Fault}
+use Rattle.trf16_report.specs.declared.fault.Fault.TheVariants.{Points}
+use Rattle.trf16_report.specs.declared.limits.TheConstants.{MOST_PLAYERS}
 use Rattle.trf16_writer.proofs.BoardLemmas.{eq-self}
 use Rattle.trf16_laws.proofs.MeetingLemmas.{PairFits, cell_is}
 use Rattle.trf16_laws.proofs.PairedRound.{fits-none}
-use Rattle.trf16.proofs.StepLemmas.{then_ok}
+use Rattle.trf16_report.proofs.StepLemmas.{then_ok}
 use Rattle.trf16_laws.proofs.WrittenCells.{is_sound}
 use Rattle.trf16_laws.proofs.WrittenFields.{are_small}
 use Rattle.trf16_laws.proofs.WrittenPlayers.{IsSoundEntry}

@@ -10,11 +10,11 @@ use Rattle.std.specs.Str.{is_utf8}
 use Rattle.std.proofs.lemmas.Bool.{and_parts, or_parts, ltb-false}
 use Rattle.std.proofs.lemmas.List.{append-nil, map-append, length-map}
 use Rattle.std.proofs.lemmas.List.Folds.{list_any-append}
-use Rattle.trf16.specs.Prelude.{columns, lines, without_marks, Entry, Sheet, known, player_at, is_player, is_too_long, line_onto, lines_onto, carried_line, without_players, has_too_many_rounds, sized, verdict, player_text, lines_text, written, new_start, renumbered, renumbered_entry, renumbered_line}
-use Rattle.trf16.specs.declared.limits.TheConstants.{MOST_PLAYERS, MOST_BYTES}
+use Rattle.trf16_report.specs.Prelude.{columns, lines, without_marks, Entry, Sheet, known, player_at, is_player, is_too_long, line_onto, lines_onto, carried_line, without_players, has_too_many_rounds, sized, verdict, player_text, lines_text, written, new_start, renumbered, renumbered_entry, renumbered_line}
+use Rattle.trf16_report.specs.declared.limits.TheConstants.{MOST_PLAYERS, MOST_BYTES}
 use Rattle.trf16_writer.proofs.BoardLemmas.{eq-self}
-use Rattle.trf16.proofs.LineSteps.{turned, line_keeps, line_adds}
-use Rattle.trf16.proofs.StepLemmas.{same_ok}
+use Rattle.trf16_report.proofs.LineSteps.{turned, line_keeps, line_adds}
+use Rattle.trf16_report.proofs.StepLemmas.{same_ok}
 use Rattle.trf16_laws.proofs.WrittenFields.{are_small}
 use Rattle.trf16_laws.proofs.WrittenPlayers.{IsSoundEntry, player_is, was_player, written_player}
 use Rattle.trf16_writer.proofs.AcceptedReport.{first_onto, accepted, sized_is, IsLaidOut}

@@ -1,7 +1,7 @@
 -- Who goes before whom by rating, title and start rank is a strict order, in which any two of different start ranks compare.
 use Rattle.std.proofs.Common.{◌≡◌, ◌⊎◌, inl, inr, ℕ, ◌<◌, ◌≤◌, Bool, true, false, ◌==◌, nat_lt, cond, refl, sym, ◌∙◌, arith}
 use Rattle.std.proofs.lemmas.Bool.{eqb-true, ltb-true, lt-ltb, eq-eqb, ne_eqb, cases_lt}
-use Rattle.trf16.specs.Prelude.{Entry, rating_of, higher_titles, goes_before}
+use Rattle.trf16_report.specs.Prelude.{Entry, rating_of, higher_titles, goes_before}
 
 -- rating, place of the title and start rank of one, and of another
 abbrev IsBefore : ℕ → ℕ → ℕ → ℕ → ℕ → ℕ → Type 0

@@ -15,16 +15,16 @@ use Rattle.std.proofs.lemmas.List.Sorted.{All-permutation}
 use Rattle.std.proofs.lemmas.List.Sums.{sum_by-cons}
 use Rattle.std.proofs.lemmas.Map.Keys.{IsDistinct-head, IsDistinct-tail}
 use Rattle.std.proofs.lemmas.Map.Made.{AllPairs-from_IsDistinct}
-use Rattle.trf16.specs.declared.cell.Cell.{Cell}
-use Rattle.trf16.specs.declared.cell.Cell.TheVariants.{Blank}
-use Rattle.trf16.specs.declared.cell.Colour.{Colour}
-use Rattle.trf16.specs.declared.cell.Colour.TheVariants.{White, Black}
-use Rattle.trf16.specs.declared.limits.TheConstants.{MOST_ROUNDS}
-use Rattle.trf16.specs.Outcomes.{◌>>=◌}
-use Rattle.trf16.specs.Prelude.{CanBePaired, Entry, HasOwnStarts, Sheet, absent, cell_by, cells_of, cells_with, entry_with, half_points, named_by, points_upto, rounds_played, starts_of, with_cell, with_round}
+use Rattle.trf16_report.specs.declared.cell.Cell.{Cell}
+use Rattle.trf16_report.specs.declared.cell.Cell.TheVariants.{Blank}
+use Rattle.trf16_report.specs.declared.cell.Colour.{Colour}
+use Rattle.trf16_report.specs.declared.cell.Colour.TheVariants.{White, Black}
+use Rattle.trf16_report.specs.declared.limits.TheConstants.{MOST_ROUNDS}
+use Rattle.trf16_report.specs.Outcomes.{◌>>=◌}
+use Rattle.trf16_report.specs.Prelude.{CanBePaired, Entry, HasOwnStarts, Sheet, absent, cell_by, cells_of, cells_with, entry_with, half_points, named_by, points_upto, rounds_played, starts_of, with_cell, with_round}
 use Rattle.trf16_writer.proofs.BoardLemmas.{eq-self, eq-sym}
 use Rattle.trf16_laws.proofs.PairedRound.{named_black, named_head, named_tail}
-use Rattle.trf16.proofs.RankLemmas.{ranked_moves}
+use Rattle.trf16_report.proofs.RankLemmas.{ranked_moves}
 use Rattle.dutch_player.specs.declared.fault.FieldFault.{FieldFault}
 use Rattle.dutch_player.specs.Prelude.{Facts, SeatFacts, colour_of_higher, colours, initial_of, no_seat, ranked, seat_at, seats_of, start_ranks, total_for, with_colour}
 use Rattle.dutch_player.specs.Facts.{facts_of, seat_of}
@@ -32,13 +32,13 @@ use Rattle.dutch_player.specs.Facts as fields
 use Rattle.dutch_player.proofs.PresentLemmas.{field_of}
 use Rattle.dutch_player.proofs.RankLemmas.{goes_behind, ranked_IsRanked}
 use Rattle.dutch_bracket.specs.Prelude.{IsPair, score_at}
-use Rattle.dutch_pair.specs.Prelude.{AreInOrder, NoneBefore, Pairing, both_scores, boards, bye_of, higher, ordered, round}
-use Rattle.dutch_pair.specs.Boards.{board_of, goes_before as is_before, goes_before_by_sum}
-use Rattle.dutch_pair.proofs.BoardLemmas.{colours_pair, pairs_ordered}
-use Rattle.dutch_pair.proofs.BoardOrder.{boards_in_order}
-use Rattle.dutch_pair.proofs.NamedBoards.{pairs_of_seats}
-use Rattle.dutch_pair.proofs.NextRound.{can_be_next}
-use Rattle.dutch_pair.proofs.WholeRounds.{one_bye}
+use Rattle.dutch_rounds.specs.Prelude.{AreInOrder, NoneBefore, Pairing, both_scores, boards, bye_of, higher, ordered, round}
+use Rattle.dutch_rounds.specs.Boards.{board_of, goes_before as is_before, goes_before_by_sum}
+use Rattle.dutch_rounds.proofs.BoardLemmas.{colours_pair, pairs_ordered}
+use Rattle.dutch_rounds.proofs.BoardOrder.{boards_in_order}
+use Rattle.dutch_rounds.proofs.NamedBoards.{pairs_of_seats}
+use Rattle.dutch_rounds.proofs.NextRound.{can_be_next}
+use Rattle.dutch_rounds.proofs.WholeRounds.{one_bye}
 use Rattle.tables.specs.declared.board.RankedBoard.{RankedBoard}
 use Rattle.tables.specs.Prelude.{boards_of, board_goes_before, ranks_above, score_before}
 use Rattle.tables.specs.Boards.{board_of_bye, board_of_two}

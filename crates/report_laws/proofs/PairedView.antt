@@ -9,13 +9,13 @@ use Rattle.std.specs.Option.{option_map_or}
 use Rattle.std.proofs.lemmas.Bool.{eqb-true, eq-eqb, ne_eqb, lt-ltb, or_left, or_right, false_from_ne_true, true≢false}
 use Rattle.std.proofs.lemmas.List.Elements.{recursion_from_All}
 use Rattle.std.proofs.lemmas.Simd.{map-map}
-use Rattle.trf16.specs.Prelude.{Entry, Sheet, known, cells_of, half_points, is_paired, last_paired, last_paired_of, rounds_played, unfinished, unfinished_of, absent, is_absence, names_both, starts_of, HasOwnStarts, CanBePaired, named_by, cell_by, with_cell, cells_with, entry_with, with_round, cell_back, cells_back, entry_back, taken_back, before_round}
-use Rattle.trf16.specs.declared.cell.Colour.TheVariants.{White, Black}
-use Rattle.trf16.specs.declared.cell.Bye.TheVariants.{Half, Full, Allocated, Zero}
-use Rattle.trf16.specs.declared.cell.Cell.{Cell}
-use Rattle.trf16.specs.declared.cell.Cell.TheVariants.{Blank, Bye, Game, Forfeit, Unfinished}
-use Rattle.trf16.specs.declared.kind.LineKind.TheVariants.{Xxa, Xxs, Rank}
-use Rattle.trf16.proofs.BackLemmas.{HasLinesBack, some_back, nobody_absent, first_of-back, others_both}
+use Rattle.trf16_report.specs.Prelude.{Entry, Sheet, known, cells_of, half_points, is_paired, last_paired, last_paired_of, rounds_played, unfinished, unfinished_of, absent, is_absence, names_both, starts_of, HasOwnStarts, CanBePaired, named_by, cell_by, with_cell, cells_with, entry_with, with_round, cell_back, cells_back, entry_back, taken_back, before_round}
+use Rattle.trf16_report.specs.declared.cell.Colour.TheVariants.{White, Black}
+use Rattle.trf16_report.specs.declared.cell.Bye.TheVariants.{Half, Full, Allocated, Zero}
+use Rattle.trf16_report.specs.declared.cell.Cell.{Cell}
+use Rattle.trf16_report.specs.declared.cell.Cell.TheVariants.{Blank, Bye, Game, Forfeit, Unfinished}
+use Rattle.trf16_report.specs.declared.kind.LineKind.TheVariants.{Xxa, Xxs, Rank}
+use Rattle.trf16_report.proofs.BackLemmas.{HasLinesBack, some_back, nobody_absent, first_of-back, others_both}
 use Rattle.trf16_writer.proofs.BoardLemmas.{eq-self, eq-sym, all_in}
 use Rattle.trf16_laws.proofs.PairedRound.{given, with_cell-here, named_head, named_black, named_tail, cells-there, played_again}
 use Rattle.trf16_writer.proofs.RoundLemmas.{starts-with}

@@ -16,14 +16,14 @@ use Rattle.std.proofs.lemmas.Cmp.{nat_cmp_total, on_total, then_total, back_tota
 use Rattle.std.proofs.lemmas.List.Elements.{recursion_from_All}
 use Rattle.std.proofs.lemmas.List.Sorted.{ranks_by}
 use Rattle.std.proofs.lemmas.Map.Keys.{IsDistinct-IsPermutation, IsDistinct-head, IsDistinct-tail}
-use Rattle.trf16.specs.declared.cell.Bye.TheVariants.{Half, Full, Allocated, Zero}
-use Rattle.trf16.specs.declared.cell.Cell.{Cell}
-use Rattle.trf16.specs.declared.cell.Cell.TheVariants.{Blank, Bye, Game, Forfeit, Unfinished}
-use Rattle.trf16.specs.declared.cell.Colour.TheVariants.{White, Black}
-use Rattle.trf16.specs.Prelude.{CanBePaired, Entry, HasOwnStarts, Sheet, cell_by, cell_in, cell_on, cells_of, colour_in_cell, cells_with, entry_with, is_paired, known, last_paired, last_paired_of, named_by, ranked_by, rounds_played, starts_of, with_round}
+use Rattle.trf16_report.specs.declared.cell.Bye.TheVariants.{Half, Full, Allocated, Zero}
+use Rattle.trf16_report.specs.declared.cell.Cell.{Cell}
+use Rattle.trf16_report.specs.declared.cell.Cell.TheVariants.{Blank, Bye, Game, Forfeit, Unfinished}
+use Rattle.trf16_report.specs.declared.cell.Colour.TheVariants.{White, Black}
+use Rattle.trf16_report.specs.Prelude.{CanBePaired, Entry, HasOwnStarts, Sheet, cell_by, cell_in, cell_on, cells_of, colour_in_cell, cells_with, entry_with, is_paired, known, last_paired, last_paired_of, named_by, ranked_by, rounds_played, starts_of, with_round}
 use Rattle.trf16_writer.proofs.BoardLemmas.{all_in, eq-self, eq-sym}
 use Rattle.trf16_laws.proofs.PairedRound.{cells-here, named_black, named_head, named_tail, not_paired}
-use Rattle.trf16.proofs.RankLemmas.{ranked_moves, ranked_ranks}
+use Rattle.trf16_report.proofs.RankLemmas.{ranked_moves, ranked_ranks}
 use Rattle.trf16_writer.proofs.RoundLemmas.{starts-with}
 use Rattle.tables.specs.declared.board.RankedBoard.{RankedBoard}
 use Rattle.tables.specs.Prelude.{board_at, board_by, boards_of, boards_unordered, colour_by, colour_in, board_goes_before, place_cmp, ranks_above, score_before, seated}

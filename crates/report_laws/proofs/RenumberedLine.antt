@@ -11,10 +11,10 @@ use Rattle.std.specs.Char.{is_ascii_digit, to_ascii_lowercase}
 use Rattle.std.proofs.lemmas.Bool.{and_parts, or_cases}
 use Rattle.std.proofs.lemmas.Bool.Decides.{nat_tests}
 use Rattle.std.proofs.lemmas.Slice.Eq.{bytes_eq-Decides}
-use Rattle.trf16.specs.Prelude.{columns, joined, text, words, number_of, is_word, words_of, names_start_ranks, number_behind, renumbered_word, renumbered_line}
-use Rattle.trf16.proofs.FieldLemmas.{words-blank}
+use Rattle.trf16_report.specs.Prelude.{columns, joined, text, words, number_of, is_word, words_of, names_start_ranks, number_behind, renumbered_word, renumbered_line}
+use Rattle.trf16_report.proofs.FieldLemmas.{words-blank}
 use Rattle.trf16_laws.proofs.WrittenNumbers.{digits-decimal, length-decimal}
-use Rattle.trf16.proofs.WrittenColumns.{is_plain, each, joined-each, starts-ascii, columns-append, columns-ascii, ascii-plain}
+use Rattle.trf16_report.proofs.WrittenColumns.{is_plain, each, joined-each, starts-ascii, columns-append, columns-ascii, ascii-plain}
 use Rattle.trf16_laws.proofs.WrittenCells.{list_all-append, plain-digits}
 
 -- ---- numbers behind blanks

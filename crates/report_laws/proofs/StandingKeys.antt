@@ -3,11 +3,11 @@ use Rattle.std.proofs.Common.{◌≡◌, ℕ, ◌+◌, List, [], ◌∷◌, ◌+
 use Rattle.std.specs.Prelude.{All}
 use Rattle.std.proofs.lemmas.List.Elements.{All-map}
 use Rattle.std.proofs.lemmas.List.Sorted.{All-permutation}
-use Rattle.trf16.specs.Prelude.{Sheet}
+use Rattle.trf16_report.specs.Prelude.{Sheet}
 use Rattle.tables.specs.declared.key.Key.{Key}
 use Rattle.tables.specs.Prelude.{RowFacts, value_of, row_goes_before, ranked, row_of, with_value, with_key, with_keys, judged, standings_of}
 use Rattle.report_laws.specs.Standings.{HasEachKey}
-use Rattle.trf16.proofs.RankLemmas.{ranked_moves}
+use Rattle.trf16_report.proofs.RankLemmas.{ranked_moves}
 use Rattle.report_laws.proofs.StandingRows.{rows-given}
 
 -- each row has so many values

@@ -4,7 +4,7 @@ use Rattle.std.specs.Prelude.{ℕ, nat_lt, ◌&&◌, length, filter, None, Some,
 use Rattle.std.specs.Cmp.{IsEquivalence}
 use Rattle.std.specs.Cmp.Lexicographic.{options_equiv}
 use Rattle.std.proofs.lemmas.Cmp.{nat_eq_equiv, lists_equiv, on_equiv, and_equiv}
-use Rattle.trf16.specs.Prelude.{Sheet}
+use Rattle.trf16_report.specs.Prelude.{Sheet}
 use Rattle.tables.specs.declared.key.Key.TheVariants.{Direct}
 use Rattle.tables.specs.Prelude.{RowFacts, is_level, group_of, have_all_met, points_among, direct_in, value_of}
 

@@ -2,13 +2,13 @@
 use Rattle.std.proofs.Common.{◌≡◌, ℕ, List, [], ◌∷◌, map, Option, Result, Ok, Err, refl, ap, ◌∙◌, subst}
 use Rattle.std.specs.Prelude.{IsPermutation}
 use Rattle.std.proofs.lemmas.List.Sorted.{IsPermutation-map}
-use Rattle.trf16.specs.Prelude.{Entry, Sheet}
+use Rattle.trf16_report.specs.Prelude.{Entry, Sheet}
 use Rattle.tables.specs.declared.key.Key.{Key}
 use Rattle.tables.specs.declared.fault.TieFault.{TieFault}
 use Rattle.tables.specs.Prelude.{RowFacts, value_of, row_goes_before, ranked, row_of, with_value, with_key, with_keys, judged, standings_of}
 use Rattle.report_laws.specs.Standings.{HasEachOnce}
-use Rattle.trf16.proofs.RankLemmas.{ranked_moves}
-use Rattle.trf16.specs.Outcomes.{◌>>=◌}
+use Rattle.trf16_report.proofs.RankLemmas.{ranked_moves}
+use Rattle.trf16_report.specs.Outcomes.{◌>>=◌}
 
 abbrev starts : List RowFacts → List ℕ
 starts rows = map (λ row. row.start) rows

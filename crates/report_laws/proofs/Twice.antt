@@ -12,10 +12,10 @@ use Rattle.std.proofs.lemmas.Bool.Decides.{nat_tests}
 use Rattle.std.proofs.lemmas.List.Sums.{sum_by-cons}
 use Rattle.std.proofs.lemmas.Grind.{flat_map-append}
 use mathlib.Core.Path.{fun_ext}
-use Rattle.trf16.specs.Prelude.{columns, lines, without_marks, has_too_many_rounds, verdict, text, words_of, number_of, is_word, Entry, Sheet, known, starts_of, player_of, rating_of, higher_titles, goes_before, new_start, renumbered, renumbered_by, renumbered_cell, renumbered_entry, renumbered_line, renumbered_word, number_behind, names_start_ranks}
-use Rattle.trf16.specs.declared.cell.Cell.{Cell}
-use Rattle.trf16.specs.declared.cell.Cell.TheVariants.{Blank, Bye, Game, Forfeit, Unfinished}
-use Rattle.trf16.specs.declared.limits.TheConstants.{MOST_PLAYERS}
+use Rattle.trf16_report.specs.Prelude.{columns, lines, without_marks, has_too_many_rounds, verdict, text, words_of, number_of, is_word, Entry, Sheet, known, starts_of, player_of, rating_of, higher_titles, goes_before, new_start, renumbered, renumbered_by, renumbered_cell, renumbered_entry, renumbered_line, renumbered_word, number_behind, names_start_ranks}
+use Rattle.trf16_report.specs.declared.cell.Cell.{Cell}
+use Rattle.trf16_report.specs.declared.cell.Cell.TheVariants.{Blank, Bye, Game, Forfeit, Unfinished}
+use Rattle.trf16_report.specs.declared.limits.TheConstants.{MOST_PLAYERS}
 use Rattle.trf16_laws.proofs.WrittenNumbers.{number_of-decimal}
 use Rattle.trf16_writer.proofs.AcceptedReport.{accepted, sized_is}
 use Rattle.report_laws.proofs.NewStarts.{has_player, player_known, new_lt, new_is, new_none, all_of}

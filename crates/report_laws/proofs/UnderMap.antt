@@ -6,10 +6,10 @@ use Rattle.std.specs.Option.{option_map_or}
 use Rattle.std.proofs.Math.ListN.{get_or-map}
 use Rattle.std.proofs.lemmas.Bool.{eqb-true, eqb-false, eq-eqb, ne_eqb, true≢false}
 use Rattle.std.proofs.lemmas.List.Sums.{sum_by-cons}
-use Rattle.trf16.specs.Prelude.{columns, words_of, number_of, is_word, is_kind, is_named, names_absent, names_both, Entry, Sheet, known, cell_at, cell_in, cells_of, is_paired, last_paired, last_paired_of, rounds_played, half_points, points_upto, some_carried, is_absence, is_named_absent, absent, apart, name_of, name_in, player_of, rating_of, renumbered_by, renumbered_cell, renumbered_entry, renumbered_line, names_start_ranks}
-use Rattle.trf16.specs.declared.cell.Bye.TheVariants.{Half, Full, Allocated, Zero}
-use Rattle.trf16.specs.declared.cell.Cell.{Cell}
-use Rattle.trf16.specs.declared.cell.Cell.TheVariants.{Blank, Bye, Game, Forfeit, Unfinished}
+use Rattle.trf16_report.specs.Prelude.{columns, words_of, number_of, is_word, is_kind, is_named, names_absent, names_both, Entry, Sheet, known, cell_at, cell_in, cells_of, is_paired, last_paired, last_paired_of, rounds_played, half_points, points_upto, some_carried, is_absence, is_named_absent, absent, apart, name_of, name_in, player_of, rating_of, renumbered_by, renumbered_cell, renumbered_entry, renumbered_line, names_start_ranks}
+use Rattle.trf16_report.specs.declared.cell.Bye.TheVariants.{Half, Full, Allocated, Zero}
+use Rattle.trf16_report.specs.declared.cell.Cell.{Cell}
+use Rattle.trf16_report.specs.declared.cell.Cell.TheVariants.{Blank, Bye, Game, Forfeit, Unfinished}
 use Rattle.trf16_laws.proofs.WrittenNumbers.{number_of-decimal}
 use Rattle.report_laws.proofs.NewStarts.{has_player}
 use Rattle.report_laws.proofs.RenumberedLine.{word_for, new_words, kind_same, words_named}

@@ -1,7 +1,7 @@
 -- Which report stood before a round: the report itself, or the report with that round and all later ones taken back.
 use Rattle.std.proofs.Common.{◌≡◌, ◌⊎◌, inl, inr, ℕ, zero, suc, ◌+◌, ◌<◌, Bool, true, false, ◌&&◌, ◌==◌, nat_lt, cond, Some, None, refl, ap, ◌∙◌, arith}
 use Rattle.std.proofs.lemmas.Bool.{and_parts, eqb-true, ltb-true}
-use Rattle.trf16.specs.Prelude.{Sheet, rounds_played, taken_back, before_round}
+use Rattle.trf16_report.specs.Prelude.{Sheet, rounds_played, taken_back, before_round}
 
 -- so many rounds are taken back, and the last that is paired is then the one in front of them
 pub record IsTakenBack (report view : Sheet) (before : ℕ) : Type 0 where

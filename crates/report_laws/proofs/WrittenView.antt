@@ -10,17 +10,17 @@ use Rattle.std.specs.Option.{option_map_or}
 use Rattle.std.specs.Str.{is_utf8}
 use Rattle.std.proofs.lemmas.Bool.{and_parts, and_from, cases_lt, lt-ltb, le-ltb}
 use Rattle.std.proofs.lemmas.List.{get_or_past, length-take}
-use Rattle.trf16.specs.Prelude.{without_marks, lines, Entry, Sheet, known, cell_at, cell_in, cells_of, half_points, is_paired, last_paired, last_paired_of, rounds_played, opponent_in_cell, has_other_points, cell_fits, cells_fit, points_fit, player_fits, players_fit, is_blank_cell, carried_line, without_players, has_too_many_rounds, sized, lines_onto, verdict, written, with_cell, cell_back, cells_back, entry_back, line_back, taken_back, before_round}
-use Rattle.trf16.specs.declared.cell.Bye.TheVariants.{Half, Full, Allocated, Zero}
-use Rattle.trf16.specs.declared.cell.Cell.{Cell}
-use Rattle.trf16.specs.declared.cell.Cell.TheVariants.{Blank, Bye, Game, Forfeit, Unfinished}
-use Rattle.trf16.specs.declared.fault.Fault.{Fault}
-use Rattle.trf16.specs.declared.fault.Fault.TheVariants.{Points}
-use Rattle.trf16.specs.declared.limits.TheConstants.{MOST_ROUNDS, MOST_BYTES}
+use Rattle.trf16_report.specs.Prelude.{without_marks, lines, Entry, Sheet, known, cell_at, cell_in, cells_of, half_points, is_paired, last_paired, last_paired_of, rounds_played, opponent_in_cell, has_other_points, cell_fits, cells_fit, points_fit, player_fits, players_fit, is_blank_cell, carried_line, without_players, has_too_many_rounds, sized, lines_onto, verdict, written, with_cell, cell_back, cells_back, entry_back, line_back, taken_back, before_round}
+use Rattle.trf16_report.specs.declared.cell.Bye.TheVariants.{Half, Full, Allocated, Zero}
+use Rattle.trf16_report.specs.declared.cell.Cell.{Cell}
+use Rattle.trf16_report.specs.declared.cell.Cell.TheVariants.{Blank, Bye, Game, Forfeit, Unfinished}
+use Rattle.trf16_report.specs.declared.fault.Fault.{Fault}
+use Rattle.trf16_report.specs.declared.fault.Fault.TheVariants.{Points}
+use Rattle.trf16_report.specs.declared.limits.TheConstants.{MOST_ROUNDS, MOST_BYTES}
 use Rattle.trf16_writer.proofs.BoardLemmas.{eq-self}
 use Rattle.trf16_laws.proofs.MeetingLemmas.{cell_of-fit}
 use Rattle.trf16_laws.proofs.PairedRound.{fits-none, fits-same, cells_fit-from, no_opponent, all-with, length-with}
-use Rattle.trf16.proofs.StepLemmas.{then_ok}
+use Rattle.trf16_report.proofs.StepLemmas.{then_ok}
 use Rattle.trf16_laws.proofs.WrittenCells.{is_sound}
 use Rattle.trf16_laws.proofs.WrittenFields.{all_cut, length_cut, without_last-twice}
 use Rattle.trf16_writer.proofs.AcceptedReport.{IsLaidOut, IsLaidOutOf, accepted, sized_is}

@@ -1,8 +1,8 @@
 -- Who stands on the boards of a round.
 use Rattle.std.specs.Prelude.{◌≡◌, ℕ, ◌<◌, Bool, false, ◌&&◌, ◌||◌, ◌==◌, List, Some, count_by}
-use Rattle.trf16.specs.declared.cell.Bye.TheVariants.{Allocated}
-use Rattle.trf16.specs.declared.cell.Cell.TheVariants.{Bye}
-use Rattle.trf16.specs.Prelude.{Sheet, cell_in, is_paired, opponent_in_cell}
+use Rattle.trf16_report.specs.declared.cell.Bye.TheVariants.{Allocated}
+use Rattle.trf16_report.specs.declared.cell.Cell.TheVariants.{Bye}
+use Rattle.trf16_report.specs.Prelude.{Sheet, cell_in, is_paired, opponent_in_cell}
 
 -- whether a player stands on a board, with white or with black
 abbrev pub has : ℕ → ℕ × ℕ → Bool

@@ -1,7 +1,7 @@
 -- Reports whose next rounds are paired from the same.
 use Rattle.std.specs.Prelude.{◌≡◌, ℕ, Option, MatchOption, Ok}
-use Rattle.trf16.specs.declared.cell.Colour.{Colour}
-use Rattle.trf16.specs.Prelude.{Sheet}
+use Rattle.trf16_report.specs.declared.cell.Colour.{Colour}
+use Rattle.trf16_report.specs.Prelude.{Sheet}
 use Rattle.dutch_player.specs.Facts.{Facts, facts_of}
 
 -- a report is found, and what its next round is paired from, or why it cannot be, is what it is of another report, whatever total of rounds

@@ -1,6 +1,6 @@
 -- What a law says of notes and of players, of one line and one round.
 use Rattle.std.specs.Prelude.{ℕ, Bool, false, ◌&&◌, ◌==◌}
-use Rattle.trf16.specs.Prelude.{Entry, cell_at, is_unfinished}
+use Rattle.trf16_report.specs.Prelude.{Entry, cell_at, is_unfinished}
 use Rattle.report_notes.specs.Noted.{Noted, InRound}
 use Rattle.report_notes.specs.declared.note.RoundNote.TheVariants.{NoResult}
 

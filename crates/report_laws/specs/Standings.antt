@@ -1,6 +1,6 @@
 -- What holds of all standings.
 use Rattle.std.specs.Prelude.{◌≡◌, List, length, map, Ok, All, IsPermutation}
-use Rattle.trf16.specs.Prelude.{Sheet}
+use Rattle.trf16_report.specs.Prelude.{Sheet}
 use Rattle.tables.specs.declared.key.Key.{Key}
 use Rattle.tables.specs.Keys.{RowFacts}
 use Rattle.tables.specs.Standings.{standings_of}

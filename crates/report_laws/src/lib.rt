@@ -3,8 +3,8 @@
 //! definitions, beyond what one call promises.
 //!
 //! Each law is a function whose contract is the law, and its body is empty or reads what the law is about. No other
-//! crate uses them. They tie the definitions of `trf16` on earlier rounds to those of the crates above it, which
-//! `trf16` itself cannot name. Those on players, on standings, on start ranks and on mistakes stand here so that nothing
+//! crate uses them. They tie the definitions of `trf16_report` on earlier rounds to those of the crates above it, which
+//! `trf16_report` itself cannot name. Those on players, on standings, on start ranks and on mistakes stand here so that nothing
 //! waits for their proofs.
 #![tactic(auto)]
 

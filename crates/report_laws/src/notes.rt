@@ -2,7 +2,7 @@
 ghost use Rattle.std.specs.Prelude.{◌≡◌, ◌<◌, ℕ, List, ◌∷◌, [], Ok, not, true, false};
 ghost use Rattle.std.specs.List.{list_all, list_any};
 ghost use Rattle.std.specs.Str.{is_utf8};
-ghost use Rattle.trf16.specs.Prelude.{Sheet, ends_line, lines, verdict, without_marks};
+ghost use Rattle.trf16_report.specs.Prelude.{Sheet, ends_line, lines, verdict, without_marks};
 ghost use Rattle.report_notes.specs.Notes.{notes_of};
 ghost use Rattle.report_notes.specs.RefusalNotes.{alone_in_bytes};
 ghost use Rattle.report_laws.specs.Notes.{lacks_result, tells_no_result};

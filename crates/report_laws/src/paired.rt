@@ -1,10 +1,10 @@
 // Laws of the boards of a round: as they stand in an accepted report, and as it is paired.
 ghost use Rattle.std.specs.Prelude.{◌≡◌, ◌+◌, ◌<◌, ◌≤◌, ℕ, IfSome, List, Ok, Option, Some};
-ghost use Rattle.trf16.specs.Prelude.{HasOwnStarts, Sheet, rounds_played, verdict, with_round};
-ghost use Rattle.trf16.specs.declared.cell.Colour.{Colour};
-ghost use Rattle.trf16.specs.declared.limits.TheConstants.{MOST_ROUNDS};
+ghost use Rattle.trf16_report.specs.Prelude.{HasOwnStarts, Sheet, rounds_played, verdict, with_round};
+ghost use Rattle.trf16_report.specs.declared.cell.Colour.{Colour};
+ghost use Rattle.trf16_report.specs.declared.limits.TheConstants.{MOST_ROUNDS};
 ghost use Rattle.dutch_player.specs.Prelude.{Facts, facts_of};
-ghost use Rattle.dutch_pair.specs.Prelude.{Pairing, boards, round};
+ghost use Rattle.dutch_rounds.specs.Prelude.{Pairing, boards, round};
 ghost use Rattle.tables.specs.Prelude.{boards_of};
 ghost use Rattle.report_laws.specs.EachOnOne.{EachOnOne};
 

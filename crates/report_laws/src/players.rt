@@ -1,7 +1,7 @@
 // Laws of the present players and of the rules between two of them.
 ghost use Rattle.std.specs.Prelude.{◌≡◌, ◌<◌, ◌≢◌, ℕ, Ok, Option, length};
-ghost use Rattle.trf16.specs.Prelude.{apart, Sheet, HasOwnStarts};
-ghost use Rattle.trf16.specs.declared.cell.Colour.{Colour};
+ghost use Rattle.trf16_report.specs.Prelude.{apart, Sheet, HasOwnStarts};
+ghost use Rattle.trf16_report.specs.declared.cell.Colour.{Colour};
 ghost use Rattle.dutch_player.specs.Meetings.{are_apart, may_meet};
 ghost use Rattle.dutch_player.specs.Colours.{colours, colour_rule};
 ghost use Rattle.dutch_player.specs.Facts.{Facts, facts_of, seat_at};

@@ -1,8 +1,8 @@
 // Laws of the new start ranks, and of the report with them.
 ghost use Rattle.std.specs.Prelude.{◌≡◌, ℕ, List, ◌<◌, ◌≤◌, true, length, option_map, Some, Ok};
-ghost use Rattle.trf16.specs.Prelude.{Entry, Sheet, known, goes_before, new_start, player_of, rating_of, verdict, written};
-ghost use Rattle.trf16.specs.Prelude.{absent, apart, cell_in, name_in, points_upto, renumbered, renumbered_cell};
-ghost use Rattle.trf16.specs.declared.limits.TheConstants.{MOST_BYTES, MOST_PLAYERS};
+ghost use Rattle.trf16_report.specs.Prelude.{Entry, Sheet, known, goes_before, new_start, player_of, rating_of, verdict, written};
+ghost use Rattle.trf16_report.specs.Prelude.{absent, apart, cell_in, name_in, points_upto, renumbered, renumbered_cell};
+ghost use Rattle.trf16_report.specs.declared.limits.TheConstants.{MOST_BYTES, MOST_PLAYERS};
 
 /// No two players have one new start rank, and each is from 1 to the number of players.
 pub fn new_start_ranks_are_one_to_one()

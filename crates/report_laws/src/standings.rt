@@ -1,6 +1,6 @@
 // Laws of all standings.
 ghost use Rattle.std.specs.Prelude.{◌≡◌, ◌<◌, false, true, is_some, length, List};
-ghost use Rattle.trf16.specs.Prelude.{Sheet};
+ghost use Rattle.trf16_report.specs.Prelude.{Sheet};
 ghost use Rattle.tables.specs.declared.key.Key.{Key};
 ghost use Rattle.tables.specs.declared.key.Key.TheVariants.{Direct};
 ghost use Rattle.tables.specs.Keys.{RowFacts, is_level, value_of};

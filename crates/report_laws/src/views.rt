@@ -3,10 +3,10 @@ ghost use Rattle.std.specs.Prelude.{◌≡◌, ◌+◌, ◌<◌, ◌≤◌, ℕ,
 ghost use Rattle.dutch_player.specs.Prelude.{Facts, facts_of, start_ranks};
 ghost use Rattle.report_laws.specs.Boards.{NameAllPresent};
 ghost use Rattle.report_laws.specs.Fields.{GivesFacts, GivesFieldOf};
-ghost use Rattle.trf16.specs.Prelude.{CanBePaired, HasOwnStarts, Sheet, before_round, named_by, rounds_played, verdict};
-ghost use Rattle.trf16.specs.Prelude.{with_round, written};
-ghost use Rattle.trf16.specs.declared.cell.Colour.{Colour};
-ghost use Rattle.trf16.specs.declared.limits.TheConstants.{MOST_BYTES, MOST_ROUNDS};
+ghost use Rattle.trf16_report.specs.Prelude.{CanBePaired, HasOwnStarts, Sheet, before_round, named_by, rounds_played, verdict};
+ghost use Rattle.trf16_report.specs.Prelude.{with_round, written};
+ghost use Rattle.trf16_report.specs.declared.cell.Colour.{Colour};
+ghost use Rattle.trf16_report.specs.declared.limits.TheConstants.{MOST_BYTES, MOST_ROUNDS};
 
 /// If boards that name each present player, and nobody else, are put into a report as its next round, then the report
 /// that comes of it has a view before that round, and the next round of the view is paired from what that of the first

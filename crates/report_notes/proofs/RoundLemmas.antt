@@ -1,6 +1,6 @@
 -- One round further.
 use Rattle.std.proofs.Common.{◌≡◌, refl, ℕ, suc, ◌+◌, ◌-◌, ◌<◌, List, ◌++◌, arith}
-use Rattle.trf16.specs.Prelude.{Sheet, rounds_played}
+use Rattle.trf16_report.specs.Prelude.{Sheet, rounds_played}
 use Rattle.report_notes.specs.PlayerRounds.{of_rounds_behind}
 
 -- a round behind a given one was paired

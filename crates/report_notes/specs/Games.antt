@@ -1,9 +1,9 @@
 -- The games of a player: that of the last round, and the rounds that the points field counts.
 use Rattle.std.specs.Prelude.{ℕ, Bool, true, false, not, ◌&&◌, ◌==◌, nat_lt, List, take, sum_by}
 use Rattle.std.specs.Option.{option_map_or}
-use Rattle.trf16.specs.Prelude.{text, words, number_in, Entry, Sheet, cell_in, half_points, rounds_played}
-use Rattle.trf16.specs.declared.cell.Cell.{Cell}
-use Rattle.trf16.specs.declared.cell.Cell.TheVariants.{Game}
+use Rattle.trf16_report.specs.Prelude.{text, words, number_in, Entry, Sheet, cell_in, half_points, rounds_played}
+use Rattle.trf16_report.specs.declared.cell.Cell.{Cell}
+use Rattle.trf16_report.specs.declared.cell.Cell.TheVariants.{Game}
 
 -- the start rank in columns 5 to 8 of a player's line; 0, which nobody has, where none stands there
 abbrev pub start_in : List (List ℕ) → ℕ

@@ -1,7 +1,7 @@
 -- Notes as definitions see them, wherever they lie in memory.
 use Rattle.std.specs.Prelude.{ℕ, if◌then◌else◌, List, [], ◌∷◌, ◌++◌, map, option_map}
 use Rattle.std.specs.Bool.{then_some}
-use Rattle.trf16.specs.Prelude.{words, Sheet}
+use Rattle.trf16_report.specs.Prelude.{words, Sheet}
 use Rattle.report_notes.specs.Noted.{Noted, NoPlayer, PlayedLast, UnknownKind, BlankBefore, OnePlayer, ManyRounds, BeforeName}
 use Rattle.report_notes.specs.Noted.{LongName, RatingAbove, EarlyPoints, InRound, BehindColumn, NoGame, Byes, RoundsUnknown}
 use Rattle.report_notes.specs.Notes.{absent_notes, last_column, name_notes, note_if, rating_notes, rounds_notes}

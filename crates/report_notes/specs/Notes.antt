@@ -3,7 +3,7 @@ use Rattle.std.specs.Prelude.{ℕ, ◌+◌, ◌*◌, Bool, true, false, not, ◌
 use Rattle.std.specs.List.{list_all, list_any}
 use Rattle.std.specs.Option.{option_map_or}
 use Rattle.std.specs.Str.{byte}
-use Rattle.trf16.specs.Prelude.{without_marks, lines, columns, joined, text, is_blank, words, number_of, without_blanks, is_kind, is_word, words_of, Sheet, known, rounds_played, is_player, player_of}
+use Rattle.trf16_report.specs.Prelude.{without_marks, lines, columns, joined, text, is_blank, words, number_of, without_blanks, is_kind, is_word, words_of, Sheet, known, rounds_played, is_player, player_of}
 use Rattle.report_notes.specs.Games.{start_in, played_last, counts_to_come}
 use Rattle.report_notes.specs.Noted.{Noted, NoPlayer, PlayedLast, UnknownKind, BlankBefore, OnePlayer, ManyRounds, BeforeName, LongName, RatingAbove, EarlyPoints, InRound, BehindColumn}
 use Rattle.report_notes.specs.PlayerRounds.{of_rounds_behind, round_notes}

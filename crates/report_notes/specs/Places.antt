@@ -1,6 +1,6 @@
 -- What comes behind a place.
 use Rattle.std.specs.Prelude.{◌+◌, List, ◌++◌}
-use Rattle.trf16.specs.Prelude.{lines, Sheet}
+use Rattle.trf16_report.specs.Prelude.{lines, Sheet}
 use Rattle.report_notes.specs.Noted.{Noted}
 use Rattle.report_notes.specs.Notes.{notes_from}
 use Rattle.report_notes.specs.NoteOf.{left_notes, closing_left_notes}

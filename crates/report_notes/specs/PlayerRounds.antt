@@ -3,10 +3,10 @@ use Rattle.std.specs.Prelude.{ℕ, zero, suc, ◌+◌, ◌-◌, Bool, true, fals
 use Rattle.std.specs.Bool.{then_some}
 use Rattle.std.specs.List.{filter_map, list_any}
 use Rattle.std.specs.Option.{option_map_or}
-use Rattle.trf16.specs.Prelude.{Sheet, cell_at, cell_in, cells_of, game_points, is_blank_cell, is_named_absent, is_unfinished, outcome_points, rounds_played}
-use Rattle.trf16.specs.declared.cell.Bye.TheVariants.{Full, Allocated}
-use Rattle.trf16.specs.declared.cell.Cell.{Cell}
-use Rattle.trf16.specs.declared.cell.Cell.TheVariants.{Bye, Game, Forfeit, Unfinished}
+use Rattle.trf16_report.specs.Prelude.{Sheet, cell_at, cell_in, cells_of, game_points, is_blank_cell, is_named_absent, is_unfinished, outcome_points, rounds_played}
+use Rattle.trf16_report.specs.declared.cell.Bye.TheVariants.{Full, Allocated}
+use Rattle.trf16_report.specs.declared.cell.Cell.{Cell}
+use Rattle.trf16_report.specs.declared.cell.Cell.TheVariants.{Bye, Game, Forfeit, Unfinished}
 use Rattle.report_notes.specs.declared.note.RoundNote.{RoundNote}
 use Rattle.report_notes.specs.declared.note.RoundNote.TheVariants.{NoResult, MeetsAgain, AnotherBye, HalfPoint, NoPoint, NoCell}
 

@@ -2,7 +2,7 @@
 use Rattle.std.specs.Prelude.{ℕ, Bool, false, ◌&&◌, ◌==◌, nat_lt, if◌then◌else◌, length, map, filter, min, Option, None, option_map, option_and_then}
 use Rattle.std.specs.List.{reduce}
 use Rattle.std.specs.Option.{option_map_or}
-use Rattle.trf16.specs.Prelude.{text, columns, words, number_in, positive, Entry, Sheet, rounds_played}
+use Rattle.trf16_report.specs.Prelude.{text, columns, words, number_in, positive, Entry, Sheet, rounds_played}
 use Rattle.report_notes.specs.declared.ratings.RatedAbove.{RatedAbove}
 
 -- columns 49 to 52: the rating, if it is over 0; what is carried of the line begins with column 9, so these are its columns 41 to 44

@@ -3,11 +3,11 @@
 use Rattle.std.specs.Prelude.{ℕ, ◌+◌, ◌-◌, ◌*◌, ◌/◌, Bool, true, false, not, ◌&&◌, ◌||◌, ◌==◌, nat_le, nat_lt, if◌then◌else◌, List, [], ◌∷◌, ◌++◌, codes, sum_by, take, slice_index_or, Option, Some, None, option_map, option_and_then, Result, Err}
 use Rattle.std.specs.Option.{option_map_or}
 use Rattle.std.specs.Str.{byte, is_utf8}
-use Rattle.trf16.specs.Prelude.{without_marks, lines, columns, text, is_blank, is_kind, is_player, number_in, words, player_of, Entry, Sheet, half_points, rounds_played, verdict_unsummed}
-use Rattle.trf16.specs.declared.fault.Excess.TheVariants.{Bytes}
-use Rattle.trf16.specs.declared.fault.Fault.{Fault}
-use Rattle.trf16.specs.declared.fault.Fault.TheVariants.{BadNumber, Duplicate, Misaligned, BadCell, BadExtension, TooMany}
-use Rattle.trf16.specs.declared.limits.TheConstants.{MOST_ROUNDS, LAST_COLUMN}
+use Rattle.trf16_report.specs.Prelude.{without_marks, lines, columns, text, is_blank, is_kind, is_player, number_in, words, player_of, Entry, Sheet, half_points, rounds_played, verdict_unsummed}
+use Rattle.trf16_report.specs.declared.fault.Excess.TheVariants.{Bytes}
+use Rattle.trf16_report.specs.declared.fault.Fault.{Fault}
+use Rattle.trf16_report.specs.declared.fault.Fault.TheVariants.{BadNumber, Duplicate, Misaligned, BadCell, BadExtension, TooMany}
+use Rattle.trf16_report.specs.declared.limits.TheConstants.{MOST_ROUNDS, LAST_COLUMN}
 use Rattle.report_notes.specs.Games.{start_in}
 use Rattle.report_notes.specs.Noted.{Noted, UnknownKind, BlankBefore}
 use Rattle.report_notes.specs.Notes.{begins_blank, is_known, kind_in}

@@ -2,7 +2,7 @@
 use Rattle.std.specs.Prelude.{ℕ, Bool, not, nat_lt, List, [], ◌∷◌, filter, length, Option, option_map, is_some}
 use Rattle.std.specs.Bool.{then_some}
 use Rattle.std.specs.List.{list_any}
-use Rattle.trf16.specs.Prelude.{Entry, Sheet, cell_at, opponent_in_cell}
+use Rattle.trf16_report.specs.Prelude.{Entry, Sheet, cell_at, opponent_in_cell}
 use Rattle.report_notes.specs.Noted.{Noted, NoGame, Byes, RoundsUnknown}
 use Rattle.report_notes.specs.PlayerRounds.{is_allocated, of_rounds_behind, told}
 

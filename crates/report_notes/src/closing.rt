@@ -1,12 +1,12 @@
 // What stands behind the lines of a report: its rounds, and that nobody says how many there are.
 ghost use Rattle.std.specs.Prelude.{◌≡◌, ◌++◌, ◌∷◌, [], MatchOption};
-ghost use Rattle.trf16.specs.Prelude.{Sheet};
+ghost use Rattle.trf16_report.specs.Prelude.{Sheet};
 ghost use Rattle.report_notes.specs.Rounds.{report_rounds_notes, total_notes};
 ghost use Rattle.report_notes.specs.NoteOf.{closing_left_notes, noted};
 
 use crate::note::Note;
 use crate::rounds::{RoundsLeft, next_of_rounds};
-use trf16::Report;
+use trf16_report::Report;
 
 /// What is left to tell behind the lines.
 #[derive(Clone, Copy)]

@@ -3,7 +3,7 @@ ghost use Rattle.std.specs.Prelude.{◌≡◌};
 ghost use Rattle.report_notes.specs.RefusalNotes.{extension_at};
 
 use crate::refusal::{has_characters, line_in};
-use trf16::{is_word, split_kind};
+use trf16_report::{is_word, split_kind};
 
 /// The kind of an extension line that is read.
 #[derive(Clone, Copy)]

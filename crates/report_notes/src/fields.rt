@@ -1,9 +1,9 @@
 // The fields of a player's line.
 ghost use Rattle.std.specs.Prelude.{◌≡◌};
-ghost use Rattle.trf16.specs.Prelude.{columns, number_in, words};
+ghost use Rattle.trf16_report.specs.Prelude.{columns, number_in, words};
 ghost use Rattle.report_notes.specs.Games.{start_in};
 
-use trf16::{next_word, number_of, split_columns};
+use trf16_report::{next_word, number_of, split_columns};
 
 /// The one number of a field.
 pub(crate) fn number_in(field: &[u8]) -> Option<u16>

@@ -1,13 +1,13 @@
 // The first line of a refused text that is not read for its kind.
 ghost use Rattle.std.specs.Prelude.{◌≡◌, option_map};
 ghost use Rattle.report_notes.specs.NoteOf.{noted};
-ghost use Rattle.trf16.specs.Prelude.{lines};
+ghost use Rattle.trf16_report.specs.Prelude.{lines};
 ghost use Rattle.report_notes.specs.RefusalNotes.{first_kind_note, kind_note, kind_note_from};
 
 use crate::kinds::{begins_blank, is_known, kind_in};
 use crate::note::Note;
 use crate::refusal::has_characters;
-use trf16::{is_blank, next_line, skip_marks, split_kind};
+use trf16_report::{is_blank, next_line, skip_marks, split_kind};
 
 // Of line n, if it is no player's: that its kind is not known, or else that blanks stand before it.
 fn kind_note<'a>(line: &'a [u8], utf8: bool, n: usize) -> Option<Note<'a>>

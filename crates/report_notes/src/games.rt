@@ -2,7 +2,7 @@
 ghost use Rattle.std.specs.Prelude.{◌≡◌};
 ghost use Rattle.report_notes.specs.Games.{played_last};
 
-use trf16::{Cell, Report};
+use trf16_report::{Cell, Report};
 
 /// A forfeit is not played, and before the first round nobody has played.
 pub(crate) fn played_last(report: &Report<'_>, start: u16) -> bool

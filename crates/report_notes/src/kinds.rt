@@ -1,10 +1,10 @@
 // The kinds of lines that are known.
 ghost use Rattle.std.specs.Prelude.{◌≡◌};
 ghost use Rattle.std.specs.List.{list_any};
-ghost use Rattle.trf16.specs.Prelude.{words, is_word};
+ghost use Rattle.trf16_report.specs.Prelude.{words, is_word};
 ghost use Rattle.report_notes.specs.Notes.{begins_blank, is_known, kind_in};
 
-use trf16::{is_word, next_word, split_kind, without_blanks};
+use trf16_report::{is_word, next_word, split_kind, without_blanks};
 
 fn is_among(kind: &[u8], kinds: &[u8]) -> bool
     ensures { result ≡ list_any (is_word kind.now) (words kinds.now) }

@@ -1,6 +1,6 @@
 // What of one line looks like a mistake.
 ghost use Rattle.std.specs.Prelude.{◌≡◌, ◌∷◌, [], MatchOption};
-ghost use Rattle.trf16.specs.Prelude.{columns};
+ghost use Rattle.trf16_report.specs.Prelude.{columns};
 ghost use Rattle.report_notes.specs.Notes.{carried_notes, extension_notes, has_many_rounds, line_notes};
 ghost use Rattle.report_notes.specs.NoteOf.{left_notes, noted};
 
@@ -8,7 +8,7 @@ use crate::kinds::{begins_blank, is_known, kind_in};
 use crate::names::{names_one, next_absent, next_stranger};
 use crate::note::Note;
 use crate::player_line::{PlayerLeft, next_of_player, player_left};
-use trf16::{Report, is_blank, is_word, split_kind};
+use trf16_report::{Report, is_blank, is_word, split_kind};
 
 /// What is left to tell of a line.
 #[derive(Clone, Copy)]

@@ -1,12 +1,12 @@
 // The start ranks that a line `XXZ` or `XXP` names.
 ghost use Rattle.std.specs.Prelude.{◌≡◌, ◌∷◌, ◌<◌, [], MatchOption};
-ghost use Rattle.trf16.specs.Prelude.{words};
+ghost use Rattle.trf16_report.specs.Prelude.{words};
 ghost use Rattle.report_notes.specs.Notes.{absent_notes, are_all, names_one, strangers};
 ghost use Rattle.report_notes.specs.NoteOf.{noted};
 
 use crate::games::played_last;
 use crate::note::Note;
-use trf16::{Report, next_word, number_of};
+use trf16_report::{Report, next_word, number_of};
 
 /// The first number among some words that no player has, and the words behind it.
 pub(crate) fn next_stranger<'a>(report: &Report<'_>, bytes: &'a [u8]) -> Option<(u16, &'a [u8])>

@@ -1,6 +1,6 @@
 // What of a player's line looks like a mistake.
 ghost use Rattle.std.specs.Prelude.{◌≡◌, ℕ, ◌∷◌, [], MatchOption};
-ghost use Rattle.trf16.specs.Prelude.{columns};
+ghost use Rattle.trf16_report.specs.Prelude.{columns};
 ghost use Rattle.report_notes.specs.Notes.{last_column, player_notes};
 ghost use Rattle.report_notes.specs.NoteOf.{cells_left_notes, noted, player_left_notes};
 
@@ -10,7 +10,7 @@ use crate::player_rounds::{PlayerRoundsLeft, next_of_player_rounds};
 use crate::points::counts_to_come;
 use crate::ratings::{RatedAbove, rated_above};
 use crate::refusal::columns_in;
-use trf16::{Report, is_blank, split_columns};
+use trf16_report::{Report, is_blank, split_columns};
 
 /// What is left to tell of a player's line, in the order of its columns.
 #[derive(Clone, Copy)]

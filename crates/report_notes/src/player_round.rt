@@ -1,14 +1,14 @@
 // What of a round of a player looks like a mistake.
 ghost use Rattle.std.specs.Prelude.{◌≡◌, ◌<◌, ◌∷◌, [], MatchOption};
 ghost use Rattle.std.specs.List.{list_any};
-ghost use Rattle.trf16.specs.Prelude.{cells_of, is_unfinished};
+ghost use Rattle.trf16_report.specs.Prelude.{cells_of, is_unfinished};
 ghost use Rattle.report_notes.specs.PlayerRounds.{bars_bye, bye_note, cell_note, cells_before, is_allocated};
 ghost use Rattle.report_notes.specs.PlayerRounds.{is_filled, is_game_against, meeting_note, opponent_of_game};
 ghost use Rattle.report_notes.specs.PlayerRounds.{points_note, round_notes};
 ghost use Rattle.report_notes.specs.NoteOf.{round_left_notes};
 
 use crate::note::RoundNote;
-use trf16::{Bye, Cell, Report, cell_at, front, is_unfinished};
+use trf16_report::{Bye, Cell, Report, cell_at, front, is_unfinished};
 
 /// What is left to tell of a round of a player, in this order.
 #[derive(Clone, Copy)]

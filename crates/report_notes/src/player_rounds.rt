@@ -1,13 +1,13 @@
 // What of a player's rounds looks like a mistake, one round after the other.
 ghost use Rattle.std.specs.Prelude.{◌≡◌, ◌<◌, ℕ, ◌∷◌, [], MatchOption};
-ghost use Rattle.trf16.specs.Prelude.{Sheet, rounds_played};
-ghost use Rattle.trf16.specs.declared.limits.TheConstants.{MOST_ROUNDS};
+ghost use Rattle.trf16_report.specs.Prelude.{Sheet, rounds_played};
+ghost use Rattle.trf16_report.specs.declared.limits.TheConstants.{MOST_ROUNDS};
 ghost use Rattle.report_notes.specs.Notes.{rounds_notes};
 ghost use Rattle.report_notes.specs.NoteOf.{noted, player_rounds_left_notes, round_left_notes};
 
 use crate::note::Note;
 use crate::player_round::{RoundLeft, next_of_round, round_left};
-use trf16::Report;
+use trf16_report::Report;
 
 /// What is left to tell of a player's rounds.
 #[derive(Clone, Copy)]

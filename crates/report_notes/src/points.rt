@@ -1,10 +1,10 @@
 // Which rounds a player's points field counts.
 ghost use Rattle.std.specs.Prelude.{◌≡◌, false};
 ghost use Rattle.std.specs.Option.{option_map_or};
-ghost use Rattle.trf16.specs.Prelude.{player_of};
+ghost use Rattle.trf16_report.specs.Prelude.{player_of};
 ghost use Rattle.report_notes.specs.Games.{counts_to_come};
 
-use trf16::{Report, front};
+use trf16_report::{Report, front};
 
 /// Such a points field is accepted, but may not be meant.
 pub(crate) fn counts_to_come(report: &Report<'_>, start: u16) -> bool

@@ -1,11 +1,11 @@
 // Ratings, and a late entry's that is above that of a player with a smaller start rank.
 ghost use Rattle.std.specs.Prelude.{◌≡◌, ◌∷◌, [], min, Some};
 ghost use Rattle.std.specs.List.{cons_option, reduce};
-ghost use Rattle.trf16.specs.Prelude.{entry_of};
+ghost use Rattle.trf16_report.specs.Prelude.{entry_of};
 ghost use Rattle.report_notes.specs.Ratings.{first_rated_below, is_rated_below, rated_above, rating_of};
 
 use crate::fields::number_in;
-use trf16::{Player, Report, split_columns};
+use trf16_report::{Player, Report, split_columns};
 
 /// A late entry's rating, and the player with the smallest start rank who has a smaller one in front.
 #[derive(Clone, Copy)]

@@ -2,14 +2,14 @@
 // field was compared with.
 ghost use Rattle.std.specs.Prelude.{◌≡◌, ◌≤◌, Err};
 ghost use Rattle.std.specs.Str.{is_utf8};
-ghost use Rattle.trf16.specs.Prelude.{columns, text, without_marks};
-ghost use Rattle.trf16.specs.declared.limits.TheConstants.{LAST_COLUMN};
+ghost use Rattle.trf16_report.specs.Prelude.{columns, text, without_marks};
+ghost use Rattle.trf16_report.specs.declared.limits.TheConstants.{LAST_COLUMN};
 ghost use Rattle.report_notes.specs.RefusalNotes.{are_lines_read, columns_around, columns_of, held, line_in, line_of};
 ghost use Rattle.report_notes.specs.RefusalNotes.{number_columns, sums_among};
 
 use crate::fields::start_in;
 use std::str;
-use trf16::{
+use trf16_report::{
     Excess, Fault, LAST_COLUMN, MOST_ROUNDS, Report, front, next_line, skip_marks, split_columns,
 };
 

@@ -1,14 +1,14 @@
 // What of the rounds of a report looks like a mistake, whoever plays in them.
 ghost use Rattle.std.specs.Prelude.{◌≡◌, ◌<◌, ◌∷◌, [], false, MatchOption, None};
-ghost use Rattle.trf16.specs.Prelude.{Sheet, rounds_played};
-ghost use Rattle.trf16.specs.declared.limits.TheConstants.{MOST_ROUNDS};
+ghost use Rattle.trf16_report.specs.Prelude.{Sheet, rounds_played};
+ghost use Rattle.trf16_report.specs.declared.limits.TheConstants.{MOST_ROUNDS};
 ghost use Rattle.report_notes.specs.Rounds.{byes_in, has_no_game, report_rounds_notes};
 ghost use Rattle.report_notes.specs.Rounds.{several_byes};
 ghost use Rattle.report_notes.specs.NoteOf.{noted, rounds_left_notes};
 
 use crate::note::Note;
 use crate::player_round::is_allocated;
-use trf16::{Report, cell_at};
+use trf16_report::{Report, cell_at};
 
 /// What is left to tell of the rounds of a report.
 #[derive(Clone, Copy)]

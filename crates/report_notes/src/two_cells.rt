@@ -1,13 +1,13 @@
 // The cells of two players in a round, as a refused text holds them.
 ghost use Rattle.std.specs.Prelude.{◌≡◌, ◌≤◌, ◌&&◌, ◌==◌};
-ghost use Rattle.trf16.specs.Prelude.{columns, is_player, lines};
-ghost use Rattle.trf16.specs.declared.limits.TheConstants.{MOST_ROUNDS};
+ghost use Rattle.trf16_report.specs.Prelude.{columns, is_player, lines};
+ghost use Rattle.trf16_report.specs.declared.limits.TheConstants.{MOST_ROUNDS};
 ghost use Rattle.report_notes.specs.Games.{start_in};
 ghost use Rattle.report_notes.specs.RefusalNotes.{cell_held, line_with, opponent_held, player_columns};
 
 use crate::fields::{number_in, start_in};
 use crate::refusal::{columns_in, has_characters};
-use trf16::{next_line, skip_marks, split_kind};
+use trf16_report::{next_line, skip_marks, split_kind};
 
 fn is_line_of(line: &[u8], utf8: bool, start: u16) -> bool
     ensures { result ≡ (is_player (columns utf8 line.now) && (start_in (columns utf8 line.now) == start)) }

@@ -1,6 +1,6 @@
 // The notes of a report, one after the other.
 ghost use Rattle.std.specs.Prelude.{◌≡◌, ◌∷◌, ◌<◌, [], MatchOption, length};
-ghost use Rattle.trf16.specs.Prelude.{Sheet};
+ghost use Rattle.trf16_report.specs.Prelude.{Sheet};
 ghost use Rattle.report_notes.specs.Notes.{notes_of};
 ghost use Rattle.report_notes.specs.NoteOf.{left_notes, noted};
 ghost use Rattle.report_notes.specs.Places.{coming};
@@ -9,7 +9,7 @@ use crate::closing::{ClosingLeft, next_of_closing};
 use crate::line::{Left, line_left, next_left};
 use crate::note::Note;
 use crate::place::Place;
-use trf16::{Report, next_line, skip_marks};
+use trf16_report::{Report, next_line, skip_marks};
 
 impl<'a> Place<'a> {
     /// The place in front of all notes of the report that stands in some bytes.

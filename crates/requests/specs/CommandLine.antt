@@ -10,7 +10,7 @@ use Rattle.requests.specs.declared.arguments.OptionName.{OptionName}
 use Rattle.requests.specs.declared.arguments.OptionName.TheVariants.{Bracket, From, Count, Player, Instead, Round, PlayedRound, Rounds, Initial, Steps, Report, Notes, Points, Renumber, BoardNames, PlayedNames, PlayerNames, Games, Words, By, Bye}
 use Rattle.requests.specs.declared.commands.CommandName.{CommandName}
 use Rattle.requests.specs.declared.commands.CommandName.TheVariants.{Check as CheckName, Format as FormatName, Pair as PairName, Boards as BoardsName, Candidates as CandidatesName, Explain as ExplainName, Standings as StandingsName}
-use Rattle.trf16.specs.declared.limits.TheConstants.{MOST_ROUNDS}
+use Rattle.trf16_report.specs.declared.limits.TheConstants.{MOST_ROUNDS}
 
 -- ---- options
 

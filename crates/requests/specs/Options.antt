@@ -6,8 +6,8 @@ use Rattle.std.specs.Str.Parse.{digits_value, without_leading_plus}
 use Rattle.clap.specs.ValueTests.{is_unsigned_in}
 use Rattle.clap.specs.Words.{Row, Text, first_of, found_of, one_of, rows_of}
 use Rattle.clap.specs.declared.parser.matches.ArgMatches.{ArgMatches}
-use Rattle.trf16.specs.declared.cell.Colour.{Colour}
-use Rattle.trf16.specs.declared.cell.Colour.TheVariants.{White, Black}
+use Rattle.trf16_report.specs.declared.cell.Colour.{Colour}
+use Rattle.trf16_report.specs.declared.cell.Colour.TheVariants.{White, Black}
 use Rattle.requests.specs.Keys.{keys_in, usual_keys}
 use Rattle.tables.specs.declared.key.Key.{Key}
 use Rattle.requests.specs.declared.options.WordFault.{WordFault}
@@ -24,7 +24,7 @@ use Rattle.requests.specs.declared.options.Shown.TheVariants.{Boards, Names, Rep
 use Rattle.requests.specs.declared.options.StandingsOptions.{StandingsOptions}
 use Rattle.requests.specs.declared.options.Wording.{Wording}
 use Rattle.requests.specs.declared.options.Wording.TheVariants.{Plain, Words}
-use Rattle.trf16.specs.declared.limits.TheConstants.{MOST_ROUNDS}
+use Rattle.trf16_report.specs.declared.limits.TheConstants.{MOST_ROUNDS}
 
 -- what follows where there is no fault
 infixl 10 ◌>>=◌

@@ -6,7 +6,7 @@ use Rattle.clap.specs.Words.{App, Row, Text, new_app, subcommand_of, with_subcom
 use Rattle.clap.specs.Simple.{on_top}
 use Rattle.clap.specs.declared.error.kind.ErrorKind.{ErrorKind}
 use Rattle.clap.specs.declared.error.kind.ErrorKind.TheVariants.{DisplayHelp, DisplayVersion, OutOfMemory}
-use Rattle.dutch_order.specs.Prelude.{has_syntax}
+use Rattle.dutch_arrangements.specs.Prelude.{has_syntax}
 use Rattle.requests.specs.declared.words.Task.{Task}
 use Rattle.requests.specs.declared.words.Request.{Request}
 use Rattle.requests.specs.declared.words.Request.TheVariants.{Check, Format, Pair, Boards, Candidates, Explain, Standings}

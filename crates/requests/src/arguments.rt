@@ -8,7 +8,7 @@ ghost use Rattle.requests.specs.CommandLine.{rule_for};
 use clap::builder::ValueParser;
 use clap::{Arg, ArgAction, value_parser};
 use std::alloc::Global;
-use trf16::MOST_ROUNDS;
+use trf16_report::MOST_ROUNDS;
 
 /// Which option is meant.
 #[derive(Clone, Copy)]

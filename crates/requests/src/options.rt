@@ -5,12 +5,12 @@ ghost use Rattle.requests.specs.Options.{boards_options, bye_in, candidates_opti
 ghost use Rattle.requests.specs.Options.{count_in, explain_options, flag_in, format_options, from_in, initial_in};
 ghost use Rattle.requests.specs.Options.{keys_by, number_in, pair_options, question_by, rows_in};
 ghost use Rattle.requests.specs.Options.{shown_by, standings_options, steps_in, u16_max, wording_by};
-ghost use Rattle.trf16.specs.declared.limits.TheConstants.{MOST_ROUNDS};
+ghost use Rattle.trf16_report.specs.declared.limits.TheConstants.{MOST_ROUNDS};
 
 use crate::keys::{Keys, keys_in};
 use clap::ArgMatches;
 use std::marker::Model;
-use trf16::{Colour, MOST_ROUNDS};
+use trf16_report::{Colour, MOST_ROUNDS};
 
 /// What is wrong with words that clap lets pass.
 #[derive(Clone, Copy)]

@@ -2,7 +2,7 @@
 ghost use Rattle.std.specs.Prelude.{◌≡◌, ◌++◌, ◌∷◌, [], IfOk, map, false, codes};
 ghost use Rattle.clap.specs.declared.Command.{out-Command as fields_of};
 ghost use Rattle.clap.specs.Words.{app_of, kind_of, new_app, subcommand_rows_of};
-ghost use Rattle.dutch_order.specs.Prelude.{has_syntax};
+ghost use Rattle.dutch_arrangements.specs.Prelude.{has_syntax};
 ghost use Rattle.requests.specs.CommandLine.{HasSameGlobals, app_for};
 ghost use Rattle.requests.specs.Options.{rows_in};
 ghost use Rattle.requests.specs.Words.{ComesTo, FitsKind, asked_by, candidates_request, explain_request, meant};
@@ -18,7 +18,7 @@ use crate::options::{
 };
 use clap::error::ErrorKind;
 use clap::{ArgMatches, Command, Error};
-use dutch_order::Cursor;
+use dutch_arrangements::Cursor;
 use std::alloc::{AllocError, Global};
 
 /// A command of the program, with its options.

@@ -1,14 +1,14 @@
 -- A listing as an answer, and the bracket that is found.
 use Rattle.std.proofs.Common.{◌≡◌, ◌++◌, ℕ, List, Result, Ok, Err, IfOk, sym, subst, refl}
-use Rattle.dutch_order.specs.Prelude.{Arrangement, Frame, IsBracket, arrangements, cursor_of, IsIn}
-use Rattle.dutch_order.specs.declared.bracket.Shape.{Shape}
+use Rattle.dutch_arrangements.specs.Prelude.{Arrangement, Frame, IsBracket, arrangements, cursor_of, IsIn}
+use Rattle.dutch_arrangements.specs.declared.bracket.Shape.{Shape}
 use Rattle.dutch_listing.proofs.CursorReads.{read-is}
-use Rattle.dutch_pair.specs.Prelude.{IsBracketAt}
+use Rattle.dutch_rounds.specs.Prelude.{IsBracketAt}
 use Rattle.dutch_bracket.specs.Prelude.{Reached}
 use Rattle.dutch_player.specs.Prelude.{Facts}
-use Rattle.dutch_pair.specs.declared.round.BracketAt.{BracketAt}
-use Rattle.dutch_pair.specs.declared.round.BracketAt.TheVariants.{Bracket, NotReached, NoPairing as NoPairingAt, Undecided as UndecidedAt}
-use Rattle.dutch_order.specs.declared.cursor.CursorFault.{CursorFault}
+use Rattle.dutch_rounds.specs.declared.round.BracketAt.{BracketAt}
+use Rattle.dutch_rounds.specs.declared.round.BracketAt.TheVariants.{Bracket, NotReached, NoPairing as NoPairingAt, Undecided as UndecidedAt}
+use Rattle.dutch_arrangements.specs.declared.cursor.CursorFault.{CursorFault}
 use Rattle.round_commands.specs.CandidateAnswers.{IsAnswerToField, Lists, AnswersFound, coming_of, status_of}
 use Rattle.round_commands.specs.Known.{CanBeListed}
 use Rattle.round_lines.specs.CandidateTexts.{bracket_text, line_text}

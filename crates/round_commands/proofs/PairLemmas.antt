@@ -3,19 +3,19 @@ use Rattle.std.proofs.Common.{◌≡◌, ◌<◌, ◌≤◌, ◌&&◌, ℕ, zero
 use Rattle.std.specs.Prelude.{All, IfSome, option_map, ◌==◌}
 use Rattle.std.specs.List.{IsDistinct}
 use Rattle.std.specs.Option.{ok_or}
-use Rattle.trf16.specs.Prelude.{CanBePaired, Entry, HasOwnStarts, Sheet, before_round, entry_back, rounds_played, starts_of, taken_back, verdict}
-use Rattle.trf16.specs.declared.fault.Fault.{Fault}
+use Rattle.trf16_report.specs.Prelude.{CanBePaired, Entry, HasOwnStarts, Sheet, before_round, entry_back, rounds_played, starts_of, taken_back, verdict}
+use Rattle.trf16_report.specs.declared.fault.Fault.{Fault}
 use Rattle.trf16_writer.proofs.StartRanks.{own_starts}
 use Rattle.replies.specs.Prelude.{seen_before}
 use Rattle.replies.specs.declared.views.Unseen.TheVariants.{NotReached}
-use Rattle.trf16.specs.declared.cell.Colour.{Colour}
+use Rattle.trf16_report.specs.declared.cell.Colour.{Colour}
 use Rattle.dutch_player.specs.Prelude.{Facts, facts_of}
-use Rattle.dutch_pair.specs.Prelude.{boards, IsOutcome, Pairing, round}
-use Rattle.dutch_pair.specs.declared.round.Outcome.{Outcome}
-use Rattle.dutch_pair.specs.declared.round.Outcome.TheVariants.{Paired, NoPairing, Undecided}
+use Rattle.dutch_rounds.specs.Prelude.{boards, IsOutcome, Pairing, round}
+use Rattle.dutch_rounds.specs.declared.round.Outcome.{Outcome}
+use Rattle.dutch_rounds.specs.declared.round.Outcome.TheVariants.{Paired, NoPairing, Undecided}
 use Rattle.round_commands.specs.Known.{CanBeTold, HasFewRounds}
 use Rattle.requests.specs.declared.options.PairOptions.{PairOptions}
-use Rattle.trf16.specs.declared.limits.TheConstants.{MOST_ROUNDS}
+use Rattle.trf16_report.specs.declared.limits.TheConstants.{MOST_ROUNDS}
 
 -- what is known of the boards of a round
 abbrev pub BoardsFit : Type 0

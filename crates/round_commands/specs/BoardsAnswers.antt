@@ -3,8 +3,8 @@ use Rattle.std.specs.Prelude.{ℕ, Bool, true, false, ◌==◌, ◌||◌, nat_lt
 use Rattle.tables.specs.Prelude.{boards_of}
 use Rattle.replies.specs.Prelude.{Answer, done, played_boards_text, refusal, round_not_reached}
 use Rattle.requests.specs.declared.options.BoardsOptions.{BoardsOptions}
-use Rattle.trf16.specs.Prelude.{Sheet, rounds_played}
-use Rattle.trf16.specs.declared.fault.Fault.{Fault}
+use Rattle.trf16_report.specs.Prelude.{Sheet, rounds_played}
+use Rattle.trf16_report.specs.declared.fault.Fault.{Fault}
 use Rattle.round_commands.specs.PairAnswers.{boards_text}
 
 -- the boards of a round in start ranks (false), or with names, scores and results (true)

@@ -1,15 +1,15 @@
 -- What `candidates` answers: a bracket, its shape, and the candidates of that shape in article D's order, from a cursor on or all.
 use Rattle.std.specs.Prelude.{◌≡◌, ℕ, List, [], ◌++◌, Option, Some, None, Result, Ok, Err}
-use Rattle.dutch_order.specs.Prelude.{Arrangement, candidates, rest, cursor_of}
-use Rattle.dutch_order.specs.declared.bracket.Shape.{Shape}
-use Rattle.dutch_order.specs.declared.cursor.CursorFault.{CursorFault}
-use Rattle.dutch_pair.specs.Prelude.{IsBracketAt}
+use Rattle.dutch_arrangements.specs.Prelude.{Arrangement, candidates, rest, cursor_of}
+use Rattle.dutch_arrangements.specs.declared.bracket.Shape.{Shape}
+use Rattle.dutch_arrangements.specs.declared.cursor.CursorFault.{CursorFault}
+use Rattle.dutch_rounds.specs.Prelude.{IsBracketAt}
 use Rattle.dutch_bracket.specs.Prelude.{Reached, frame_of, numbers_meet, number_may_be_left}
-use Rattle.dutch_pair.specs.declared.round.BracketAt.{BracketAt}
-use Rattle.dutch_pair.specs.declared.round.BracketAt.TheVariants.{Bracket, NotReached, NoPairing as NoPairingAt, Undecided as UndecidedAt}
+use Rattle.dutch_rounds.specs.declared.round.BracketAt.{BracketAt}
+use Rattle.dutch_rounds.specs.declared.round.BracketAt.TheVariants.{Bracket, NotReached, NoPairing as NoPairingAt, Undecided as UndecidedAt}
 use Rattle.dutch_player.specs.Prelude.{Facts, facts_of}
 use Rattle.dutch_player.specs.declared.fault.FieldFault.{FieldFault}
-use Rattle.trf16.specs.Prelude.{Sheet}
+use Rattle.trf16_report.specs.Prelude.{Sheet}
 use Rattle.replies.specs.Prelude.{Answer, field_refusal, no_pairing, not_of_bracket, not_reached, undecided, unseen_answer}
 use Rattle.replies.specs.declared.views.Unseen.{Unseen}
 use Rattle.round_lines.specs.CandidateTexts.{bracket_text, line_text}

@@ -1,15 +1,15 @@
 -- What is known where a round is told, from its words and from its report: a model that carries the proof that boards fit.
 use Rattle.std.specs.Prelude.{◌≤◌, IfSome}
 use Rattle.dutch_bracket.specs.Prelude.{IsOf, frame_of}
-use Rattle.dutch_order.specs.Prelude.{Fits}
-use Rattle.dutch_pair.specs.declared.round.BracketAt.{BracketAt}
-use Rattle.dutch_pair.specs.declared.round.BracketAt.TheVariants.{Bracket, NotReached, NoPairing as NoPairingAt, Undecided as UndecidedAt}
-use Rattle.dutch_pair.specs.declared.round.Outcome.{Outcome}
-use Rattle.dutch_pair.specs.declared.round.Outcome.TheVariants.{Paired, NoPairing, Undecided}
+use Rattle.dutch_arrangements.specs.Prelude.{Fits}
+use Rattle.dutch_rounds.specs.declared.round.BracketAt.{BracketAt}
+use Rattle.dutch_rounds.specs.declared.round.BracketAt.TheVariants.{Bracket, NotReached, NoPairing as NoPairingAt, Undecided as UndecidedAt}
+use Rattle.dutch_rounds.specs.declared.round.Outcome.{Outcome}
+use Rattle.dutch_rounds.specs.declared.round.Outcome.TheVariants.{Paired, NoPairing, Undecided}
 use Rattle.dutch_player.specs.Prelude.{Facts}
-use Rattle.trf16.specs.Prelude.{CanBePaired, Sheet}
+use Rattle.trf16_report.specs.Prelude.{CanBePaired, Sheet}
 use Rattle.requests.specs.declared.options.PairOptions.{PairOptions}
-use Rattle.trf16.specs.declared.limits.TheConstants.{MOST_ROUNDS}
+use Rattle.trf16_report.specs.declared.limits.TheConstants.{MOST_ROUNDS}
 
 -- a total of rounds that is asked for is not above the most rounds [own]
 abbrev pub HasFewRounds : PairOptions → Type 0

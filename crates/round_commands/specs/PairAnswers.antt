@@ -2,12 +2,12 @@
 use Rattle.std.specs.Prelude.{◌≡◌, ℕ, List, ◌++◌, length, Result, Ok, Err, codes}
 use Rattle.std.specs.List.{flat_map}
 use Rattle.std.specs.Fmt.{decimal}
-use Rattle.dutch_pair.specs.Prelude.{IsOutcome}
-use Rattle.dutch_pair.specs.declared.round.Outcome.{Outcome}
-use Rattle.dutch_pair.specs.declared.round.Outcome.TheVariants.{Paired, NoPairing, Undecided}
+use Rattle.dutch_rounds.specs.Prelude.{IsOutcome}
+use Rattle.dutch_rounds.specs.declared.round.Outcome.{Outcome}
+use Rattle.dutch_rounds.specs.declared.round.Outcome.TheVariants.{Paired, NoPairing, Undecided}
 use Rattle.dutch_player.specs.Prelude.{Facts, facts_of}
 use Rattle.dutch_player.specs.declared.fault.FieldFault.{FieldFault}
-use Rattle.trf16.specs.Prelude.{with_round, Sheet, written}
+use Rattle.trf16_report.specs.Prelude.{with_round, Sheet, written}
 use Rattle.replies.specs.Prelude.{Answer, done, field_refusal, no_pairing, undecided, named_boards_text, unseen_answer}
 use Rattle.replies.specs.declared.views.Unseen.{Unseen}
 use Rattle.requests.specs.declared.options.PairOptions.{PairOptions}

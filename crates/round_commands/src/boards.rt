@@ -1,6 +1,6 @@
 // The command `boards`: the boards of a round as they stand in the report.
 ghost use Rattle.std.specs.Prelude.{◌≡◌, ◌<◌, ◌≤◌, IfOk, Ok};
-ghost use Rattle.trf16.specs.Prelude.{verdict};
+ghost use Rattle.trf16_report.specs.Prelude.{verdict};
 ghost use Rattle.round_commands.specs.BoardsAnswers.{boards_answer, boards_at, round_text};
 ghost use Rattle.replies.specs.Prelude.{answer_of, done};
 
@@ -10,7 +10,7 @@ use replies::{Reply, wall};
 use requests::BoardsOptions;
 use std::alloc::{AllocError, Global};
 use tables::boards_of;
-use trf16::{Fault, Report};
+use trf16_report::{Fault, Report};
 
 /// What `boards` says of the bytes of a report in which the pairing-allocated bye gives `bye` half points.
 pub fn boards(

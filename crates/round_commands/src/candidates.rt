@@ -1,18 +1,18 @@
 // The command `candidates`: a bracket, its shape, and the candidates of that shape in the order of article D.
 ghost use Rattle.std.specs.Prelude.{◌≡◌, ◌≤◌, ◌++◌, IfOk, Ok, string_bytes};
-ghost use Rattle.trf16.specs.Prelude.{verdict};
-ghost use Rattle.dutch_order.specs.Prelude.{Fits};
+ghost use Rattle.trf16_report.specs.Prelude.{verdict};
+ghost use Rattle.dutch_arrangements.specs.Prelude.{Fits};
 ghost use Rattle.dutch_bracket.specs.Prelude.{IsOf, frame_of};
 ghost use Rattle.round_commands.specs.CandidateAnswers.{AnswersCandidates, InField, Lists, AnswersFound, coming_of, status_of};
 ghost use Rattle.round_commands.specs.Known.{CanBeListed};
 ghost use Rattle.round_lines.specs.Listings.{ending_text};
 ghost use Rattle.replies.specs.Prelude.{answer_of, not_of_bracket, not_reached, seen_before};
 
+use dutch_arrangements::{Budget, Cursor, Rule, Shape};
 use dutch_choice::finder::Finder;
 use dutch_listing::Candidates;
-use dutch_order::{Budget, Cursor, Rule, Shape};
-use dutch_pair::{BracketAt, Reached, bracket_at};
 use dutch_player::{Field, FieldFault};
+use dutch_rounds::{BracketAt, Reached, bracket_at};
 use replies::refusal::{cannot_be_paired, no_pairing, undecided};
 use replies::views::{not_seen, read_before};
 use replies::{Reply, Status, texts};
@@ -20,7 +20,7 @@ use requests::CandidatesOptions;
 use round_lines::bracket_texts;
 use round_lines::listing::{Bracket, Ending, Listed, RemainingCandidates, lines};
 use std::alloc::{AllocError, Global};
-use trf16::Report;
+use trf16_report::Report;
 
 /// What `candidates` says of the bytes of a report in which the pairing-allocated bye gives `bye` half points.
 pub fn candidates<F: Finder>(
@@ -127,7 +127,7 @@ fn list(
         }
         Some(from) => match Cursor::read(from.as_str(), &frame, shape) {
             Ok(cursor) => {
-                let coming = Candidates::from(&frame, shape, &rule, &cursor);
+                let coming = Candidates::from(&frame, shape, &rule, cursor);
                 list_coming(alloc, options, asked, coming)
             }
             Err(_) => not_of_bracket(alloc, options.bracket),

@@ -1,24 +1,24 @@
 // The command `pair`: the boards of the next round, or the report with that round.
 ghost use Rattle.std.specs.Prelude.{◌≡◌, ◌≤◌, ◌++◌, IfOk, Ok, OnOk, string_bytes};
 ghost use Rattle.dutch_player.specs.Prelude.{facts_of};
-ghost use Rattle.trf16.specs.Prelude.{verdict, CanBePaired, HasOwnStarts, with_round};
+ghost use Rattle.trf16_report.specs.Prelude.{verdict, CanBePaired, HasOwnStarts, with_round};
 ghost use Rattle.round_commands.specs.PairAnswers.{AnswersPair, PairsField, TellsBoards, TellsOutcome, TellsReport};
 ghost use Rattle.round_commands.specs.PairAnswers.{board_text, boards_text};
 ghost use Rattle.round_commands.specs.Known.{CanBeTold, HasFewRounds};
 ghost use Rattle.replies.specs.Prelude.{answer_of, done, seen_before};
 
 use dutch_choice::finder::Finder;
-use dutch_pair::boards::Board;
-use dutch_pair::laws::boards_can_be_the_next_round;
-use dutch_pair::{Outcome, pair_round};
 use dutch_player::{Field, FieldFault};
+use dutch_rounds::boards::Board;
+use dutch_rounds::laws::boards_can_be_the_next_round;
+use dutch_rounds::{Outcome, pair_round};
 use replies::format::rewritten;
 use replies::refusal::{cannot_be_paired, no_pairing, undecided};
 use replies::views::{not_seen, read_before};
 use replies::{Reply, Status, wall};
 use requests::{PairOptions, Shown};
 use std::alloc::{AllocError, Global};
-use trf16::Report;
+use trf16_report::Report;
 use trf16_writer::with_round;
 
 /// What `pair` says of the bytes of a report in which the pairing-allocated bye gives `bye` half points.

@@ -2,7 +2,7 @@
 use Rattle.std.proofs.Common.{◌≡◌, ◌∙◌, ◌≤◌, ◌<◌, ◌+◌, ◌++◌, ℕ, zero, suc, List, [], ◌∷◌, ap, sym, refl, subst, arith, append-nil, length, take, drop, flat_map}
 use Rattle.std.proofs.lemmas.Grind.{flat_map-append}
 use Rattle.std.proofs.lemmas.List.{drop_all}
-use Rattle.dutch_order.specs.Prelude.{Arrangement, Frame, down, Candidate}
+use Rattle.dutch_arrangements.specs.Prelude.{Arrangement, Frame, down, Candidate}
 use Rattle.dutch_bracket.specs.Prelude.{Reached, frame_of}
 use Rattle.dutch_player.specs.Prelude.{Facts}
 use Rattle.round_lines.specs.CandidateTexts.{candidate_text, line_text, pairs_text}

@@ -2,8 +2,8 @@
 use Rattle.std.specs.Prelude.{ℕ, if◌then◌else◌, List, [], ◌∷◌, ◌++◌, codes}
 use Rattle.std.specs.List.{flat_map}
 use Rattle.std.specs.Fmt.{decimal}
-use Rattle.dutch_order.specs.Prelude.{Arrangement, down, cursor_text, Candidate}
-use Rattle.dutch_order.specs.declared.bracket.Shape.{Shape}
+use Rattle.dutch_arrangements.specs.Prelude.{Arrangement, down, cursor_text, Candidate}
+use Rattle.dutch_arrangements.specs.declared.bracket.Shape.{Shape}
 use Rattle.dutch_player.specs.Prelude.{Facts, seat_at}
 use Rattle.dutch_bracket.specs.Prelude.{Reached, frame_of, is_number, seat_of}
 use Rattle.dutch_bracket.specs.declared.reached.BracketKind.{BracketKind}

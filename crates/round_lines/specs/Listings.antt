@@ -1,7 +1,7 @@
 -- The lines of a listing of candidates, and how it ends.
 use Rattle.std.specs.Prelude.{◌≡◌, ℕ, ◌<◌, ◌≤◌, List, length, take, codes}
 use Rattle.std.specs.List.{flat_map}
-use Rattle.dutch_order.specs.Prelude.{Arrangement}
+use Rattle.dutch_arrangements.specs.Prelude.{Arrangement}
 use Rattle.dutch_sequence.specs.declared.steps.Budget.{Budget}
 use Rattle.common_texts.specs.Prelude.{undecided_text}
 use Rattle.round_lines.specs.declared.listing.Ending.{Ending}

@@ -3,7 +3,7 @@ use Rattle.std.specs.Prelude.{ℕ, if◌then◌else◌, List, [], ◌∷◌, ◌
 use Rattle.std.specs.List.{flat_map}
 use Rattle.std.specs.Fmt.{decimal}
 use Rattle.std.specs.Str.{bytes_eq}
-use Rattle.trf16.specs.Prelude.{name_in, Sheet}
+use Rattle.trf16_report.specs.Prelude.{name_in, Sheet}
 use Rattle.dutch_player.specs.Prelude.{Facts, seat_at}
 use Rattle.requests.specs.declared.options.Wording.{Wording}
 use Rattle.requests.specs.declared.options.Wording.TheVariants.{Plain, Words}

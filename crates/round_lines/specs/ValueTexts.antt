@@ -1,7 +1,7 @@
 -- The values of a quality's items as texts, beside those of another one (C.04.3 C.6 to C.19).
 use Rattle.std.specs.Prelude.{ℕ, ◌==◌, if◌then◌else◌, List, ◌++◌, Option, Some, None, codes}
 use Rattle.std.specs.Fmt.{decimal}
-use Rattle.dutch_order.specs.Prelude.{Arrangement, cursor_text}
+use Rattle.dutch_arrangements.specs.Prelude.{Arrangement, cursor_text}
 use Rattle.dutch_bracket.specs.Prelude.{Quality, first_difference}
 use Rattle.dutch_bracket.specs.declared.item.Item.{Item}
 use Rattle.dutch_bracket.specs.declared.item.Item.TheVariants.{Psd, NextBracket, WideDifferences, ThirdColours, MissedPreferences, MissedStrong, DownAgain, UpAgain, DownAgainBefore, UpAgainBefore, DownAgainBy, UpAgainBy, DownAgainBeforeBy, UpAgainBeforeBy}

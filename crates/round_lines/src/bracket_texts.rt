@@ -10,8 +10,8 @@ use crate::pieces::Piece::{Count, Number, Text};
 use crate::pieces::say;
 use crate::telling::Telling;
 use common_texts::undecided;
+use dutch_arrangements::Shape;
 use dutch_bracket::{BracketKind, Reached};
-use dutch_order::Shape;
 use std::alloc::{AllocError, Global};
 
 // What a bracket is for the round, and the same in a sentence, behind the bracket's number.

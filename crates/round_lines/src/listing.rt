@@ -2,15 +2,15 @@
 ghost use Rattle.std.specs.Prelude.{◌≡◌, ◌++◌, IfOk, OnOk, string_bytes, codes};
 ghost use Rattle.std.specs.List.{flat_map};
 ghost use Rattle.std.specs.Fmt.{decimal};
-ghost use Rattle.dutch_order.specs.Prelude.{Spends};
+ghost use Rattle.dutch_arrangements.specs.Prelude.{Spends};
 ghost use Rattle.dutch_bracket.specs.Prelude.{frame_of};
 ghost use Rattle.round_lines.specs.Listings.{IsListing, StopsAtLimit};
 ghost use Rattle.round_lines.specs.CandidateTexts.{down_text, candidate_text, line_text, pair_text, pairs_text};
 ghost use Rattle.round_lines.specs.CandidateTexts.{start_of};
 
+use dutch_arrangements::{Budget, Candidate, Rule, Step};
 use dutch_bracket::Reached;
 use dutch_listing::Candidates;
-use dutch_order::{Budget, Candidate, Rule, Step};
 use dutch_player::Field;
 use std::alloc::{AllocError, Global};
 

@@ -10,7 +10,7 @@ use dutch_player::Field;
 use requests::Wording;
 use std::alloc::{AllocError, Global};
 use std::marker::Model;
-use trf16::Report;
+use trf16_report::Report;
 
 /// A round as it is told: its report, those whom it is paired from, and how the lines are worded.
 #[derive(Drop)]

@@ -10,8 +10,8 @@ use crate::page::Page;
 use crate::pieces::Piece::Text;
 use crate::pieces::put;
 use crate::telling::Telling;
+use dutch_arrangements::Candidate;
 use dutch_bracket::{Item, Quality};
-use dutch_order::Candidate;
 use requests::Wording;
 use std::alloc::AllocError;
 

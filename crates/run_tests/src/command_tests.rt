@@ -4,7 +4,7 @@ use dutch_search::WithFloors;
 use std::alloc::{AllocError, Global};
 use std::io;
 use std::io::{ErrorKind, Read, Write};
-use trf16::Counted;
+use trf16_report::Counted;
 
 const FOUR_PLAYERS: &[u8] = b"001    1\n001    2\n001    3\n001    4\n";
 

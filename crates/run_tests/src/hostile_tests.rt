@@ -7,7 +7,7 @@ use dutch_search::WithFloors;
 use std::alloc::{AllocError, Global};
 use std::io;
 use std::io::{ErrorKind, Read, Write};
-use trf16::Counted;
+use trf16_report::Counted;
 
 // Two players who have met.
 const MET: [&str; 2] = ["     2 w 1", "     1 b 0"];

@@ -2,7 +2,7 @@
 -- codes, and as a sentence.
 use Rattle.std.specs.Prelude.{ℕ, ◌==◌, if◌then◌else◌, List, [], ◌++◌, filter, Option, Some, None, codes}
 use Rattle.std.specs.List.{flat_map}
-use Rattle.dutch_pair.specs.Prelude.{Barrier, has_blockers, label, lacks_bye, opens_odd_group, everybody}
+use Rattle.dutch_rounds.specs.Prelude.{Barrier, has_blockers, label, lacks_bye, opens_odd_group, everybody}
 use Rattle.requests.specs.declared.options.Wording.{Wording}
 use Rattle.round_lines.specs.CandidateTexts.{rank_text}
 use Rattle.round_lines.specs.Tellings.{TellingFacts, in_wording, seats_words}

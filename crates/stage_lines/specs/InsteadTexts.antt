@@ -2,9 +2,9 @@
 use Rattle.std.specs.Prelude.{ℕ, ◌==◌, if◌then◌else◌, List, [], ◌++◌, codes}
 use Rattle.std.specs.Fmt.{decimal}
 use Rattle.dutch_bracket.specs.Prelude.{quality_in}
-use Rattle.dutch_pair.specs.declared.instead.Instead.{Instead}
-use Rattle.dutch_pair.specs.declared.instead.Instead.TheVariants.{Best, FewerMovedDown, NoneEligible, NoneLegal, Undecided}
-use Rattle.dutch_pair.specs.declared.stage.Stage.{Stage}
+use Rattle.dutch_rounds.specs.declared.instead.Instead.{Instead}
+use Rattle.dutch_rounds.specs.declared.instead.Instead.TheVariants.{Best, FewerMovedDown, NoneEligible, NoneLegal, Undecided}
+use Rattle.dutch_rounds.specs.declared.stage.Stage.{Stage}
 use Rattle.requests.specs.declared.options.Wording.{Wording}
 use Rattle.round_lines.specs.Tellings.{TellingFacts, in_wording, player_words}
 use Rattle.round_lines.specs.ValueTexts.{candidate_text}

@@ -1,15 +1,15 @@
 // The lines that tell why there is no pairing: who blocks, the odd groups behind them, and that nobody may have the bye
 // (C.04.3 A.9).
 ghost use Rattle.std.specs.Prelude.{◌≡◌, ◌++◌, IfOk, OnOk};
-ghost use Rattle.dutch_pair.specs.Prelude.{everybody};
+ghost use Rattle.dutch_rounds.specs.Prelude.{everybody};
 ghost use Rattle.dutch_bracket.specs.Prelude.{AreSeats};
 ghost use Rattle.stage_lines.specs.BarrierTexts.{barrier_text, blocked_line, blocked_words, group_text};
 ghost use Rattle.stage_lines.specs.BarrierTexts.{groups_text, labelled, lacking_text};
 ghost use Rattle.round_lines.specs.Tellings.{in_wording};
 
-use dutch_order::{Numbers, numbered_from};
-use dutch_pair::{Barrier, lacks_bye};
+use dutch_arrangements::{Numbers, numbered_from};
 use dutch_player::Field;
+use dutch_rounds::{Barrier, lacks_bye};
 use round_lines::page::Page;
 use round_lines::pieces::Piece::{Ranks, Seats, Text};
 use round_lines::pieces::say;
@@ -17,7 +17,7 @@ use round_lines::telling::{Telling, in_wording};
 use std::alloc::{AllocError, Global};
 
 // All seats, by rank.
-#[tactic(auto, using(dutch_pair::proofs::LowerLemmas::everybody_inside))]
+#[tactic(auto, using(dutch_rounds::proofs::LowerLemmas::everybody_inside))]
 fn all_seats(field: &Field) -> Numbers
     ensures all { result.items ≡ everybody field.now }
     ensures seats { AreSeats field.now result.items }

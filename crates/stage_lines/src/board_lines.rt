@@ -1,10 +1,10 @@
 // The lines of the boards of a bracket, and of who is left over where the round ends.
 ghost use Rattle.std.specs.Prelude.{◌≡◌, ◌++◌, OnOk};
-ghost use Rattle.dutch_pair.specs.Prelude.{IsStage};
+ghost use Rattle.dutch_rounds.specs.Prelude.{IsStage};
 ghost use Rattle.stage_lines.specs.ExplainTexts.{boards_text, byes_text, is_told, over_text, pairs_text};
 
-use dutch_pair::Stage;
-use dutch_pair::boards::Board;
+use dutch_rounds::Stage;
+use dutch_rounds::boards::Board;
 use round_lines::page::Page;
 use round_lines::pieces::Piece::{Rank, Seat, Text};
 use round_lines::pieces::say;

@@ -1,13 +1,13 @@
 // The lines of brackets: who is in each, what is chosen, what counts against that, and its boards.
 ghost use Rattle.std.specs.Prelude.{◌≡◌, ◌++◌, OnOk};
 ghost use Rattle.std.specs.List.{AllByRecursion};
-ghost use Rattle.dutch_pair.specs.Prelude.{IsStage};
+ghost use Rattle.dutch_rounds.specs.Prelude.{IsStage};
 ghost use Rattle.stage_lines.specs.ExplainTexts.{chosen_text, is_bracket_told, stage_text, stages_text};
 
 use crate::board_lines::{put_byes, put_pairs};
 use crate::choice_lines::put_choice;
 use crate::item_lines::put_each_item;
-use dutch_pair::{ITEMS, Reached, Stage};
+use dutch_rounds::{ITEMS, Reached, Stage};
 use round_lines::bracket_texts::put_bracket;
 use round_lines::page::Page;
 use round_lines::pieces::Piece::Text;

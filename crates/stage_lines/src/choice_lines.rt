@@ -1,12 +1,12 @@
 // The line of what is chosen in a bracket.
 ghost use Rattle.std.specs.Prelude.{◌≡◌, ◌++◌, OnOk, codes};
 ghost use Rattle.std.specs.List.{flat_map};
-ghost use Rattle.dutch_pair.specs.Prelude.{IsStage};
+ghost use Rattle.dutch_rounds.specs.Prelude.{IsStage};
 ghost use Rattle.stage_lines.specs.ExplainTexts.{all_pairs_words, candidate_line, candidate_words, choice_of_text};
 ghost use Rattle.stage_lines.specs.ExplainTexts.{down_words, pair_words};
 
 use dutch_bracket::seated::{Pair, Seated, by_seats};
-use dutch_pair::Stage;
+use dutch_rounds::Stage;
 use requests::Wording;
 use round_lines::listing::{Bracket, put_line};
 use round_lines::page::Page;
@@ -16,7 +16,7 @@ use round_lines::telling::Telling;
 use std::alloc::AllocError;
 
 /// Puts what is chosen in a bracket: its pairs, and those who go down.
-#[tactic(auto, using(dutch_pair::proofs::WalkEnds::candidate_is))]
+#[tactic(auto, using(dutch_rounds::proofs::WalkEnds::candidate_is))]
 pub fn put_choice(text: &mut Page, telling: &Telling<'_>, stage: &Stage) -> Result<(), AllocError>
     requires { IsStage telling.now.facts stage.now }
     ensures { OnOk result (text.new ≡ text.old ++ choice_of_text telling.now stage.now) }

@@ -5,9 +5,9 @@ ghost use Rattle.stage_lines.specs.InsteadTexts.{best_front, bracket_front, foun
 ghost use Rattle.stage_lines.specs.InsteadTexts.{none_b1_text, none_c4_text, none_c5_text};
 ghost use Rattle.round_lines.specs.ValueTexts.{candidate_text};
 
+use dutch_arrangements::Candidate;
 use dutch_bracket::quality::Quality;
-use dutch_order::Candidate;
-use dutch_pair::{Instead, Stage};
+use dutch_rounds::{Instead, Stage};
 use requests::Wording;
 use round_lines::Asked;
 use round_lines::page::Page;

@@ -1,10 +1,10 @@
 // The lines of what counts against the choice in a bracket, item by item (C.04.3 C.6 to C.19).
 ghost use Rattle.std.specs.Prelude.{◌≡◌, ◌++◌, OnOk};
 ghost use Rattle.std.specs.List.{flat_map};
-ghost use Rattle.dutch_pair.specs.Prelude.{IsStage};
+ghost use Rattle.dutch_rounds.specs.Prelude.{IsStage};
 ghost use Rattle.stage_lines.specs.StageItems.{counted_text, item_text};
 
-use dutch_pair::{Item, Stage, who_counts};
+use dutch_rounds::{Item, Stage, who_counts};
 use round_lines::item_texts::{Counted, players_counted, put_list, put_next, put_psd, put_who};
 use round_lines::page::Page;
 use round_lines::telling::Telling;

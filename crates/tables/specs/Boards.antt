@@ -3,12 +3,12 @@ use Rattle.std.specs.Prelude.{ℕ, ◌+◌, ◌-◌, Bool, true, false, ◌&&◌
 use Rattle.std.specs.List.{filter_map}
 use Rattle.std.specs.declared.cmp.Ordering.{Ordering}
 use Rattle.std.specs.Ordering.{bool_cmp, nat_cmp, ordering_then, is_lt}
-use Rattle.trf16.specs.declared.cell.Bye.TheVariants.{Allocated}
-use Rattle.trf16.specs.declared.cell.Cell.{Cell}
-use Rattle.trf16.specs.declared.cell.Cell.TheVariants.{Bye}
-use Rattle.trf16.specs.declared.cell.Colour.{Colour}
-use Rattle.trf16.specs.declared.cell.Colour.TheVariants.{White, Black}
-use Rattle.trf16.specs.Prelude.{Sheet, cell_in, colour_in_cell, opponent_in_cell, points_upto, ranked_by}
+use Rattle.trf16_report.specs.declared.cell.Bye.TheVariants.{Allocated}
+use Rattle.trf16_report.specs.declared.cell.Cell.{Cell}
+use Rattle.trf16_report.specs.declared.cell.Cell.TheVariants.{Bye}
+use Rattle.trf16_report.specs.declared.cell.Colour.{Colour}
+use Rattle.trf16_report.specs.declared.cell.Colour.TheVariants.{White, Black}
+use Rattle.trf16_report.specs.Prelude.{Sheet, cell_in, colour_in_cell, opponent_in_cell, points_upto, ranked_by}
 use Rattle.tables.specs.declared.board.RankedBoard.{RankedBoard}
 
 -- the colour of the higher ranked of two by what both cells say: White is whose cell alone says w, else whose opponent's cell alone says b,

@@ -1,9 +1,9 @@
 -- The rounds that were paired, seen from one player: their score, whom they met, and whose score a round counts.
 use Rattle.std.specs.Prelude.{ℕ, ◌+◌, ◌-◌, Bool, false, ◌==◌, List}
 use Rattle.std.specs.List.{list_any, range_with_len}
-use Rattle.trf16.specs.declared.cell.Cell.{Cell}
-use Rattle.trf16.specs.declared.cell.Cell.TheVariants.{Game}
-use Rattle.trf16.specs.Prelude.{Sheet, rounds_played, points_upto, cell_in, half_points}
+use Rattle.trf16_report.specs.declared.cell.Cell.{Cell}
+use Rattle.trf16_report.specs.declared.cell.Cell.TheVariants.{Game}
+use Rattle.trf16_report.specs.Prelude.{Sheet, rounds_played, points_upto, cell_in, half_points}
 
 -- the rounds that were paired, from 1 to the last [tie-breaks]
 abbrev pub rounds_of : Sheet → List ℕ

@@ -3,9 +3,9 @@ use Rattle.std.specs.Prelude.{ℕ, ◌*◌, Bool, false, ◌&&◌, ◌||◌, ◌
 use Rattle.std.specs.List.{list_all, list_any}
 use Rattle.std.specs.Option.{option_eq}
 use Rattle.std.specs.Cmp.Lexicographic.{pointwise}
-use Rattle.trf16.specs.declared.cell.Cell.{Cell}
-use Rattle.trf16.specs.declared.cell.Cell.TheVariants.{Game}
-use Rattle.trf16.specs.Prelude.{Sheet, cell_in, game_points, half_points}
+use Rattle.trf16_report.specs.declared.cell.Cell.{Cell}
+use Rattle.trf16_report.specs.declared.cell.Cell.TheVariants.{Game}
+use Rattle.trf16_report.specs.Prelude.{Sheet, cell_in, game_points, half_points}
 use Rattle.tables.specs.declared.key.Key.{Key}
 use Rattle.tables.specs.declared.key.Key.TheVariants.{Direct, Buchholz, SonnebornBerger}
 use Rattle.tables.specs.Games.{rounds_of, have_met, opponent_score}

@@ -4,9 +4,9 @@ use Rattle.std.specs.Option.{option_cmp}
 use Rattle.std.specs.Cmp.Lexicographic.{slice_cmp}
 use Rattle.std.specs.declared.cmp.Ordering.{Ordering}
 use Rattle.std.specs.Ordering.{nat_cmp, ordering_then, is_lt}
-use Rattle.trf16.specs.declared.kind.LineKind.TheVariants.{Xxs}
-use Rattle.trf16.specs.Prelude.{Entry, Sheet, unfinished, first_of, ranked_by, IsRankedBy}
-use Rattle.trf16.specs.Outcomes.{◌>>=◌}
+use Rattle.trf16_report.specs.declared.kind.LineKind.TheVariants.{Xxs}
+use Rattle.trf16_report.specs.Prelude.{Entry, Sheet, unfinished, first_of, ranked_by, IsRankedBy}
+use Rattle.trf16_report.specs.Outcomes.{◌>>=◌}
 use Rattle.tables.specs.declared.key.Key.{Key}
 use Rattle.tables.specs.declared.fault.TieFault.{TieFault}
 use Rattle.tables.specs.declared.fault.TieFault.TheVariants.{Unfinished, Unsupported}

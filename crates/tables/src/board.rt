@@ -5,7 +5,7 @@ ghost use Rattle.tables.specs.Boards.{colour_by, colour_in, board_goes_before, r
 
 use crate::ranking::{Placed, ranked};
 use std::alloc::{AllocError, Global};
-use trf16::{Bye, Cell, Colour, Report};
+use trf16_report::{Bye, Cell, Colour, Report};
 
 /// The start ranks of white and of black at a board; black 0 is nobody, since white has the bye.
 pub type Board = (u16, u16);

@@ -3,15 +3,19 @@ ghost use Rattle.std.specs.Prelude.{◌≡◌};
 ghost use Rattle.tables.specs.declared.fault.TieFault.TheVariants.{OutOfMemory};
 
 use std::alloc::{AllocError, AllocFailed};
+use thiserror::Error;
 
 /// Why a report has no standings. Lines and rounds count from 1.
-#[derive(Clone, Copy)]
+#[derive(Debug, Clone, Copy, Error)]
 pub enum TieFault {
     /// A game has no result yet.
+    #[error("player {player} round {round}: unfinished")]
     Unfinished { player: u16, round: usize },
     /// A line `XXS`.
+    #[error("line {line}: unsupported")]
     Unsupported { line: usize },
     /// Memory was refused.
+    #[error("out of memory")]
     OutOfMemory,
 }
 

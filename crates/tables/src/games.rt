@@ -1,9 +1,9 @@
 // The rounds that were paired, seen from one player: whom they met, and whose score a round counts.
 ghost use Rattle.std.specs.Prelude.{◌≡◌, ◌<◌, ◌≤◌};
-ghost use Rattle.trf16.specs.Prelude.{rounds_played};
+ghost use Rattle.trf16_report.specs.Prelude.{rounds_played};
 ghost use Rattle.tables.specs.Games.{is_game_with, have_met, virtual_score, opponent_score};
 
-use trf16::{Cell, Report};
+use trf16_report::{Cell, Report};
 
 fn is_game_with(cell: &Cell, other: u16) -> bool
     ensures { result ≡ is_game_with other cell.now }

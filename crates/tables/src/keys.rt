@@ -9,7 +9,7 @@ use crate::games::{have_met, opponent_score};
 use crate::key::Key;
 use crate::row::Row;
 use std::alloc::{AllocError, Global};
-use trf16::{Cell, Report};
+use trf16_report::{Cell, Report};
 
 #[tactic(auto, using(crate::proofs::RoundLemmas::next))]
 fn buchholz(report: &Report<'_>, start: u16) -> u32

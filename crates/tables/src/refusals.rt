@@ -4,7 +4,7 @@ ghost use Rattle.tables.specs.declared.fault.TieFault.TheVariants.{OutOfMemory};
 ghost use Rattle.tables.specs.Standings.{judged};
 
 use crate::fault::TieFault;
-use trf16::{LineKind, Report};
+use trf16_report::{LineKind, Report};
 
 /// Refuses a game without a result, and other points for games.
 #[tactic(auto, unfolding(crate::specs::Standings::judged))]

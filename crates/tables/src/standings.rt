@@ -11,7 +11,7 @@ use crate::refusals::judged;
 use crate::row::Row;
 use std::alloc::{AllocError, Global};
 use std::marker::Model;
-use trf16::Report;
+use trf16_report::Report;
 
 /// All players of a report in order: higher score first, then the higher value in the first key in which two differ,
 /// then the smaller start rank.

@@ -4,9 +4,9 @@ use Rattle.std.specs.Str.{is_utf8, chars, encode_utf8_all}
 use Rattle.std.specs.Char.{encode_utf8}
 use Rattle.std.proofs.lemmas.Bool.Decides.{nat_tests}
 use Rattle.std.proofs.lemmas.Str.{IsUtf8-from_is_utf8, chars-encodes}
-use Rattle.trf16.specs.Prelude.{goes_on, columns}
-use Rattle.trf16.proofs.ColumnLemmas.{columns-bytes}
-use Rattle.trf16.proofs.WrittenColumns.{starts, starts-append, columns-append, IsColumn}
+use Rattle.trf16_report.specs.Prelude.{goes_on, columns}
+use Rattle.trf16_report.proofs.ColumnLemmas.{columns-bytes}
+use Rattle.trf16_report.proofs.WrittenColumns.{starts, starts-append, columns-append, IsColumn}
 
 next_goes_on : (bits : ℕ) → goes_on (128 + bits % 64) ≡ true
 next_goes_on bits = let small : bits % 64 < 64 = omega arith in grind (arith, nat_tests)

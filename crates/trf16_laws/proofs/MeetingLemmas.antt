@@ -4,13 +4,13 @@ use Rattle.std.specs.Prelude.{IfSome, ◌==◌, sum_by}
 use Rattle.std.specs.Option.{option_map_or}
 use Rattle.std.proofs.lemmas.Bool.{eqb-true, eqb-false, ltb-true, leb-true, cases_lt, and_parts, or_cases, not-false}
 use Rattle.std.proofs.lemmas.List.{get_or_past}
-use Rattle.trf16.specs.Prelude.{Entry, Sheet, known, cell_in, cells_of, game_points, half_points, opponent_in_cell, colour_in_cell, rounds_played, are_opposite, is_forfeit, are_of_one_class, has_other_points, pair_fits, cell_fits, cells_fit, points_fit, player_fits, players_fit, verdict, AnswerEachOther, AreSum, HavePoints}
-use Rattle.trf16.proofs.StepLemmas.{then_ok}
+use Rattle.trf16_report.specs.Prelude.{Entry, Sheet, known, cell_in, cells_of, game_points, half_points, opponent_in_cell, colour_in_cell, rounds_played, are_opposite, is_forfeit, are_of_one_class, has_other_points, pair_fits, cell_fits, cells_fit, points_fit, player_fits, players_fit, verdict, AnswerEachOther, AreSum, HavePoints}
+use Rattle.trf16_report.proofs.StepLemmas.{then_ok}
 use Rattle.trf16_writer.proofs.AcceptedReport.{accepted}
-use Rattle.trf16.specs.declared.cell.Cell.{Cell}
-use Rattle.trf16.specs.declared.cell.Cell.TheVariants.{Blank}
-use Rattle.trf16.specs.declared.fault.Fault.{Fault}
-use Rattle.trf16.specs.declared.fault.Fault.TheVariants.{NoSuchOpponent, SelfOpponent, NotMutual, Colours, Results, Points}
+use Rattle.trf16_report.specs.declared.cell.Cell.{Cell}
+use Rattle.trf16_report.specs.declared.cell.Cell.TheVariants.{Blank}
+use Rattle.trf16_report.specs.declared.fault.Fault.{Fault}
+use Rattle.trf16_report.specs.declared.fault.Fault.TheVariants.{NoSuchOpponent, SelfOpponent, NotMutual, Colours, Results, Points}
 
 abbrev fits : Result (Unit {0}) Fault
 fits = Ok (tt {0})

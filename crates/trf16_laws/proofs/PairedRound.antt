@@ -12,21 +12,21 @@ use Rattle.std.proofs.lemmas.Bool.{and_parts, and_from, eqb-true, eqb-false, ne_
 use Rattle.std.proofs.lemmas.List.{get_or_past}
 use Rattle.std.proofs.lemmas.List.Elements.{recursion_from_All}
 use Rattle.std.proofs.lemmas.Map.Keys.{IsDistinct-head, IsDistinct-tail}
-use Rattle.trf16.specs.Prelude.{without_last, Entry, Sheet, known, cell_in, cells_of, is_paired, last_paired, last_paired_of, rounds_played, half_points, opponent_in_cell, has_other_points, pair_fits, cell_fits, cells_fit, points_fit, player_fits, players_fit, is_blank_cell, verdict, written, CanBePaired, named_by, cell_by, with_cell, cells_with, entry_with, with_round}
-use Rattle.trf16.specs.declared.cell.Colour.TheVariants.{White, Black}
-use Rattle.trf16.specs.declared.cell.Bye.TheVariants.{Allocated}
-use Rattle.trf16.specs.declared.cell.Cell.{Cell}
-use Rattle.trf16.specs.declared.cell.Cell.TheVariants.{Blank, Bye, Game, Forfeit, Unfinished}
-use Rattle.trf16.specs.declared.fault.Fault.{Fault}
-use Rattle.trf16.specs.declared.fault.Fault.TheVariants.{NoSuchOpponent, SelfOpponent, NotMutual, Points}
+use Rattle.trf16_report.specs.Prelude.{without_last, Entry, Sheet, known, cell_in, cells_of, is_paired, last_paired, last_paired_of, rounds_played, half_points, opponent_in_cell, has_other_points, pair_fits, cell_fits, cells_fit, points_fit, player_fits, players_fit, is_blank_cell, verdict, written, CanBePaired, named_by, cell_by, with_cell, cells_with, entry_with, with_round}
+use Rattle.trf16_report.specs.declared.cell.Colour.TheVariants.{White, Black}
+use Rattle.trf16_report.specs.declared.cell.Bye.TheVariants.{Allocated}
+use Rattle.trf16_report.specs.declared.cell.Cell.{Cell}
+use Rattle.trf16_report.specs.declared.cell.Cell.TheVariants.{Blank, Bye, Game, Forfeit, Unfinished}
+use Rattle.trf16_report.specs.declared.fault.Fault.{Fault}
+use Rattle.trf16_report.specs.declared.fault.Fault.TheVariants.{NoSuchOpponent, SelfOpponent, NotMutual, Points}
 use Rattle.trf16_writer.proofs.BoardLemmas.{eq-self, eq-sym, all_in}
-use Rattle.trf16.proofs.StepLemmas.{then_ok}
+use Rattle.trf16_report.proofs.StepLemmas.{then_ok}
 use Rattle.trf16_laws.proofs.MeetingLemmas.{cell_of-fit}
 use Rattle.trf16_laws.proofs.WrittenCells.{is_sound}
 use Rattle.trf16_laws.proofs.WrittenPlayers.{IsSoundEntry}
 use Rattle.trf16_writer.proofs.AcceptedReport.{accepted}
 use Rattle.trf16_laws.proofs.WrittenReport.{Turns, known-turned, are_all_sound, were_sound, written_again}
-use Rattle.trf16.specs.declared.limits.TheConstants.{MOST_ROUNDS, MOST_BYTES}
+use Rattle.trf16_report.specs.declared.limits.TheConstants.{MOST_ROUNDS, MOST_BYTES}
 
 abbrev fits : Result (Unit {0}) Fault
 fits = Ok (tt {0})

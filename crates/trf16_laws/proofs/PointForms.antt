@@ -5,7 +5,7 @@ use Rattle.std.specs.Char.{is_ascii_digit}
 use Rattle.std.proofs.lemmas.Bool.{and_parts, and_from, or_cases, eqb-true}
 use Rattle.std.proofs.lemmas.Bool.Decides.{nat_tests}
 use Rattle.std.proofs.lemmas.Option.{none-some}
-use Rattle.trf16.specs.Prelude.{number_after, half_after, points_after, points_of, SpellsHalf, SpellsPoints}
+use Rattle.trf16_report.specs.Prelude.{number_after, half_after, points_after, points_of, SpellsHalf, SpellsPoints}
 
 half_spelled : (whole mark : ℕ) (rest : List ℕ) (points : ℕ) → ((mark == 46) || (mark == 44)) ≡ true → half_after whole rest ≡ Some points
     → (half : ℕ) × SpellsHalf (mark ∷ rest) half × (points ≡ 2 * whole + half)

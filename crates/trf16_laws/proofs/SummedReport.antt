@@ -7,17 +7,17 @@ use Rattle.std.proofs.Common.{◌≡◌, ◌⊎◌, inl, inr, ℕ, ◌+◌, ◌�
 use Rattle.std.specs.Prelude.{sum_by}
 use Rattle.std.specs.List.{list_any}
 use Rattle.std.specs.Option.{option_map_or}
-use Rattle.trf16.specs.Prelude.{Entry, Sheet, known, cell_at, cell_in, cells_of, half_points, last_paired, last_paired_of, rounds_played, has_other_points, cells_fit, points_fit, player_fits, players_fit, IsButForPoints, all_cells_fit, entry_summed, summed, verdict_unsummed, laid_out, verdict, written}
-use Rattle.trf16.specs.Outcomes.{◌>>=◌}
-use Rattle.trf16.specs.declared.cell.Cell.{Cell}
-use Rattle.trf16.specs.declared.fault.Fault.{Fault}
-use Rattle.trf16.specs.declared.fault.Fault.TheVariants.{Points}
+use Rattle.trf16_report.specs.Prelude.{Entry, Sheet, known, cell_at, cell_in, cells_of, half_points, last_paired, last_paired_of, rounds_played, has_other_points, cells_fit, points_fit, player_fits, players_fit, IsButForPoints, all_cells_fit, entry_summed, summed, verdict_unsummed, laid_out, verdict, written}
+use Rattle.trf16_report.specs.Outcomes.{◌>>=◌}
+use Rattle.trf16_report.specs.declared.cell.Cell.{Cell}
+use Rattle.trf16_report.specs.declared.fault.Fault.{Fault}
+use Rattle.trf16_report.specs.declared.fault.Fault.TheVariants.{Points}
 use Rattle.trf16_writer.proofs.BoardLemmas.{eq-self}
 use Rattle.trf16_laws.proofs.PairedRound.{fits-same}
-use Rattle.trf16.proofs.StepLemmas.{then_ok}
+use Rattle.trf16_report.proofs.StepLemmas.{then_ok}
 use Rattle.trf16_writer.proofs.AcceptedReport.{IsLaidOutOf, rule_met}
 use Rattle.trf16_laws.proofs.WrittenReport.{Turns, laid_again}
-use Rattle.trf16.specs.declared.limits.TheConstants.{MOST_BYTES}
+use Rattle.trf16_report.specs.declared.limits.TheConstants.{MOST_BYTES}
 
 abbrev fits : Result (Unit {0}) Fault
 fits = Ok (tt {0})

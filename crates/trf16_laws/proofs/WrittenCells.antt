@@ -8,17 +8,17 @@ use Rattle.std.specs.Char.{is_ascii, is_ascii_digit, to_ascii_uppercase}
 use Rattle.std.proofs.lemmas.Bool.{and_parts, and_from, ltb-true, ne_eqb}
 use Rattle.std.proofs.lemmas.Bool.Decides.{nat_tests}
 use Rattle.std.proofs.lemmas.List.{length-append, length-replicate}
-use Rattle.trf16.specs.Prelude.{words, cell_from, cell_of, opponent_in, opponent_in_cell, blanks, right_in_four, colour_letter, meeting_text, cell_text}
-use Rattle.trf16.specs.declared.cell.Colour.{Colour}
-use Rattle.trf16.specs.declared.cell.Colour.TheVariants.{White, Black}
-use Rattle.trf16.specs.declared.cell.Bye.{Bye as ByeKind}
-use Rattle.trf16.specs.declared.cell.Bye.TheVariants.{Half, Full, Allocated, Zero}
-use Rattle.trf16.specs.declared.cell.GameOutcome.{GameOutcome}
-use Rattle.trf16.specs.declared.cell.GameOutcome.TheVariants.{Win, Draw, Loss}
-use Rattle.trf16.specs.declared.cell.Cell.{Cell}
-use Rattle.trf16.specs.declared.cell.Cell.TheVariants.{Blank, Bye, Game, Forfeit, Unfinished}
+use Rattle.trf16_report.specs.Prelude.{words, cell_from, cell_of, opponent_in, opponent_in_cell, blanks, right_in_four, colour_letter, meeting_text, cell_text}
+use Rattle.trf16_report.specs.declared.cell.Colour.{Colour}
+use Rattle.trf16_report.specs.declared.cell.Colour.TheVariants.{White, Black}
+use Rattle.trf16_report.specs.declared.cell.Bye.{Bye as ByeKind}
+use Rattle.trf16_report.specs.declared.cell.Bye.TheVariants.{Half, Full, Allocated, Zero}
+use Rattle.trf16_report.specs.declared.cell.GameOutcome.{GameOutcome}
+use Rattle.trf16_report.specs.declared.cell.GameOutcome.TheVariants.{Win, Draw, Loss}
+use Rattle.trf16_report.specs.declared.cell.Cell.{Cell}
+use Rattle.trf16_report.specs.declared.cell.Cell.TheVariants.{Blank, Bye, Game, Forfeit, Unfinished}
 use Rattle.trf16_laws.proofs.WrittenNumbers.{words-blanks, words-digits, digits-decimal, length-decimal, number_of-decimal}
-use Rattle.trf16.proofs.WrittenColumns.{is_plain}
+use Rattle.trf16_report.proofs.WrittenColumns.{is_plain}
 
 -- the opponent that a cell names is a start rank
 abbrev pub is_sound : Cell → Bool

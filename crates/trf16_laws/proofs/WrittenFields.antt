@@ -8,11 +8,11 @@ use Rattle.std.proofs.lemmas.Bool.Decides.{nat_tests}
 use Rattle.std.proofs.lemmas.List.{length-append, length-replicate, length-take, take-append-drop, drop-drop}
 use Rattle.std.proofs.lemmas.Option.{none-some}
 use Rattle.std.proofs.lemmas.List.Folds.{list_all-append as all-append}
-use Rattle.trf16.specs.Prelude.{columns, joined, is_blank, words, number_in, half_after, points_after, points_of, points_in, without_last, trimmed, blanks, left_in, points_field}
-use Rattle.trf16.proofs.FieldLemmas.{without_last-append}
-use Rattle.trf16.proofs.ColumnLemmas.{joined-columns, joined-append}
+use Rattle.trf16_report.specs.Prelude.{columns, joined, is_blank, words, number_in, half_after, points_after, points_of, points_in, without_last, trimmed, blanks, left_in, points_field}
+use Rattle.trf16_report.proofs.FieldLemmas.{without_last-append}
+use Rattle.trf16_report.proofs.ColumnLemmas.{joined-columns, joined-append}
 use Rattle.trf16_laws.proofs.WrittenNumbers.{points_are}
-use Rattle.trf16.proofs.WrittenColumns.{is_plain, each, length-each, starts, starts-append, starts-ascii, starts-joined, columns-append, columns-ascii, columns-joined, columns-fewer, AreColumns, AreColumns-drop, AreColumns-take, columns-are, ascii-plain}
+use Rattle.trf16_report.proofs.WrittenColumns.{is_plain, each, length-each, starts, starts-append, starts-ascii, starts-joined, columns-append, columns-ascii, columns-joined, columns-fewer, AreColumns, AreColumns-drop, AreColumns-take, columns-are, ascii-plain}
 use Rattle.trf16_laws.proofs.WrittenCells.{plain-blanks, ascii-digits, list_all-append}
 use Rattle.trf16_writer.proofs.ReadStarts.{number_is}
 use Rattle.trf16_laws.proofs.WrittenRounds.{then_some, ascii-words, ascii_both}

@@ -6,9 +6,9 @@ use Rattle.std.specs.Char.{is_ascii_digit}
 use Rattle.std.proofs.lemmas.Bool.{le-leb, cases_lt, and_parts, eqb-true, true≢false}
 use Rattle.std.proofs.lemmas.Bool.Decides.{nat_tests}
 use Rattle.std.proofs.lemmas.Fmt.{digits_decimal, digits_value-decimal, length-decimal-le, decimal_nonempty}
-use Rattle.trf16.specs.Prelude.{words, number_after, number_of, number_in, points_in, blanks, right_in_four, points_text}
-use Rattle.trf16.proofs.WrittenColumns.{is_plain}
-use Rattle.trf16.proofs.FieldLemmas.{words-blank, not_blank}
+use Rattle.trf16_report.specs.Prelude.{words, number_after, number_of, number_in, points_in, blanks, right_in_four, points_text}
+use Rattle.trf16_report.proofs.WrittenColumns.{is_plain}
+use Rattle.trf16_report.proofs.FieldLemmas.{words-blank, not_blank}
 use Rattle.trf16_writer.proofs.ReadStarts.{own}
 
 small : (n : ℕ) → n < 10000 → n < 2 ^ 64

@@ -9,25 +9,25 @@ use Rattle.std.proofs.lemmas.Bool.{and_parts, true≢false}
 use Rattle.std.proofs.lemmas.List.{append-nil, length-append, drop-drop, drop_at, drop_all}
 use Rattle.std.proofs.lemmas.Slice.Eq.{bytes_eq-Decides}
 use Rattle.std.proofs.Math.Bool.{and-true}
-use Rattle.trf16.specs.Prelude.{columns, joined, text, is_blank, words, number_in, points_in, without_last, trimmed, cell_from, Entry, Sheet, known, blank_at, blanks_at, start_number_at, start_at, points_at, rounds_at, is_blank_cell, cells_at, player_at, is_player, is_too_long, right_in_four, left_in, points_field, cell_text, round_text, player_text}
-use Rattle.trf16.specs.Outcomes.{◌>>=◌}
-use Rattle.trf16.specs.declared.cell.Cell.{Cell}
-use Rattle.trf16.specs.declared.cell.Cell.TheVariants.{Blank}
-use Rattle.trf16.specs.declared.fault.Fault.{Fault}
-use Rattle.trf16.specs.declared.fault.Fault.TheVariants.{BadNumber}
-use Rattle.trf16.proofs.ColumnLemmas.{joined-columns}
+use Rattle.trf16_report.specs.Prelude.{columns, joined, text, is_blank, words, number_in, points_in, without_last, trimmed, cell_from, Entry, Sheet, known, blank_at, blanks_at, start_number_at, start_at, points_at, rounds_at, is_blank_cell, cells_at, player_at, is_player, is_too_long, right_in_four, left_in, points_field, cell_text, round_text, player_text}
+use Rattle.trf16_report.specs.Outcomes.{◌>>=◌}
+use Rattle.trf16_report.specs.declared.cell.Cell.{Cell}
+use Rattle.trf16_report.specs.declared.cell.Cell.TheVariants.{Blank}
+use Rattle.trf16_report.specs.declared.fault.Fault.{Fault}
+use Rattle.trf16_report.specs.declared.fault.Fault.TheVariants.{BadNumber}
+use Rattle.trf16_report.proofs.ColumnLemmas.{joined-columns}
 use Rattle.trf16_laws.proofs.WrittenNumbers.{numbers}
-use Rattle.trf16.proofs.WrittenColumns.{is_plain, each, joined-each, length-each, starts-append, starts-ascii, columns-append, columns-ascii, AreColumns, AreColumns-drop, columns-are, ascii-plain, slice_part}
+use Rattle.trf16_report.proofs.WrittenColumns.{is_plain, each, joined-each, length-each, starts-append, starts-ascii, columns-append, columns-ascii, AreColumns, AreColumns-drop, columns-are, ascii-plain, slice_part}
 use Rattle.trf16_laws.proofs.WrittenCells.{is_sound, fields_of, list_all-append, plain-number, length-four, four_are}
-use Rattle.trf16.proofs.StepLemmas.{then_ok, same_ok}
+use Rattle.trf16_report.proofs.StepLemmas.{then_ok, same_ok}
 use Rattle.trf16_writer.proofs.ReadStarts.{ok_or_ok, start_is}
 use Rattle.trf16_laws.proofs.WrittenRounds.{blank_ok, blanks_ok, tail_of, tail-rounds, lead_blank, rounds-written, rounds_were, ascii-blank, ascii_from, joined_at, fields_are}
 use Rattle.trf16_laws.proofs.WrittenText.{is_inside, utf8_split, utf8_nil, utf8_behind, utf8_front}
-use Rattle.trf16.proofs.FieldLemmas.{without_last-append}
-use Rattle.trf16.proofs.ReadingLemmas.{all_are_blank}
+use Rattle.trf16_report.proofs.FieldLemmas.{without_last-append}
+use Rattle.trf16_report.proofs.ReadingLemmas.{all_are_blank}
 use Rattle.trf16_reader.proofs.RoundSteps.{text-behind, blank_from, blanks_from}
 use Rattle.trf16_laws.proofs.WrittenFields.{without_last-twice, cut, all_cut, length_cut, IsCarried, carried_is, filled, inside-plain, are_small, points_field_is, ascii-points, ascii-number}
-use Rattle.trf16.specs.declared.limits.TheConstants.{MOST_ROUNDS, LAST_COLUMN}
+use Rattle.trf16_report.specs.declared.limits.TheConstants.{MOST_ROUNDS, LAST_COLUMN}
 
 -- what the line of a player is
 pub record IsPlayer (sheet : Sheet) (n : ℕ) (line : List (List ℕ)) (entry : Entry) : Type 0 where

@@ -16,19 +16,19 @@ use Rattle.std.specs.Str.{is_utf8}
 use Rattle.std.proofs.lemmas.Bool.{and_parts, or_parts, or_cases, eqb-true, ltb-true, le-ltb}
 use Rattle.std.proofs.lemmas.List.{append-nil, map-append, map-id, length-map}
 use Rattle.std.proofs.lemmas.List.Sums.{sum_by-cons, sum_by-take-le}
-use Rattle.trf16.specs.Prelude.{columns, lines, without_marks, Entry, Sheet, with_player, known, half_points, rounds_played, cells_fit, points_fit, player_fits, players_fit, has_other_points, player_at, is_player, is_too_long, player_onto, line_onto, lines_onto, carried_line, without_players, has_too_many_rounds, sized, laid_out, verdict, player_text, lines_text, written}
-use Rattle.trf16.specs.declared.cell.Bye.TheVariants.{Half, Full, Allocated, Zero}
-use Rattle.trf16.specs.declared.cell.GameOutcome.TheVariants.{Win, Draw, Loss}
-use Rattle.trf16.specs.declared.cell.Cell.{Cell}
-use Rattle.trf16.specs.declared.cell.Cell.TheVariants.{Blank, Bye, Game, Forfeit, Unfinished}
-use Rattle.trf16.specs.declared.fault.Fault.{Fault}
-use Rattle.trf16.specs.declared.fault.Fault.TheVariants.{Points}
-use Rattle.trf16.proofs.StepLemmas.{then_ok, same_ok}
-use Rattle.trf16.proofs.LineSteps.{turned, line_keeps, line_adds}
+use Rattle.trf16_report.specs.Prelude.{columns, lines, without_marks, Entry, Sheet, with_player, known, half_points, rounds_played, cells_fit, points_fit, player_fits, players_fit, has_other_points, player_at, is_player, is_too_long, player_onto, line_onto, lines_onto, carried_line, without_players, has_too_many_rounds, sized, laid_out, verdict, player_text, lines_text, written}
+use Rattle.trf16_report.specs.declared.cell.Bye.TheVariants.{Half, Full, Allocated, Zero}
+use Rattle.trf16_report.specs.declared.cell.GameOutcome.TheVariants.{Win, Draw, Loss}
+use Rattle.trf16_report.specs.declared.cell.Cell.{Cell}
+use Rattle.trf16_report.specs.declared.cell.Cell.TheVariants.{Blank, Bye, Game, Forfeit, Unfinished}
+use Rattle.trf16_report.specs.declared.fault.Fault.{Fault}
+use Rattle.trf16_report.specs.declared.fault.Fault.TheVariants.{Points}
+use Rattle.trf16_report.proofs.StepLemmas.{then_ok, same_ok}
+use Rattle.trf16_report.proofs.LineSteps.{turned, line_keeps, line_adds}
 use Rattle.trf16_laws.proofs.WrittenText.{is_inside, are_inside, are_utf8, lines-line, lines-inside, utf8_lines, has_mark, no_mark, without_marks-no_mark, line-no_mark}
 use Rattle.trf16_laws.proofs.WrittenFields.{are_small}
 use Rattle.trf16_laws.proofs.WrittenPlayers.{IsPlayer, IsSoundEntry, player_is, was_player, written_player}
-use Rattle.trf16.specs.declared.limits.TheConstants.{MOST_ROUNDS, MOST_BYTES}
+use Rattle.trf16_report.specs.declared.limits.TheConstants.{MOST_ROUNDS, MOST_BYTES}
 use Rattle.trf16_writer.proofs.AcceptedReport.{IsLaidOut, IsLaidOutOf, accepted, first_onto, sized_is}
 
 -- a change of players that leaves their start ranks, lines and carried columns, and whom the reading can find again

@@ -7,16 +7,16 @@ use Rattle.std.specs.Char.{is_ascii, to_ascii_uppercase}
 use Rattle.std.proofs.lemmas.Bool.{and_parts, and_from, lt-ltb, ltb-false, ne_eqb, eqb-true}
 use Rattle.std.proofs.lemmas.Bool.Decides.{nat_tests, eqb_tells}
 use Rattle.std.proofs.lemmas.List.{drop-drop, take-append-drop, map-append}
-use Rattle.trf16.specs.Prelude.{joined, text, is_blank, onto_first, words, number_of, cell_from, cell_of, opponent_in, opponent_of, mark_in, bye_cell, game_cell, forfeit_cell, outcome_of, colour_of, is_no_colour, opponent_in_cell, blank_at, blanks_at, round_at, rounds_at, cell_text, round_text}
-use Rattle.trf16.specs.Outcomes.{◌>>=◌}
-use Rattle.trf16.specs.declared.cell.Colour.{Colour}
-use Rattle.trf16.specs.declared.cell.GameOutcome.{GameOutcome}
-use Rattle.trf16.specs.declared.cell.Cell.{Cell}
-use Rattle.trf16.specs.declared.cell.Cell.TheVariants.{Blank, Game}
-use Rattle.trf16.specs.declared.fault.Fault.TheVariants.{BadCell, Misaligned}
-use Rattle.trf16.proofs.StepLemmas.{then_ok, same_ok}
-use Rattle.trf16.proofs.WrittenColumns.{each}
-use Rattle.trf16.proofs.ColumnLemmas.{joined-append}
+use Rattle.trf16_report.specs.Prelude.{joined, text, is_blank, onto_first, words, number_of, cell_from, cell_of, opponent_in, opponent_of, mark_in, bye_cell, game_cell, forfeit_cell, outcome_of, colour_of, is_no_colour, opponent_in_cell, blank_at, blanks_at, round_at, rounds_at, cell_text, round_text}
+use Rattle.trf16_report.specs.Outcomes.{◌>>=◌}
+use Rattle.trf16_report.specs.declared.cell.Colour.{Colour}
+use Rattle.trf16_report.specs.declared.cell.GameOutcome.{GameOutcome}
+use Rattle.trf16_report.specs.declared.cell.Cell.{Cell}
+use Rattle.trf16_report.specs.declared.cell.Cell.TheVariants.{Blank, Game}
+use Rattle.trf16_report.specs.declared.fault.Fault.TheVariants.{BadCell, Misaligned}
+use Rattle.trf16_report.proofs.StepLemmas.{then_ok, same_ok}
+use Rattle.trf16_report.proofs.WrittenColumns.{each}
+use Rattle.trf16_report.proofs.ColumnLemmas.{joined-append}
 use Rattle.trf16_laws.proofs.WrittenCells.{is_sound, fields_of, four_are, list_all-append, ascii-digits}
 use Rattle.trf16_reader.proofs.RoundSteps.{text-behind, IsRound, round_from, none_written, next_columns}
 use Rattle.trf16_writer.proofs.ReadStarts.{number_is, ok_or_ok}

@@ -1,10 +1,10 @@
 // Laws of every accepted report.
 ghost use Rattle.std.specs.Prelude.{◌≡◌, ℕ, List, Ok};
-ghost use Rattle.trf16.specs.Sheet.{Sheet};
-ghost use Rattle.trf16.specs.StartRanks.{HasOwnStarts};
-ghost use Rattle.trf16.specs.Summed.{IsButForPoints, verdict_unsummed};
-ghost use Rattle.trf16.specs.Verdict.{verdict};
-ghost use Rattle.trf16.specs.Meetings.{AnswerEachOther, HavePoints};
+ghost use Rattle.trf16_report.specs.Sheet.{Sheet};
+ghost use Rattle.trf16_report.specs.StartRanks.{HasOwnStarts};
+ghost use Rattle.trf16_report.specs.Summed.{IsButForPoints, verdict_unsummed};
+ghost use Rattle.trf16_report.specs.Verdict.{verdict};
+ghost use Rattle.trf16_report.specs.Meetings.{AnswerEachOther, HavePoints};
 
 /// The verdict on a text whose points fields are not compared is the verdict without its last rule: if the two differ,
 /// the verdict is that some points field is no sum.

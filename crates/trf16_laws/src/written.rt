@@ -5,17 +5,17 @@ ghost use Rattle.std.specs.Fmt.{decimal};
 ghost use Rattle.std.specs.List.{list_all};
 ghost use Rattle.std.specs.Str.{byte, is_utf8, chars};
 ghost use Rattle.std.specs.Char.{encode_utf8};
-ghost use Rattle.trf16.specs.Lines.{ends_line, lines, columns};
-ghost use Rattle.trf16.specs.Cells.{cell_from};
-ghost use Rattle.trf16.specs.Fields.{words, number_in, points_of, points_in};
-ghost use Rattle.trf16.specs.Points.{SpellsPoints};
-ghost use Rattle.trf16.specs.Sheet.{Sheet};
-ghost use Rattle.trf16.specs.Summed.{summed, verdict_unsummed};
-ghost use Rattle.trf16.specs.Verdict.{verdict};
-ghost use Rattle.trf16.specs.Written.{right_in_four, points_text, cell_text, written};
-ghost use Rattle.trf16.specs.Round.{CanBePaired, with_round};
-ghost use Rattle.trf16.specs.declared.cell.Cell.{Cell};
-ghost use Rattle.trf16.specs.declared.limits.TheConstants.{MOST_BYTES};
+ghost use Rattle.trf16_report.specs.Lines.{ends_line, lines, columns};
+ghost use Rattle.trf16_report.specs.Cells.{cell_from};
+ghost use Rattle.trf16_report.specs.Fields.{words, number_in, points_of, points_in};
+ghost use Rattle.trf16_report.specs.Points.{SpellsPoints};
+ghost use Rattle.trf16_report.specs.Sheet.{Sheet};
+ghost use Rattle.trf16_report.specs.Summed.{summed, verdict_unsummed};
+ghost use Rattle.trf16_report.specs.Verdict.{verdict};
+ghost use Rattle.trf16_report.specs.Written.{right_in_four, points_text, cell_text, written};
+ghost use Rattle.trf16_report.specs.Round.{CanBePaired, with_round};
+ghost use Rattle.trf16_report.specs.declared.cell.Cell.{Cell};
+ghost use Rattle.trf16_report.specs.declared.limits.TheConstants.{MOST_BYTES};
 
 /// A number of one to four digits that is written at the right of four columns reads back as itself.
 pub fn law_numbers()

@@ -2,9 +2,9 @@
 use Rattle.std.proofs.Common.{◌≡◌, ℕ, zero, suc, ◌+◌, ◌-◌, ◌*◌, ◌<◌, true, List, [], ◌∷◌, take, drop, replicate, refl, sym, ap, ◌∙◌, arith, Some, Ok}
 use Rattle.std.specs.List.{AllByRecursion}
 use Rattle.std.proofs.lemmas.List.{drop-drop}
-use Rattle.trf16.specs.Prelude.{joined, text, is_blank, cell_from, blank_at, blanks_at, round_at, rounds_at}
-use Rattle.trf16.specs.declared.cell.Cell.{Cell}
-use Rattle.trf16.specs.declared.cell.Cell.TheVariants.{Blank}
+use Rattle.trf16_report.specs.Prelude.{joined, text, is_blank, cell_from, blank_at, blanks_at, round_at, rounds_at}
+use Rattle.trf16_report.specs.declared.cell.Cell.{Cell}
+use Rattle.trf16_report.specs.declared.cell.Cell.TheVariants.{Blank}
 
 -- the columns from a place on, by the columns behind that place
 pub text-behind : (cols : List (List ℕ)) (at i j : ℕ) → 0 < i → text cols (at + i) (at + j) ≡ text (drop at cols) i j

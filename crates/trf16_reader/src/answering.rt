@@ -1,14 +1,14 @@
 // The rules on two players who name each other in a round, and on the sum of a player's points.
 ghost use Rattle.std.specs.Prelude.{◌≡◌, ◌==◌, ◌<◌, ◌≤◌, false, length};
 ghost use Rattle.std.specs.Option.{option_map_or};
-ghost use Rattle.trf16.specs.Outcomes.{Gives};
-ghost use Rattle.trf16.specs.Sheet.{entry_of, opponent_in_cell, rounds_played};
-ghost use Rattle.trf16.specs.Summed.{all_cells_fit};
-ghost use Rattle.trf16.specs.Answering.{are_opposite, is_forfeit, are_of_one_class, pair_fits, cell_fits, cells_fit};
-ghost use Rattle.trf16.specs.Answering.{points_fit, player_fits, players_fit};
-ghost use Rattle.trf16.specs.declared.limits.TheConstants.{MOST_ROUNDS};
+ghost use Rattle.trf16_report.specs.Outcomes.{Gives};
+ghost use Rattle.trf16_report.specs.Sheet.{entry_of, opponent_in_cell, rounds_played};
+ghost use Rattle.trf16_report.specs.Summed.{all_cells_fit};
+ghost use Rattle.trf16_report.specs.Answering.{are_opposite, is_forfeit, are_of_one_class, pair_fits, cell_fits, cells_fit};
+ghost use Rattle.trf16_report.specs.Answering.{points_fit, player_fits, players_fit};
+ghost use Rattle.trf16_report.specs.declared.limits.TheConstants.{MOST_ROUNDS};
 
-use trf16::{Cell, Colour, Fault, Player, Report, front};
+use trf16_report::{Cell, Colour, Fault, Player, Report, front};
 
 // One had white and the other black.
 fn are_opposite(mine: Option<Colour>, theirs: Option<Colour>) -> bool
@@ -43,7 +43,7 @@ fn are_of_one_class(mine: &Cell, theirs: &Cell) -> bool
 }
 
 // The cells of two who meet answer each other.
-#[tactic(auto, unfolding(trf16::specs::Answering::pair_fits))]
+#[tactic(auto, unfolding(trf16_report::specs::Answering::pair_fits))]
 fn pair_fits(player: u16, round: usize, mine: &Cell, theirs: &Cell) -> Result<(), Fault>
     ensures { Gives (λ x. x) result (pair_fits player round mine.now theirs.now) }
 {
@@ -59,7 +59,7 @@ fn pair_fits(player: u16, round: usize, mine: &Cell, theirs: &Cell) -> Result<()
 }
 
 // A cell of a player in a round names another player of the report, who names the first one too.
-#[tactic(auto, unfolding(trf16::specs::Answering::cell_fits))]
+#[tactic(auto, unfolding(trf16_report::specs::Answering::cell_fits))]
 fn cell_fits(report: &Report<'_>, player: u16, round: u8, cell: &Cell) -> Result<(), Fault>
     requires { 0 < round }
     ensures { Gives (λ x. x) result (cell_fits report.now player round cell.now) }
@@ -111,7 +111,7 @@ fn cells_fit(report: &Report<'_>, player: u16, cells: &[Cell]) -> Result<(), Fau
 }
 
 // The points field of a player, of the rounds that were played.
-#[tactic(auto, unfolding(trf16::specs::Answering::points_fit))]
+#[tactic(auto, unfolding(trf16_report::specs::Answering::points_fit))]
 fn points_fit(report: &Report<'_>, player: &Player<'_>, rounds: u8) -> Result<(), Fault>
     requires { rounds ≡ rounds_played report.now }
     ensures { Gives (λ x. x) result (points_fit report.now (entry_of player.now)) }
@@ -133,7 +133,7 @@ fn points_fit(report: &Report<'_>, player: &Player<'_>, rounds: u8) -> Result<()
 }
 
 // The rounds of a player, and then their points.
-#[tactic(auto, unfolding(trf16::specs::Answering::player_fits))]
+#[tactic(auto, unfolding(trf16_report::specs::Answering::player_fits))]
 fn player_fits(report: &Report<'_>, player: &Player<'_>, rounds: u8) -> Result<(), Fault>
     requires { rounds ≡ rounds_played report.now }
     ensures { Gives (λ x. x) result (player_fits report.now (entry_of player.now)) }

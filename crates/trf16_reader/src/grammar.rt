@@ -1,10 +1,10 @@
 // Which cell an opponent, a colour and a result spell: the nine rows of the cell grammar.
 ghost use Rattle.std.specs.Prelude.{◌≡◌};
-ghost use Rattle.trf16.specs.Fields.{words};
-ghost use Rattle.trf16.specs.Cells.{mark_in, colour_of, bye_cell, forfeit_cell, outcome_of, game_cell};
-ghost use Rattle.trf16.specs.Cells.{cell_of, opponent_in, cell_from};
+ghost use Rattle.trf16_report.specs.Fields.{words};
+ghost use Rattle.trf16_report.specs.Cells.{mark_in, colour_of, bye_cell, forfeit_cell, outcome_of, game_cell};
+ghost use Rattle.trf16_report.specs.Cells.{cell_of, opponent_in, cell_from};
 
-use trf16::{Bye, Cell, Colour, GameOutcome, next_word, number_of};
+use trf16_report::{Bye, Cell, Colour, GameOutcome, next_word, number_of};
 
 // What stands in one column, a letter in upper case; a missing column is blank, and a character of several bytes is no
 // mark.

@@ -3,32 +3,32 @@ ghost use Rattle.std.specs.Prelude.{◌≡◌, ℕ, ◌+◌, ◌<◌, ◌≤◌,
 ghost use Rattle.std.specs.Prelude.{None, Ok, length, vec_len};
 ghost use Rattle.std.specs.List.{AllByRecursion};
 ghost use Rattle.std.specs.Str.{is_utf8};
-ghost use Rattle.trf16.specs.Lines.{lines, columns, text};
-ghost use Rattle.trf16.specs.Outcomes.{Gives};
-ghost use Rattle.trf16.specs.Steps.{whole_report};
-ghost use Rattle.trf16.specs.Sheet.{entry_of, known};
-ghost use Rattle.trf16.specs.Notes.{is_marked, first_noted, Tells, TellsApart};
-ghost use Rattle.trf16.specs.Summed.{verdict_unsummed};
-ghost use Rattle.trf16.specs.Verdict.{blank_at, blanks_at, start_number_at, start_at, points_at, round_at, rounds_at};
-ghost use Rattle.trf16.specs.Verdict.{cells_at, player_at, is_player, is_too_long, player_onto};
-ghost use Rattle.trf16.specs.Verdict.{rounds_onto, colour_onto, start_ranks_onto, line_onto, lines_onto};
-ghost use Rattle.trf16.specs.Verdict.{has_too_many_rounds, names_too_many_rounds, without_players, sized, laid_out};
-ghost use Rattle.trf16.specs.Verdict.{verdict};
-ghost use Rattle.trf16.specs.declared.cell.Cell.TheVariants.{Blank};
-ghost use Rattle.trf16.specs.declared.limits.TheConstants.{MOST_PLAYERS, MOST_ROUNDS, LAST_COLUMN};
+ghost use Rattle.trf16_report.specs.Lines.{lines, columns, text};
+ghost use Rattle.trf16_report.specs.Outcomes.{Gives};
+ghost use Rattle.trf16_report.specs.Steps.{whole_report};
+ghost use Rattle.trf16_report.specs.Sheet.{entry_of, known};
+ghost use Rattle.trf16_report.specs.Notes.{is_marked, first_noted, Tells, TellsApart};
+ghost use Rattle.trf16_report.specs.Summed.{verdict_unsummed};
+ghost use Rattle.trf16_report.specs.Verdict.{blank_at, blanks_at, start_number_at, start_at, points_at, round_at, rounds_at};
+ghost use Rattle.trf16_report.specs.Verdict.{cells_at, player_at, is_player, is_too_long, player_onto};
+ghost use Rattle.trf16_report.specs.Verdict.{rounds_onto, colour_onto, start_ranks_onto, line_onto, lines_onto};
+ghost use Rattle.trf16_report.specs.Verdict.{has_too_many_rounds, names_too_many_rounds, without_players, sized, laid_out};
+ghost use Rattle.trf16_report.specs.Verdict.{verdict};
+ghost use Rattle.trf16_report.specs.declared.cell.Cell.TheVariants.{Blank};
+ghost use Rattle.trf16_report.specs.declared.limits.TheConstants.{MOST_PLAYERS, MOST_ROUNDS, LAST_COLUMN};
 
 use crate::answering::{all_cells_fit, players_fit};
 use crate::grammar::cell_from;
 use std::alloc::Global;
 use std::str;
-use trf16::{
+use trf16_report::{
     Apart, Cell, Draft, Excess, Fault, Line, LineKind, MOST_BYTES, MOST_PLAYERS, MOST_ROUNDS,
     Notes, Player, Report, are_start_ranks, colour_in, is_blank, is_word, next_line, number_in,
     points_in, rounds_in, said_len, skip_marks, split_kind, trimmed,
 };
 
 // Column k of line n must be blank.
-#[tactic(auto, unfolding(trf16::specs::Verdict::blank_at))]
+#[tactic(auto, unfolding(trf16_report::specs::Verdict::blank_at))]
 fn blank_at(n: usize, line: &Line<'_>, k: usize) -> Result<(), Fault>
     requires from_one { 0 < k }
     requires in_reach { k ≤ LAST_COLUMN }
@@ -42,7 +42,7 @@ fn blank_at(n: usize, line: &Line<'_>, k: usize) -> Result<(), Fault>
 }
 
 // Some columns of line n must be blank.
-#[tactic(auto, using(trf16::proofs::ReadingLemmas::blanks_more, trf16::proofs::ReadingLemmas::blanks_end))]
+#[tactic(auto, using(trf16_report::proofs::ReadingLemmas::blanks_more, trf16_report::proofs::ReadingLemmas::blanks_end))]
 fn blanks_at(n: usize, line: &Line<'_>, columns: &[usize]) -> Result<(), Fault>
     requires { AllByRecursion (λ k. (0 < k) × (k ≤ LAST_COLUMN)) columns.now }
     ensures { Gives (λ x. x) result (blanks_at n line.now columns.now) }
@@ -54,7 +54,7 @@ fn blanks_at(n: usize, line: &Line<'_>, columns: &[usize]) -> Result<(), Fault>
 }
 
 // The start rank that line n names.
-#[tactic(auto, unfolding(trf16::specs::Verdict::start_number_at))]
+#[tactic(auto, unfolding(trf16_report::specs::Verdict::start_number_at))]
 fn start_number_at(n: usize, line: &Line<'_>) -> Result<u16, Fault>
     ensures { Gives (λ x. x) result (start_number_at n line.now) }
 {
@@ -65,7 +65,7 @@ fn start_number_at(n: usize, line: &Line<'_>) -> Result<u16, Fault>
 }
 
 // The same, which no line before may have named.
-#[tactic(auto, unfolding(trf16::specs::Verdict::start_at))]
+#[tactic(auto, unfolding(trf16_report::specs::Verdict::start_at))]
 fn start_at(draft: &Draft<'_>, n: usize, line: &Line<'_>) -> Result<u16, Fault>
     ensures given { Gives (λ x. x) result (start_at draft.now n line.now) }
     ensures new { IfOk result (λ start. known draft.now start ≡ false) }
@@ -77,7 +77,7 @@ fn start_at(draft: &Draft<'_>, n: usize, line: &Line<'_>) -> Result<u16, Fault>
     Ok(start)
 }
 
-#[tactic(auto, unfolding(trf16::specs::Verdict::points_at))]
+#[tactic(auto, unfolding(trf16_report::specs::Verdict::points_at))]
 fn points_at(n: usize, line: &Line<'_>) -> Result<Option<u16>, Fault>
     ensures { Gives (λ x. x) result (points_at n line.now) }
 {
@@ -88,7 +88,7 @@ fn points_at(n: usize, line: &Line<'_>) -> Result<Option<u16>, Fault>
 }
 
 // The round behind `before` others, in the ten columns behind theirs.
-#[tactic(auto, unfolding(trf16::specs::Verdict::round_at))]
+#[tactic(auto, unfolding(trf16_report::specs::Verdict::round_at))]
 fn round_at(n: usize, line: &Line<'_>, before: usize) -> Result<Cell, Fault>
     requires { before < MOST_ROUNDS }
     ensures { Gives (λ x. x) result (round_at n line.now before) }
@@ -121,7 +121,7 @@ fn rounds_at(alloc: Global, n: usize, line: &Line<'_>) -> Result<Vec<Cell>, Faul
     Ok(cells)
 }
 
-#[tactic(auto, unfolding(trf16::specs::Verdict::cells_at))]
+#[tactic(auto, unfolding(trf16_report::specs::Verdict::cells_at))]
 fn cells_at(alloc: Global, n: usize, line: &Line<'_>) -> Result<Vec<Cell>, Fault>
     ensures given { Gives (λ cells. cells.items) result (cells_at n line.now) }
     ensures few { IfOk result (λ cells. vec_len cells ≤ MOST_ROUNDS) }
@@ -133,7 +133,7 @@ fn cells_at(alloc: Global, n: usize, line: &Line<'_>) -> Result<Vec<Cell>, Fault
 }
 
 // The player that line n names, behind those of a report so far.
-#[tactic(auto, unfolding(trf16::specs::Verdict::player_at))]
+#[tactic(auto, unfolding(trf16_report::specs::Verdict::player_at))]
 fn player_at<'a>(
     alloc: Global,
     draft: &Draft<'a>,
@@ -159,7 +159,7 @@ fn player_at<'a>(
 }
 
 // XXR: the total of rounds.
-#[tactic(auto, unfolding(trf16::specs::Verdict::rounds_onto))]
+#[tactic(auto, unfolding(trf16_report::specs::Verdict::rounds_onto))]
 fn rounds_onto(draft: &mut Draft<'_>, n: usize, bytes: &[u8]) -> Result<(), Fault>
     ensures { Gives (λ _. draft.new) result (rounds_onto draft.old n (columns draft.old.utf8 bytes.now)) }
 {
@@ -175,7 +175,7 @@ fn rounds_onto(draft: &mut Draft<'_>, n: usize, bytes: &[u8]) -> Result<(), Faul
 }
 
 // XXC: the initial colour.
-#[tactic(auto, unfolding(trf16::specs::Verdict::colour_onto))]
+#[tactic(auto, unfolding(trf16_report::specs::Verdict::colour_onto))]
 fn colour_onto(draft: &mut Draft<'_>, n: usize, bytes: &[u8]) -> Result<(), Fault>
     ensures { Gives (λ _. draft.new) result (colour_onto draft.old n (columns draft.old.utf8 bytes.now)) }
 {
@@ -188,7 +188,7 @@ fn colour_onto(draft: &mut Draft<'_>, n: usize, bytes: &[u8]) -> Result<(), Faul
 }
 
 // XXZ and XXP: the start ranks of those who are absent, or who do not meet.
-#[tactic(auto, unfolding(trf16::specs::Verdict::start_ranks_onto))]
+#[tactic(auto, unfolding(trf16_report::specs::Verdict::start_ranks_onto))]
 fn start_ranks_onto(draft: &mut Draft<'_>, n: usize, bytes: &[u8]) -> Result<(), Fault>
     ensures { Gives (λ _. draft.new) result (start_ranks_onto draft.old n (columns draft.old.utf8 bytes.now)) }
 {
@@ -200,7 +200,7 @@ fn start_ranks_onto(draft: &mut Draft<'_>, n: usize, bytes: &[u8]) -> Result<(),
 }
 
 // 001: a player; and whether their line goes on behind the last round.
-#[tactic(auto, unfolding(trf16::specs::Verdict::player_onto))]
+#[tactic(auto, unfolding(trf16_report::specs::Verdict::player_onto))]
 fn player_onto<'a>(
     alloc: Global,
     draft: &mut Draft<'a>,
@@ -217,7 +217,7 @@ fn player_onto<'a>(
 }
 
 // Reads line n, which is no player's, onto a report.
-#[tactic(auto, unfolding(trf16::specs::Verdict::line_onto))]
+#[tactic(auto, unfolding(trf16_report::specs::Verdict::line_onto))]
 fn other_line_onto(draft: &mut Draft<'_>, n: usize, kind: &[u8], bytes: &[u8]) -> Result<(), Fault>
     requires kind { kind.now ≡ text (columns draft.old.utf8 bytes.now) 1 3 }
     requires other { is_player (columns draft.old.utf8 bytes.now) ≡ false }
@@ -236,7 +236,7 @@ fn other_line_onto(draft: &mut Draft<'_>, n: usize, kind: &[u8], bytes: &[u8]) -
 }
 
 // Reads line n onto a report, and tells whether it is a player's that goes on behind the last round.
-#[tactic(auto, unfolding(trf16::specs::Verdict::line_onto))]
+#[tactic(auto, unfolding(trf16_report::specs::Verdict::line_onto))]
 fn line_onto<'a>(
     alloc: Global,
     draft: &mut Draft<'a>,
@@ -292,7 +292,7 @@ fn is_utf8(bytes: &[u8]) -> bool
 }
 
 // Refuses a report that is too large, or that has no players.
-#[tactic(auto, unfolding(trf16::specs::Verdict::sized))]
+#[tactic(auto, unfolding(trf16_report::specs::Verdict::sized))]
 fn has_size(draft: &Draft<'_>, too_long: bool) -> Result<(), Fault>
     ensures given { Gives (λ _. draft.now) result (sized draft.now too_long) }
     ensures few_players { IfOk result (λ _. length draft.now.players ≤ MOST_PLAYERS) }
@@ -312,7 +312,7 @@ fn has_size(draft: &Draft<'_>, too_long: bool) -> Result<(), Fault>
 }
 
 // Reads all lines onto a report, notes what they say, looks at its size, and answers who is named together.
-#[tactic(auto, unfolding(trf16::specs::Steps::whole_report, trf16::specs::Verdict::sized))]
+#[tactic(auto, unfolding(trf16_report::specs::Steps::whole_report, trf16_report::specs::Verdict::sized))]
 fn read_whole<'a>(
     alloc: Global,
     draft: &mut Draft<'a>,
@@ -377,7 +377,7 @@ pub fn read<'a>(alloc: Global, bytes: &'a [u8]) -> Result<Report<'a>, Fault>
 /// Too many bytes is told first; then what is wrong with a line, in the order of the lines; then too many players, too
 /// many rounds, and no players; then for each player in the order of the lines what does not fit in their rounds, and
 /// then their points. Want of memory may come at any growth.
-#[tactic(auto, unfolding(trf16::specs::Verdict::verdict))]
+#[tactic(auto, unfolding(trf16_report::specs::Verdict::verdict))]
 pub fn read_with<'a>(alloc: Global, bytes: &'a [u8], bye: u16) -> Result<Report<'a>, Fault>
     requires { bye ≤ 2 }
     ensures { Gives (λ report. report) result (verdict bytes.now bye) }
@@ -392,7 +392,7 @@ pub fn read_with<'a>(alloc: Global, bytes: &'a [u8], bye: u16) -> Result<Report<
 ///
 /// # Errors
 /// Those of `read_with`, in the same order, but that a points field is no sum.
-#[tactic(auto, unfolding(trf16::specs::Summed::verdict_unsummed))]
+#[tactic(auto, unfolding(trf16_report::specs::Summed::verdict_unsummed))]
 pub fn read_unsummed<'a>(alloc: Global, bytes: &'a [u8], bye: u16) -> Result<Report<'a>, Fault>
     requires { bye ≤ 2 }
     ensures { Gives (λ report. report) result (verdict_unsummed bytes.now bye) }

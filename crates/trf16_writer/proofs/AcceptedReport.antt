@@ -1,13 +1,13 @@
 -- What a report that was read is, rule by rule.
 use Rattle.std.proofs.Common.{◌≡◌, ℕ, ◌+◌, Bool, true, false, ◌||◌, ◌==◌, nat_lt, cond, List, ◌∷◌, length, refl, sym, ap, ◌∙◌, subst, Result, Ok, Err}
 use Rattle.std.specs.Str.{is_utf8}
-use Rattle.trf16.specs.Prelude.{columns, lines, without_marks, Sheet, players_fit, line_onto, lines_onto, without_players, has_too_many_rounds, names_too_many_rounds, sized, laid_out, verdict}
-use Rattle.trf16.specs.Outcomes.{◌>>=◌}
-use Rattle.trf16.specs.declared.fault.Excess.TheVariants.{Bytes, Players, Rounds}
-use Rattle.trf16.specs.declared.fault.Fault.{Fault}
-use Rattle.trf16.specs.declared.fault.Fault.TheVariants.{TooMany, NoPlayers}
-use Rattle.trf16.specs.declared.limits.TheConstants.{MOST_PLAYERS, MOST_BYTES}
-use Rattle.trf16.proofs.StepLemmas.{then_ok, same_ok}
+use Rattle.trf16_report.specs.Prelude.{columns, lines, without_marks, Sheet, players_fit, line_onto, lines_onto, without_players, has_too_many_rounds, names_too_many_rounds, sized, laid_out, verdict}
+use Rattle.trf16_report.specs.Outcomes.{◌>>=◌}
+use Rattle.trf16_report.specs.declared.fault.Excess.TheVariants.{Bytes, Players, Rounds}
+use Rattle.trf16_report.specs.declared.fault.Fault.{Fault}
+use Rattle.trf16_report.specs.declared.fault.Fault.TheVariants.{TooMany, NoPlayers}
+use Rattle.trf16_report.specs.declared.limits.TheConstants.{MOST_PLAYERS, MOST_BYTES}
+use Rattle.trf16_report.proofs.StepLemmas.{then_ok, same_ok}
 
 pub first_onto : (sheet final : Sheet) (n : ℕ) (line : List ℕ) (rest : List (List ℕ)) → lines_onto sheet n (line ∷ rest) ≡ Ok final
     → (next : Sheet) × (line_onto sheet n (columns sheet.utf8 line) ≡ Ok next) × (lines_onto next (n + 1) rest ≡ Ok final)

@@ -1,7 +1,7 @@
 -- The report as it stood before a round, case by case.
 use Rattle.std.proofs.Common.{◌≡◌, ◌≢◌, ℕ, zero, suc, ◌+◌, ◌<◌, ◌==◌, true, false, ◌&&◌, cond, nat_lt, List, [], ◌∷◌, map, Some, None, refl, sym, ap, ◌∙◌, arith}
 use Rattle.std.proofs.lemmas.Bool.Decides.{nat_tests}
-use Rattle.trf16.specs.Prelude.{Entry, Sheet, before_round, rounds_played, taken_back}
+use Rattle.trf16_report.specs.Prelude.{Entry, Sheet, before_round, rounds_played, taken_back}
 
 -- a round by how many are in front of it
 one : (sheet : Sheet) (round before : ℕ) → round ≡ before + 1

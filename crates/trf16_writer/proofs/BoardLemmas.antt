@@ -6,9 +6,9 @@ use Rattle.std.proofs.lemmas.Bool.Decides.{nat_tests}
 use Rattle.std.proofs.lemmas.List.{drop_more, drop_all}
 use Rattle.std.proofs.lemmas.List.Elements.{All-from_recursion, recursion_from_All}
 use Rattle.std.proofs.lemmas.Map.Keys.{IsDistinct-head, IsDistinct-tail, IsDistinct-cons}
-use Rattle.trf16.specs.Prelude.{Sheet, known, rounds_played, absent, CanBePaired, named_by}
+use Rattle.trf16_report.specs.Prelude.{Sheet, known, rounds_played, absent, CanBePaired, named_by}
 use Rattle.trf16_writer.specs.Steps.{is_free, are_free}
-use Rattle.trf16.specs.declared.limits.TheConstants.{MOST_ROUNDS}
+use Rattle.trf16_report.specs.declared.limits.TheConstants.{MOST_ROUNDS}
 
 pub eq-self : (n : ℕ) → nat_eq n n ≡ true
 eq-self n = grind (arith, nat_tests)

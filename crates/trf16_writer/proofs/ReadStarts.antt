@@ -6,12 +6,12 @@ use Rattle.std.specs.Prelude.{nat_le}
 use Rattle.std.specs.Char.{is_ascii_digit}
 use Rattle.std.proofs.lemmas.Bool.{and_parts, leb-true}
 use Rattle.std.proofs.lemmas.Str.Parse.{IsNumeralModel, numerals_by_fold, digits_value_short}
-use Rattle.trf16.specs.Prelude.{text, words, is_number, number_after, number_of, number_in, trimmed, Entry, Sheet, known, blank_at, blanks_at, start_number_at, start_at, points_at, cells_at, player_at}
-use Rattle.trf16.specs.Outcomes.{◌>>=◌}
-use Rattle.trf16.specs.declared.cell.Cell.{Cell}
-use Rattle.trf16.specs.declared.fault.Fault.{Fault}
-use Rattle.trf16.specs.declared.fault.Fault.TheVariants.{BadNumber, Duplicate}
-use Rattle.trf16.proofs.StepLemmas.{then_ok, same_ok}
+use Rattle.trf16_report.specs.Prelude.{text, words, is_number, number_after, number_of, number_in, trimmed, Entry, Sheet, known, blank_at, blanks_at, start_number_at, start_at, points_at, cells_at, player_at}
+use Rattle.trf16_report.specs.Outcomes.{◌>>=◌}
+use Rattle.trf16_report.specs.declared.cell.Cell.{Cell}
+use Rattle.trf16_report.specs.declared.fault.Fault.{Fault}
+use Rattle.trf16_report.specs.declared.fault.Fault.TheVariants.{BadNumber, Duplicate}
+use Rattle.trf16_report.proofs.StepLemmas.{then_ok, same_ok}
 
 pub own : IsNumeralModel (λ bs. list_all is_ascii_digit bs ≡ true) (number_after 0)
 own = numerals_by_fold (λ bs. list_all is_ascii_digit bs ≡ true) (search rules) number_after (search rules)

@@ -7,15 +7,15 @@ use Rattle.std.proofs.lemmas.Map.Keys.{IsDistinct-head, IsDistinct-tail}
 use Rattle.std.proofs.lemmas.Map.Made.{is_some-lookup}
 use Rattle.indexmap.specs.IndexMap.{IndexMap, insert_entry}
 use Rattle.indexmap.proofs.CallerLemmas.{insert_entry-new}
-use Rattle.trf16.specs.Prelude.{Entry, entry_of, starts_of, with_cell}
+use Rattle.trf16_report.specs.Prelude.{Entry, entry_of, starts_of, with_cell}
 use Rattle.trf16_writer.specs.Steps.{entry_turned}
-use Rattle.trf16.specs.declared.player.Player.{Player}
+use Rattle.trf16_report.specs.declared.player.Player.{Player}
 use Rattle.trf16_writer.specs.declared.turn.Turn.{Turn}
 use Rattle.trf16_writer.specs.declared.turn.Turn.TheVariants.{Kept, Paired, Summed, TakenBack}
-use Rattle.trf16.specs.declared.cell.Cell.{Cell}
-use Rattle.trf16.specs.declared.cell.Cell.TheVariants.{Blank}
+use Rattle.trf16_report.specs.declared.cell.Cell.{Cell}
+use Rattle.trf16_report.specs.declared.cell.Cell.TheVariants.{Blank}
 use Rattle.trf16_writer.proofs.BoardLemmas.{eq-sym}
-use Rattle.trf16.proofs.ReportLemmas.{none_from, keyed-push, starts-entries}
+use Rattle.trf16_report.proofs.ReportLemmas.{none_from, keyed-push, starts-entries}
 
 -- a blank cell behind the last makes no difference
 pub with_cell-blank : (before : ℕ) (cell : Cell) (cells : List Cell) → length cells ≤ before → with_cell before cell (cells ++ Blank ∷ []) ≡ with_cell before cell cells

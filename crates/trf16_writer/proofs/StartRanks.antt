@@ -7,12 +7,12 @@ use Rattle.std.specs.Str.{is_utf8}
 use Rattle.std.proofs.lemmas.Bool.{or_parts, eqb-false, cases_Bool}
 use Rattle.std.proofs.lemmas.Bool.Decides.{nat_tests}
 use Rattle.std.proofs.lemmas.List.Elements.{All-from_recursion}
-use Rattle.trf16.specs.Prelude.{columns, lines, without_marks, Entry, Sheet, with_player, starts_of, HasOwnStarts, is_player, line_onto, lines_onto, without_players, has_too_many_rounds, verdict}
-use Rattle.trf16.proofs.StepLemmas.{same_ok}
+use Rattle.trf16_report.specs.Prelude.{columns, lines, without_marks, Entry, Sheet, with_player, starts_of, HasOwnStarts, is_player, line_onto, lines_onto, without_players, has_too_many_rounds, verdict}
+use Rattle.trf16_report.proofs.StepLemmas.{same_ok}
 use Rattle.trf16_writer.proofs.AcceptedReport.{accepted, sized_is, first_onto}
-use Rattle.trf16.proofs.LineSteps.{line_keeps, line_adds}
+use Rattle.trf16_report.proofs.LineSteps.{line_keeps, line_adds}
 use Rattle.trf16_writer.proofs.ReadStarts.{start_of, start_below}
-use Rattle.trf16.specs.declared.limits.TheConstants.{MOST_ROUNDS}
+use Rattle.trf16_report.specs.declared.limits.TheConstants.{MOST_ROUNDS}
 
 -- a start rank that there can be
 abbrev IsIn : ℕ → Type 0

@@ -3,7 +3,7 @@ use Rattle.std.proofs.Common.{◌≡◌, ℕ, ◌+◌, ◌-◌, ◌/◌, ◌%◌
 use Rattle.std.specs.Prelude.{decimal}
 use Rattle.std.specs.List.{flat_map}
 use Rattle.std.proofs.lemmas.List.{length-append}
-use Rattle.trf16.specs.Prelude.{Entry, right_in_four, left_in, points_text, points_field, round_text, player_text, lines_text}
+use Rattle.trf16_report.specs.Prelude.{Entry, right_in_four, left_in, points_text, points_field, round_text, player_text, lines_text}
 use Rattle.trf16_writer.specs.Steps.{next_text, players_behind}
 
 -- how many blanks stand in front of points

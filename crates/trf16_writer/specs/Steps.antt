@@ -2,13 +2,13 @@
 use Rattle.std.specs.Prelude.{ℕ, ◌<◌, Bool, true, not, ◌&&◌, nat_eq, List, [], ◌∷◌, ◌++◌, Option, Some, None}
 use Rattle.std.specs.List.{list_any}
 use Rattle.std.specs.Str.{byte}
-use Rattle.trf16.specs.Sheet.{Entry, Sheet, known}
-use Rattle.trf16.specs.Absence.{absent}
-use Rattle.trf16.specs.Written.{player_text}
-use Rattle.trf16.specs.Round.{entry_with}
-use Rattle.trf16.specs.Summed.{entry_summed}
-use Rattle.trf16.specs.BeforeRound.{entry_back}
-use Rattle.trf16.specs.declared.limits.TheConstants.{MOST_ROUNDS}
+use Rattle.trf16_report.specs.Sheet.{Entry, Sheet, known}
+use Rattle.trf16_report.specs.Absence.{absent}
+use Rattle.trf16_report.specs.Written.{player_text}
+use Rattle.trf16_report.specs.Round.{entry_with}
+use Rattle.trf16_report.specs.Summed.{entry_summed}
+use Rattle.trf16_report.specs.BeforeRound.{entry_back}
+use Rattle.trf16_report.specs.declared.limits.TheConstants.{MOST_ROUNDS}
 use Rattle.trf16_writer.specs.declared.turn.Turn.{Turn}
 use Rattle.trf16_writer.specs.declared.turn.Turn.TheVariants.{Kept, Paired, Summed, TakenBack}
 

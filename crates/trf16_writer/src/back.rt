@@ -1,13 +1,13 @@
 // A report as it stood before one of its rounds was paired.
 ghost use Rattle.std.specs.Prelude.{◌≡◌, ◌<◌, ◌≤◌, IfOk, length};
-ghost use Rattle.trf16.specs.BeforeRound.{before_round, cell_back, cells_back, entry_back, taken_back};
-ghost use Rattle.trf16.specs.Sheet.{entry_of};
-ghost use Rattle.trf16.specs.declared.limits.TheConstants.{MOST_ROUNDS};
+ghost use Rattle.trf16_report.specs.BeforeRound.{before_round, cell_back, cells_back, entry_back, taken_back};
+ghost use Rattle.trf16_report.specs.Sheet.{entry_of};
+ghost use Rattle.trf16_report.specs.declared.limits.TheConstants.{MOST_ROUNDS};
 
 use crate::round::{points_with, with_cell};
 use crate::turn::{Turn, turned};
 use std::alloc::{AllocError, Global};
-use trf16::{Bye, Cell, Player, Report, cell_at, front, said_len};
+use trf16_report::{Bye, Cell, Player, Report, cell_at, front, said_len};
 
 // What a cell was before its round was paired.
 fn cell_back(cell: Cell) -> Cell

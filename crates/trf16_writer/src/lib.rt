@@ -5,7 +5,7 @@
 //! waits for this crate who only asks a report.
 //!
 //! A report that is made of another one borrows the same text. A call that takes memory says so if it is refused. The
-//! definitions of what is written, and of the reports that are made, stand in `trf16/specs`, since what is asked of a
+//! definitions of what is written, and of the reports that are made, stand in `trf16_report/specs`, since what is asked of a
 //! report speaks of them too.
 //!
 //! The right start ranks are 1, 2 and so on by rating, then title, then the start rank that a player has (article

@@ -1,14 +1,14 @@
 // Lines that name start ranks, with the new ones.
 ghost use Rattle.std.specs.Prelude.{◌≡◌, ◌++◌, IfOk, option_map, option_copied};
 ghost use Rattle.std.specs.List.{flat_map};
-ghost use Rattle.trf16.specs.Prelude.{words, number_behind, renumbered_word};
-ghost use Rattle.trf16.specs.Prelude.{renumbered_line};
+ghost use Rattle.trf16_report.specs.Prelude.{words, number_behind, renumbered_word};
+ghost use Rattle.trf16_report.specs.Prelude.{renumbered_line};
 ghost use Rattle.trf16_writer.specs.StartTable.{new_in};
 
 use crate::new_starts::NewStarts;
 use itoa::Buffer;
 use std::alloc::{AllocError, Global};
-use trf16::{is_word, next_word, number_of, split_kind};
+use trf16_report::{is_word, next_word, number_of, split_kind};
 
 // A number behind a blank; nothing of 0.
 fn push_number(line: &mut Vec<u8>, number: u16) -> Result<(), AllocError>

@@ -1,11 +1,11 @@
 // Players with new start ranks and new opponents.
 ghost use Rattle.std.specs.Prelude.{◌≡◌, map, IfOk};
-ghost use Rattle.trf16.specs.Prelude.{entry_of, renumbered_cell, renumbered_entry};
+ghost use Rattle.trf16_report.specs.Prelude.{entry_of, renumbered_cell, renumbered_entry};
 ghost use Rattle.trf16_writer.specs.StartTable.{new_in};
 
 use crate::new_starts::NewStarts;
 use std::alloc::{AllocError, Global};
-use trf16::{Cell, Player, Report};
+use trf16_report::{Cell, Player, Report};
 
 // A cell that names the new start rank of its opponent.
 fn renumbered_cell(cell: &Cell, new: &NewStarts) -> Cell

@@ -1,6 +1,6 @@
 // The canonical text of a report with new start ranks.
 ghost use Rattle.std.specs.Prelude.{◌≡◌, ◌++◌, ◌∷◌, [], map, option_map, option_copied, IfOk};
-ghost use Rattle.trf16.specs.Prelude.{entry_of, lines_text, player_text, written, renumbered, renumbered_line};
+ghost use Rattle.trf16_report.specs.Prelude.{entry_of, lines_text, player_text, written, renumbered, renumbered_line};
 ghost use Rattle.trf16_writer.specs.Steps.{next_text, players_behind};
 ghost use Rattle.trf16_writer.specs.StartTable.{new_in};
 
@@ -10,7 +10,7 @@ use crate::renumbered_players::renumbered_players;
 use crate::writing::put_player_line;
 use std::alloc::{AllocError, Global};
 use std::slice::Iter;
-use trf16::{Counted, Failed, Player, Report};
+use trf16_report::{Counted, Failed, Player, Report};
 
 // A text with the line of a player behind it.
 fn with_player_line(text: Vec<u8>, utf8: bool, player: &Player<'_>) -> Result<Vec<u8>, AllocError>

@@ -2,15 +2,15 @@
 ghost use Rattle.std.specs.Prelude.{◌≡◌, ◌+◌, ◌<◌, ◌≤◌, ◌&&◌, ◌↔◌, ◌∷◌, [], nat_eq, IfOk, IsTrue, length};
 ghost use Rattle.std.specs.Prelude.{option_map, sum_by, take};
 ghost use Rattle.std.specs.List.{list_any};
-ghost use Rattle.trf16.specs.Sheet.{entry_of, half_points, rounds_played};
+ghost use Rattle.trf16_report.specs.Sheet.{entry_of, half_points, rounds_played};
 ghost use Rattle.trf16_writer.specs.Steps.{is_free, are_free};
-ghost use Rattle.trf16.specs.Round.{CanBePaired, named_by, cell_on, cell_by, with_cell, cells_with, entry_with};
-ghost use Rattle.trf16.specs.Round.{with_round};
-ghost use Rattle.trf16.specs.declared.limits.TheConstants.{MOST_ROUNDS};
+ghost use Rattle.trf16_report.specs.Round.{CanBePaired, named_by, cell_on, cell_by, with_cell, cells_with, entry_with};
+ghost use Rattle.trf16_report.specs.Round.{with_round};
+ghost use Rattle.trf16_report.specs.declared.limits.TheConstants.{MOST_ROUNDS};
 
 use crate::turn::{Turn, turned};
 use std::alloc::{AllocError, Global};
-use trf16::{Bye, Cell, Colour, MOST_ROUNDS, Player, Report, front};
+use trf16_report::{Bye, Cell, Colour, MOST_ROUNDS, Player, Report, front};
 
 // What a board gives a player, if it names them.
 fn cell_on(board: (u16, u16), start: u16) -> Option<Cell>

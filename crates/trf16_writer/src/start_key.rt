@@ -1,10 +1,10 @@
 // What the order of start ranks goes by: rating, title and the start rank that a player has.
 ghost use Rattle.std.specs.Prelude.{◌≡◌, ◌≤◌, ◌<◌};
 ghost use Rattle.std.specs.Option.{option_map_or};
-ghost use Rattle.trf16.specs.Prelude.{columns, text, words, number_in, entry_of, titles, place_among};
+ghost use Rattle.trf16_report.specs.Prelude.{columns, text, words, number_in, entry_of, titles, place_among};
 ghost use Rattle.trf16_writer.specs.StartKeys.{key_of, is_before};
 
-use trf16::{Player, is_word, next_word, number_of, split_columns, without_blanks};
+use trf16_report::{Player, is_word, next_word, number_of, split_columns, without_blanks};
 
 // The titles, the highest first.
 const TITLES: &[u8] = b"GM IM WGM FM WIM CM WFM WCM";

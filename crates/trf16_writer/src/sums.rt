@@ -1,11 +1,11 @@
 // A report with each of its points fields summed.
 ghost use Rattle.std.specs.Prelude.{◌≡◌, IfOk};
-ghost use Rattle.trf16.specs.Sheet.{entry_of, rounds_played};
-ghost use Rattle.trf16.specs.Summed.{entry_summed, summed};
+ghost use Rattle.trf16_report.specs.Sheet.{entry_of, rounds_played};
+ghost use Rattle.trf16_report.specs.Summed.{entry_summed, summed};
 
 use crate::turn::{Turn, turned};
 use std::alloc::{AllocError, Global};
-use trf16::{Player, Report, front};
+use trf16_report::{Player, Report, front};
 
 /// A player whose points field is the sum over the rounds that were paired.
 pub(crate) fn player_summed<'a>(

@@ -1,7 +1,7 @@
 // A report whose players are turned into others: paired, summed, or as they were before a round.
 ghost use Rattle.std.specs.Prelude.{◌≡◌, IfOk, map};
 ghost use Rattle.std.specs.Map.{keys_of};
-ghost use Rattle.trf16.specs.Sheet.{entry_of, rounds_played};
+ghost use Rattle.trf16_report.specs.Sheet.{entry_of, rounds_played};
 ghost use Rattle.trf16_writer.specs.Steps.{IsWithin, entry_turned};
 
 use crate::back::player_back;
@@ -9,7 +9,7 @@ use crate::round::player_with;
 use crate::sums::player_summed;
 use indexmap::IndexMap;
 use std::alloc::{AllocError, Global};
-use trf16::{Player, Report};
+use trf16_report::{Player, Report};
 
 /// What becomes of each player of a report.
 #[derive(Clone, Copy, Drop)]

@@ -1,8 +1,8 @@
 // Lines that name players in a way that is not read.
 ghost use Rattle.std.specs.Prelude.{◌≡◌};
-ghost use Rattle.trf16.specs.Prelude.{columns, names_unread, first_unread};
+ghost use Rattle.trf16_report.specs.Prelude.{columns, names_unread, first_unread};
 
-use trf16::{Report, is_word, split_kind};
+use trf16_report::{Report, is_word, split_kind};
 
 fn names_unread(line: &[u8], utf8: bool) -> bool
     ensures { result ≡ names_unread (columns utf8 line.now) }

@@ -2,16 +2,18 @@
 // afresh.
 ghost use Rattle.std.specs.Prelude.{◌≡◌, ◌++◌, ◌∷◌, ◌≤◌, ◌/◌, [], codes, decimal, map, option_copied};
 ghost use Rattle.std.specs.List.{flat_map};
-ghost use Rattle.trf16.specs.Output.{use_of, Puts};
+ghost use Rattle.trf16_report.specs.Output.{use_of, Puts};
 ghost use Rattle.trf16_writer.specs.Steps.{next_text, players_behind};
-ghost use Rattle.trf16.specs.Sheet.{entry_of};
-ghost use Rattle.trf16.specs.Written.{blanks, right_in_four, left_in, points_text, points_field, bye_letter};
-ghost use Rattle.trf16.specs.Written.{colour_letter, outcome_letter, meeting_text, cell_text, round_text, player_text};
-ghost use Rattle.trf16.specs.Written.{written};
+ghost use Rattle.trf16_report.specs.Sheet.{entry_of};
+ghost use Rattle.trf16_report.specs.Written.{blanks, right_in_four, left_in, points_text, points_field, bye_letter};
+ghost use Rattle.trf16_report.specs.Written.{colour_letter, outcome_letter, meeting_text, cell_text, round_text, player_text};
+ghost use Rattle.trf16_report.specs.Written.{written};
 
 use indexmap::map::Values;
 use itoa::Buffer;
-use trf16::{Bye, Cell, Colour, Failed, GameOutcome, Player, Report, Sink, column_count, put_all};
+use trf16_report::{
+    Bye, Cell, Colour, Failed, GameOutcome, Player, Report, Sink, column_count, put_all,
+};
 
 // As many blanks as the widest field has columns.
 const BLANKS: [u8; 72] = [b' '; 72];
@@ -24,7 +26,7 @@ fn put_blanks<W: Sink>(w: &mut W, count: usize) -> Result<(), Failed>
 }
 
 // A text at the right of four columns.
-#[tactic(auto, using(trf16::proofs::OutputLemmas::put_both, trf16::proofs::OutputLemmas::put_neither))]
+#[tactic(auto, using(trf16_report::proofs::OutputLemmas::put_both, trf16_report::proofs::OutputLemmas::put_neither))]
 fn put_right<W: Sink>(w: &mut W, text: &[u8]) -> Result<(), Failed>
     ensures { Puts (right_in_four text.now) (use_of W.held W.failures w.old w.new) result }
 {
@@ -172,7 +174,7 @@ fn put_player<W: Sink>(w: &mut W, utf8: bool, player: &Player<'_>) -> Result<(),
 }
 
 // A line that is carried, with its end.
-#[tactic(auto, using(trf16::proofs::OutputLemmas::put_both, trf16::proofs::OutputLemmas::put_neither))]
+#[tactic(auto, using(trf16_report::proofs::OutputLemmas::put_both, trf16_report::proofs::OutputLemmas::put_neither))]
 fn put_line<W: Sink>(w: &mut W, line: &[u8]) -> Result<(), Failed>
     ensures { Puts (line.now ++ (10 ∷ [])) (use_of W.held W.failures w.old w.new) result }
 {

@@ -1,10 +1,12 @@
 // The listings of small brackets: under limits that rise by one they take as many steps, and a bound is asked.
 ghost use Rattle.std.specs.Prelude.{◌≡◌, ◌≤◌};
-ghost use Rattle.dutch_order.specs.Prelude.{Fits};
+ghost use Rattle.dutch_arrangements.specs.Prelude.{Fits};
 
 use crate::free::{AMPLE, Free, raised};
+use dutch_arrangements::{
+    Bracket, Budget, Candidate, Exchange, Filling, Prefix, Rule, Shape, Step,
+};
 use dutch_listing::{Bound, Candidates};
-use dutch_order::{Bracket, Budget, Candidate, Exchange, Filling, Prefix, Rule, Shape, Step};
 use std::alloc::Global;
 use std::test::Fail;
 
@@ -143,7 +145,7 @@ impl<'a> Bound for ByDifference<'a> {
     type Room = ();
 
     ghost use Rattle.std.specs.Prelude.{◌==◌};
-    ghost use Rattle.dutch_order.specs.Prelude.{sum_of};
+    ghost use Rattle.dutch_arrangements.specs.Prelude.{sum_of};
 
     ghost frame = { λ b. b.bracket.now };
 

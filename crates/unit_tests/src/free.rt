@@ -1,6 +1,6 @@
 // What the tests of the order share: a rule that bars nothing, and a limit that rises by one.
 
-use dutch_order::{Budget, Rule};
+use dutch_arrangements::{Budget, Rule};
 
 // A rule by which all may meet, and each may be left over.
 #[derive(Drop)]
@@ -17,7 +17,7 @@ impl Rule for Free {
         true
     }
 
-    fn may_be_left(&self, _a: u16) -> bool {
+    fn last_ok(&self, _a: u16) -> bool {
         true
     }
 

@@ -1,4 +1,4 @@
-// Tests of the public calls of `trf16` and of `dutch_order`, as far as no clause says what they show: what the devices
+// Tests of the public calls of `trf16_report` and of `dutch_arrangements`, as far as no clause says what they show: what the devices
 // do, how many steps a listing takes, and that a bound is asked. They stand in a crate of their own, since a crate with
 // tests is proved twice.
 #![tactic(auto)]

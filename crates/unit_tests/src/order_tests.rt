@@ -4,7 +4,7 @@ ghost use Rattle.std.specs.List.Sorted.{IsStrictlyIncreasing};
 ghost use Rattle.dutch_sequence.specs.declared.numbers.TheConstants.{LIMIT};
 
 use crate::free::{AMPLE, raised};
-use dutch_order::{
+use dutch_arrangements::{
     Budget, Exchanges, Generator, LIMIT, LimboExchanges, Numbers, Step, numbered_from,
 };
 use std::alloc::Global;

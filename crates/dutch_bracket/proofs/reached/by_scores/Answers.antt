@@ -1,7 +1,7 @@
 -- Scores are such as a `u16` holds.
 use Rattle.std.proofs.Common.{◌≡◌, get_or, slice_index, ap, arith, w16, Fits}
 use Rattle.std.proofs.Math.Facts.{Fits-lt-pow}
-use Rattle.dutch_order.specs.Prelude.{Frame}
+use Rattle.dutch_arrangements.specs.Prelude.{Frame}
 use Rattle.dutch_bracket.proofs.reached.by_scores.Goals as goal
 
 pub returns-clause-small : goal.returns-clause-small

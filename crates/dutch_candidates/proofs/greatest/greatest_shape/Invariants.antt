@@ -3,7 +3,7 @@ use Rattle.std.proofs.Common.{◌≡◌, ◌≤◌, ◌*◌, length}
 use Rattle.std.specs.Prelude.{flat_map}
 use Rattle.dutch_bracket.specs.Prelude.{down_from, fits, shapes_with, greatest_shape}
 use Rattle.dutch_bracket.proofs.ShapeSearch.{found_in}
-use Rattle.dutch_order.specs.Prelude.{Spends}
+use Rattle.dutch_arrangements.specs.Prelude.{Spends}
 use Rattle.dutch_candidates.proofs.greatest.greatest_shape.Given as goal
 
 abbrev pub decreases-loop-shape : goal.decreases-loop-shape

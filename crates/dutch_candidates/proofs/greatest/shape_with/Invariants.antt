@@ -2,7 +2,7 @@
 use Rattle.std.proofs.Common.{◌≡◌, map}
 use Rattle.dutch_bracket.specs.Prelude.{down_from, fits, shapes_with}
 use Rattle.dutch_bracket.proofs.ShapeSearch.{found_in, shape_with}
-use Rattle.dutch_order.specs.Prelude.{Spends}
+use Rattle.dutch_arrangements.specs.Prelude.{Spends}
 use Rattle.dutch_candidates.proofs.greatest.shape_with.Given as goal
 
 abbrev pub decreases-loop-mdps : goal.decreases-loop-mdps

@@ -1,7 +1,7 @@
 -- What the check confirms for the numbers of all players is a floor of the bracket's shapes.
 use Rattle.std.proofs.Common.{◌≡◌, ℕ, IfSome, Option, List, ap, ◌∙◌, subst}
 use Rattle.dual.specs.Prelude.{FloorTable, IsFloor}
-use Rattle.dutch_order.specs.Prelude.{numbers_from}
+use Rattle.dutch_arrangements.specs.Prelude.{numbers_from}
 use Rattle.dutch_choice.specs.ShapeCosts.{count_all, shape_costs}
 use Rattle.dutch_choice.proofs.CandidateCosts.{floor_told}
 use Rattle.dutch_choice.proofs.certified.confirmed.Goals as goal

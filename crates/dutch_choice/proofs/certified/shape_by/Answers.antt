@@ -1,6 +1,6 @@
 -- The pairs are those of a candidate that can be chosen, and no shape that has one costs less.
 use Rattle.std.proofs.Common.{◌≡◌, Bool, true, false, Ok}
-use Rattle.dutch_order.specs.Prelude.{MatchDrawn}
+use Rattle.dutch_arrangements.specs.Prelude.{MatchDrawn}
 use Rattle.dutch_sequence.specs.declared.steps.Stopped.{Stopped}
 use Rattle.dutch_choice.proofs.MatchedCandidates.{told}
 use Rattle.dutch_choice.proofs.certified.shape_by.Goals as goal

@@ -1,7 +1,7 @@
 -- Those of the candidates to come that can be chosen are all of the shape that can be; those passed cannot.
 use Rattle.std.proofs.Common.{◌≡◌, None, false, filter, length}
 use Rattle.dutch_bracket.specs.Prelude.{can_be_chosen_here, candidates_in, eligible_in}
-use Rattle.dutch_order.specs.Prelude.{Passes, Spends}
+use Rattle.dutch_arrangements.specs.Prelude.{Passes, Spends}
 use Rattle.dutch_choice.specs.Prelude.{ListsHere}
 use Rattle.dutch_choice.proofs.first_candidate.first_eligible.Given as goal
 

@@ -1,7 +1,7 @@
 -- The shape that is told is the greatest of all, so the first legal arrangement of it is drawn.
 use Rattle.std.proofs.Common.{◌≡◌, Bool, true, false, Ok, IfSome, Option, Some, subst}
-use Rattle.dutch_order.specs.Prelude.{MatchDrawn}
-use Rattle.dutch_order.specs.declared.bracket.Shape.{Shape}
+use Rattle.dutch_arrangements.specs.Prelude.{MatchDrawn}
+use Rattle.dutch_arrangements.specs.declared.bracket.Shape.{Shape}
 use Rattle.dutch_sequence.specs.declared.steps.Stopped.{Stopped}
 use Rattle.dutch_player.specs.Prelude.{Facts}
 use Rattle.dutch_choice.specs.AlwaysShapes.{IsAlwaysShape}

@@ -1,6 +1,6 @@
 -- The shape has room in the bracket, and all its arrangements have one PSD.
 use Rattle.std.proofs.Common.{◌≡◌, ℕ, ◌+◌, List, refl, sym, ap, ◌∙◌}
-use Rattle.dutch_order.specs.Prelude.{numbers_from}
+use Rattle.dutch_arrangements.specs.Prelude.{numbers_from}
 use Rattle.dutch_bracket.specs.Prelude.{psd_with, NextValue, frame_of, score_at, seat_of}
 use Rattle.dutch_choice.proofs.AlwaysShapes.{always_fits}
 use Rattle.dutch_candidates.proofs.ShapeNumbers.{first_length, has_room, small_mdps}

@@ -2,8 +2,8 @@
 use Rattle.std.proofs.Common.{◌≡◌, ℕ, ◌≤◌, Option, None, MatchOption, sym, ap, ◌∙◌, subst, refl}
 use Rattle.std.specs.Prelude.{slice_index}
 use Rattle.std.proofs.lemmas.Option.{MatchOption-at_some}
-use Rattle.dutch_order.specs.Prelude.{Frame}
-use Rattle.dutch_order.specs.declared.bracket.Shape.{Shape}
+use Rattle.dutch_arrangements.specs.Prelude.{Frame}
+use Rattle.dutch_arrangements.specs.declared.bracket.Shape.{Shape}
 use Rattle.dutch_bracket.specs.Prelude.{Seated, by_seats, psd, legal_by, value_of_shape, value_of, frame_of, greatest_shape}
 use Rattle.dutch_bracket.proofs.FlatBrackets.{candidate_of, greatest_as, in_legal, value_found}
 use Rattle.dutch_choice.proofs.lookahead.value_drawn.Goals as goal

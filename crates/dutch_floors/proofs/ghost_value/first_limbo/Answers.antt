@@ -1,7 +1,7 @@
 -- None of the Limbo's numbers is in an S1 of nobody.
 use Rattle.std.proofs.Common.{◌≡◌, ℕ, ◌+◌, ◌-◌, List, [], ◌++◌, length, map, ap, ◌∙◌}
 use Rattle.std.proofs.lemmas.List.{length-map}
-use Rattle.dutch_order.specs.Prelude.{left_of, numbers_from}
+use Rattle.dutch_arrangements.specs.Prelude.{left_of, numbers_from}
 use Rattle.dutch_sequence.proofs.Members.{length-numbers}
 use Rattle.dutch_bracket.specs.Prelude.{Reached, seat_of, score_at}
 use Rattle.dutch_bracket.proofs.ArrangementParts.{left_none}

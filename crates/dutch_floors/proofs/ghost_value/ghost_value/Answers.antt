@@ -1,7 +1,7 @@
 -- The ghosts are a bracket, and its greatest shape gives the value.
 use Rattle.std.proofs.Common.{◌≡◌, ℕ, List, length, ap, ◌∙◌, arith}
 use Rattle.std.proofs.lemmas.Option.{MatchOption-at_some}
-use Rattle.dutch_order.specs.Prelude.{Frame}
+use Rattle.dutch_arrangements.specs.Prelude.{Frame}
 use Rattle.dutch_bracket.specs.Prelude.{ghost_frame, first_group, scoregroups}
 use Rattle.dutch_floors.specs.GhostValues.{first_ghosts}
 use Rattle.dutch_bracket.proofs.C07WeakerRules.{found_few}

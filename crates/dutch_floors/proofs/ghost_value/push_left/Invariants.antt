@@ -1,7 +1,7 @@
 -- The scores added so far, and those of the numbers to come, make them all.
 use Rattle.std.proofs.Common.{◌≡◌, ◌+◌, ◌≤◌, ◌++◌, drop, map}
 use Rattle.arrayvec.specs.ArrayVec.{array_vec_len}
-use Rattle.dutch_order.specs.Prelude.{left_of}
+use Rattle.dutch_arrangements.specs.Prelude.{left_of}
 use Rattle.dutch_bracket.specs.Prelude.{seat_of, score_at}
 use Rattle.dutch_floors.proofs.ghost_value.push_left.Given as goal
 

@@ -1,5 +1,5 @@
 use Rattle.std.proofs.Common.{◌≡◌, ◌∙◌, ◌+◌, ◌<◌, ap, get_or, length, arith, rules}
-use Rattle.dutch_order.specs.Prelude.{Arrangement}
+use Rattle.dutch_arrangements.specs.Prelude.{Arrangement}
 use Rattle.dutch_floors.proofs.SumLemmas.{pairs_count, take_more}
 use Rattle.dutch_floors.specs.KnownPairs.{number_pairs}
 use Rattle.dutch_floors.proofs.known_pairs.common.Goals as goal

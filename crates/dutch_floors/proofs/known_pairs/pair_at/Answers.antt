@@ -1,6 +1,6 @@
 -- The pair at a place of S1 and S2, or of S1R and S2R.
 use Rattle.std.proofs.Common.{◌∙◌, ◌<◌, ap, subst, sym, length, get_or, arith}
-use Rattle.dutch_order.specs.Prelude.{Arrangement}
+use Rattle.dutch_arrangements.specs.Prelude.{Arrangement}
 use Rattle.dutch_bracket.specs.Prelude.{HasFewPairs}
 use Rattle.dutch_floors.specs.KnownPairs.{number_pairs}
 use Rattle.dutch_floors.proofs.SumLemmas.{nth_first, nth_second, pairs_count}

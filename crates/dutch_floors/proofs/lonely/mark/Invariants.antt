@@ -1,7 +1,7 @@
 -- What is marked so far and what is to come make it all.
 use Rattle.std.proofs.Common.{◌≡◌, ◌≤◌, ◌||◌, ℕ, drop}
 use Rattle.dutch_sequence.specs.declared.numbers.TheConstants.{LIMIT}
-use Rattle.dutch_order.specs.Prelude.{is_member}
+use Rattle.dutch_arrangements.specs.Prelude.{is_member}
 use Rattle.dutch_bracket.specs.Prelude.{has_bit}
 use Rattle.dutch_floors.proofs.lonely.mark.Given as goal
 

@@ -1,7 +1,7 @@
 -- The residents that are not marked: those of the three lists are marked one by one.
 use Rattle.std.proofs.Common.{◌≡◌, ◌∙◌, ◌+◌, ◌≤◌, ◌||◌, Bool, not, filter, length, map, ap, arith}
 use Rattle.std.proofs.lemmas.List.{length-map}
-use Rattle.dutch_order.specs.Prelude.{Arrangement, is_member, numbers_from}
+use Rattle.dutch_arrangements.specs.Prelude.{Arrangement, is_member, numbers_from}
 use Rattle.dutch_bracket.specs.Prelude.{has_bit, Reached, score_at}
 use Rattle.dutch_candidates.proofs.BitLemmas.{none_set}
 use Rattle.dutch_floors.proofs.LonelyLemmas.{pool_is}

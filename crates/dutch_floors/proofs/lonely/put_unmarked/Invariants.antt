@@ -1,7 +1,7 @@
 -- Those kept so far are those of the numbers passed that are not marked.
 use Rattle.std.proofs.Common.{◌≡◌, ◌≤◌, not, filter}
 use Rattle.arrayvec.specs.ArrayVec.{array_vec_len}
-use Rattle.dutch_order.specs.Prelude.{numbers_from}
+use Rattle.dutch_arrangements.specs.Prelude.{numbers_from}
 use Rattle.dutch_bracket.specs.Prelude.{has_bit}
 use Rattle.dutch_floors.proofs.lonely.put_unmarked.Given as goal
 

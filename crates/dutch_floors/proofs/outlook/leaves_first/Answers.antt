@@ -1,7 +1,7 @@
 -- Where no number is left, none of the first Limbo is to come exactly where all of it is passed.
 use Rattle.std.proofs.Common.{◌≡◌, ℕ, zero, suc, ◌+◌, ◌-◌, ◌≤◌, ◌<◌, nat_eq, false, not, cond, List, [], ◌∷◌, map, refl, sym, ap, ◌∙◌, arith}
 use Rattle.std.proofs.lemmas.Bool.{eq-eqb, ne_eqb}
-use Rattle.dutch_order.specs.Prelude.{left_of, is_member, is_same, numbers_from}
+use Rattle.dutch_arrangements.specs.Prelude.{left_of, is_member, is_same, numbers_from}
 use Rattle.dutch_bracket.specs.Prelude.{Reached, seat_of, score_at}
 use Rattle.dutch_bracket.proofs.ArrangementParts.{next_number, no_number}
 use Rattle.dutch_floors.proofs.outlook.leaves_first.Goals as goal

@@ -1,6 +1,6 @@
 -- What is left to compare tells whether all are the same.
 use Rattle.std.proofs.Common.{◌≡◌, ◌+◌, ◌-◌, ◌≤◌, map}
-use Rattle.dutch_order.specs.Prelude.{left_of, is_same, numbers_from}
+use Rattle.dutch_arrangements.specs.Prelude.{left_of, is_same, numbers_from}
 use Rattle.dutch_floors.specs.Outlooks.{leaves_first}
 use Rattle.dutch_bracket.specs.Prelude.{seat_of, score_at}
 use Rattle.dutch_floors.proofs.outlook.leaves_first.Given as goal

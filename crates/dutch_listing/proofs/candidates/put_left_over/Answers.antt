@@ -3,7 +3,7 @@ use Rattle.std.specs.List.{filter}
 use Rattle.std.proofs.lemmas.Bool.{not_from_true, not_from_false}
 use Rattle.std.proofs.lemmas.List.{append-nil}
 use Rattle.std.proofs.lemmas.List.Elements.{filter-append}
-use Rattle.dutch_order.specs.Prelude.{is_member, numbers_from, Arrangement, left_of, paired}
+use Rattle.dutch_arrangements.specs.Prelude.{is_member, numbers_from, Arrangement, left_of, paired}
 use Rattle.dutch_sequence.proofs.Counts.{member-four}
 use Rattle.dutch_sequence.proofs.Members.{numbers-append}
 use Rattle.dutch_listing.proofs.candidates.put_left_over.Goals as goal

@@ -1,5 +1,5 @@
 use Rattle.std.proofs.Common.{◌≡◌, ◌≤◌, length}
-use Rattle.dutch_order.specs.Prelude.{numbers_from, left_of, paired}
+use Rattle.dutch_arrangements.specs.Prelude.{numbers_from, left_of, paired}
 use Rattle.dutch_listing.proofs.candidates.put_left_over.Given as goal
 
 abbrev pub invariant-loop-place : goal.invariant-loop-place

@@ -1,5 +1,5 @@
 use Rattle.std.proofs.Common.{rules, sym, subst}
-use Rattle.dutch_order.specs.Prelude.{ExchangeClass, IsExchange}
+use Rattle.dutch_arrangements.specs.Prelude.{ExchangeClass, IsExchange}
 use Rattle.dutch_listing.proofs.Passing.{sets-left}
 use Rattle.dutch_sequence.proofs.Skipping.{came, drawn-stopped, passes-more, passes-same}
 use Rattle.dutch_sequence.proofs.Spending.{spends-more}

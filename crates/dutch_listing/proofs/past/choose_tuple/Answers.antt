@@ -1,5 +1,5 @@
 use Rattle.std.proofs.Common.{◌≡◌, ◌∙◌, ap, sym, subst}
-use Rattle.dutch_order.specs.Prelude.{Arrangement, Beginning, Begins, with_list}
+use Rattle.dutch_arrangements.specs.Prelude.{Arrangement, Beginning, Begins, with_list}
 use Rattle.dutch_listing.proofs.Passing.{tuples-left}
 use Rattle.dutch_sequence.proofs.Skipping.{came, passes-more, passes-same}
 use Rattle.dutch_sequence.proofs.Spending.{spends-more}

@@ -1,4 +1,4 @@
-use Rattle.dutch_order.specs.Prelude.{Arrangement, IsPassedTuple, Passes, Spends, way}
+use Rattle.dutch_arrangements.specs.Prelude.{Arrangement, IsPassedTuple, Passes, Spends, way}
 use Rattle.dutch_listing.proofs.past.choose_tuple.Given as goal
 
 abbrev pub invariant-loop-cuts : goal.invariant-loop-cuts

@@ -2,7 +2,7 @@
 use Rattle.std.proofs.Common.{sym, ap, ◌∙◌}
 use Rattle.std.proofs.lemmas.Bool.{and_from}
 use Rattle.dutch_passes.specs.Prelude.{aim_in, loses}
-use Rattle.dutch_order.specs.Prelude.{Candidate}
+use Rattle.dutch_arrangements.specs.Prelude.{Candidate}
 use Rattle.dutch_bracket.specs.Prelude.{quality_in}
 use Rattle.dutch_passes.proofs.AimLemmas.{winner_kept}
 use Rattle.dutch_passes.proofs.passes.consider.Goals as goal

@@ -1,6 +1,6 @@
 -- One candidate more, or the end of all candidates, tells what a pass chooses of the shape.
 use Rattle.std.proofs.Common.{[], inl, inr, refl, sym, ap, ◌∙◌, subst}
-use Rattle.dutch_order.specs.Prelude.{Frame, down}
+use Rattle.dutch_arrangements.specs.Prelude.{Frame, down}
 use Rattle.dutch_sequence.proofs.Spending.{spends-more}
 use Rattle.dutch_bracket.proofs.LegalPairs.{legal_of}
 use Rattle.dutch_passes.specs.Prelude.{aim_in, near_of}

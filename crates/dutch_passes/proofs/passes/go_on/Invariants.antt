@@ -1,6 +1,6 @@
 -- What is chosen of a shape is what is chosen of the candidate that is kept and of those to come.
 use Rattle.std.proofs.Common.{length}
-use Rattle.dutch_order.specs.Prelude.{Spends}
+use Rattle.dutch_arrangements.specs.Prelude.{Spends}
 use Rattle.dutch_passes.specs.Prelude.{ListsFor, LooksFor, LooksThrough}
 use Rattle.dutch_passes.proofs.passes.go_on.Given as goal
 

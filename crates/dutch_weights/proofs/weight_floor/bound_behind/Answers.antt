@@ -3,7 +3,7 @@ use Rattle.std.proofs.Common.{◌≡◌, sum_by, ap, arith, ◌∙◌}
 use Rattle.std.specs.List.{zip}
 use Rattle.std.proofs.lemmas.List.Sums.{sum_by-append}
 use Rattle.dual.specs.Prelude.{extra_in}
-use Rattle.dutch_order.specs.Prelude.{Arrangement}
+use Rattle.dutch_arrangements.specs.Prelude.{Arrangement}
 use Rattle.dutch_bracket.specs.Prelude.{fixed_lists}
 use Rattle.dutch_weights.specs.Prelude.{bound_behind}
 use Rattle.dutch_weights.proofs.AboveLemmas.{back_by}

@@ -1,4 +1,4 @@
-use Rattle.dutch_order.proofs.CursorArrangements.{of-in, in-of}
+use Rattle.dutch_arrangements.proofs.CursorArrangements.{of-in, in-of}
 use Rattle.pairing_laws.proofs.arrangements.arrangements_are_of.Goals as goal
 
 pub returns : goal.returns

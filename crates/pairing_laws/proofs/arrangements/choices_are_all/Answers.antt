@@ -1,5 +1,5 @@
 use Rattle.std.proofs.Common.{length}
-use Rattle.dutch_order.specs.Prelude.{tuples, subsets, all_meet, numbers_from, sorted, lower_first, exchange_cmp, limbo_cmp}
+use Rattle.dutch_arrangements.specs.Prelude.{tuples, subsets, all_meet, numbers_from, sorted, lower_first, exchange_cmp, limbo_cmp}
 use Rattle.dutch_sequence.proofs.Orders.{IsIn-filter, filter-IsIn}
 use Rattle.dutch_sequence.proofs.Sets.{sorted-in, in-sorted}
 use Rattle.pairing_laws.proofs.arrangements.choices_are_all.Goals as goal

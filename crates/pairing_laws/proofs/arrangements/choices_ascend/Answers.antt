@@ -1,5 +1,5 @@
 use Rattle.std.proofs.Common.{ℕ, List, sym, ◌∙◌, length, subst, ◌≡◌}
-use Rattle.dutch_order.specs.Prelude.{tuples, subsets, all_meet, numbers_from, exchange_cmp, exchanges, sum_of, IsIn, lower_first, limbo_cmp, limbo_exchanges, all_tuples, transpositions}
+use Rattle.dutch_arrangements.specs.Prelude.{tuples, subsets, all_meet, numbers_from, exchange_cmp, exchanges, sum_of, IsIn, lower_first, limbo_cmp, limbo_exchanges, all_tuples, transpositions}
 use Rattle.dutch_sequence.proofs.ByKeys.{Ascends, exchange_key, limbo_key_in}
 use Rattle.dutch_sequence.proofs.Comparing.{ascends-in, exchange_cmp-is, limbo_cmp-is, lower_first-is, under_sum}
 use Rattle.dutch_sequence.proofs.LimboSets.{limbo_key-apart}

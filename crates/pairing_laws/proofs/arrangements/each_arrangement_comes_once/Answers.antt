@@ -1,6 +1,6 @@
 use Rattle.std.proofs.Common.{subst}
-use Rattle.dutch_order.specs.Prelude.{HasEachOnce}
-use Rattle.dutch_order.proofs.Once.{suffix-once, arrangements-once, stands_once, candidates-once, rest-once}
+use Rattle.dutch_arrangements.specs.Prelude.{HasEachOnce}
+use Rattle.dutch_arrangements.proofs.Once.{suffix-once, arrangements-once, stands_once, candidates-once, rest-once}
 use Rattle.pairing_laws.proofs.arrangements.each_arrangement_comes_once.Goals as goal
 
 pub returns-clause-arrangements : goal.returns-clause-arrangements

@@ -1,4 +1,4 @@
-use Rattle.dutch_order.specs.Prelude.{parsed}
+use Rattle.dutch_arrangements.specs.Prelude.{parsed}
 use Rattle.dutch_listing.proofs.CursorReads.{told}
 use Rattle.pairing_laws.proofs.arrangements.syntax_is_told.Goals as goal
 

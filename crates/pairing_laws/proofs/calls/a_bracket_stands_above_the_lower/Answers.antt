@@ -1,6 +1,6 @@
 -- The law is the lemma on the brackets of a round, in a field whose scores do not ascend.
 use Rattle.std.proofs.Common.{arith}
-use Rattle.dutch_pair.specs.Prelude.{lower_of}
+use Rattle.dutch_rounds.specs.Prelude.{lower_of}
 use Rattle.dutch_bracket.proofs.ShapeLaws.{has_one, has_room}
 use Rattle.pairing_laws.proofs.StandsAbove.{bracket_stands}
 use Rattle.pairing_laws.proofs.calls.a_bracket_stands_above_the_lower.Goals as goal

@@ -1,5 +1,5 @@
 -- The law is what a stage says of itself: what is chosen in it is of its bracket's shape.
-use Rattle.dutch_pair.specs.Prelude.{lower_of, choice_of}
+use Rattle.dutch_rounds.specs.Prelude.{lower_of, choice_of}
 use Rattle.dutch_choice.proofs.BestLemmas.{chosen_is}
 use Rattle.dutch_bracket.proofs.ShapeLaws.{has_one, has_room}
 use Rattle.pairing_laws.proofs.calls.a_stage_stands_above_the_lower.Goals as goal

@@ -1,5 +1,5 @@
 use Rattle.std.proofs.Common.{◌≡◌, ◌+◌, ◌-◌, find}
-use Rattle.dutch_order.specs.Prelude.{numbers_from}
+use Rattle.dutch_arrangements.specs.Prelude.{numbers_from}
 use Rattle.player_lines.specs.Obstacles.{first_meeting, has_played}
 use Rattle.player_lines.proofs.obstacle.first_meeting.Given as goal
 

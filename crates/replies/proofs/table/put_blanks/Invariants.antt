@@ -1,5 +1,5 @@
 use Rattle.std.proofs.Common.{◌≡◌, ◌++◌}
-use Rattle.trf16.specs.Prelude.{blanks}
+use Rattle.trf16_report.specs.Prelude.{blanks}
 use Rattle.replies.proofs.table.put_blanks.Given as goal
 
 abbrev pub invariant-loop : goal.invariant-loop

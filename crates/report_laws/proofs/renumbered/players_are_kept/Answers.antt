@@ -1,5 +1,5 @@
 use Rattle.report_laws.proofs.NewMap.{is_map}
-use Rattle.trf16.specs.Prelude.{new_start}
+use Rattle.trf16_report.specs.Prelude.{new_start}
 use Rattle.report_laws.proofs.UnderMap.{cell_kept, points_kept, absent_kept, apart_kept, name_kept, rating_kept}
 use Rattle.report_laws.proofs.renumbered.players_are_kept.Goals as goal
 

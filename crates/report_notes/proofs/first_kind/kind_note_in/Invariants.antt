@@ -1,5 +1,5 @@
 use Rattle.std.proofs.Common.{◌≡◌, ◌+◌, ◌≤◌, length}
-use Rattle.trf16.specs.Prelude.{lines}
+use Rattle.trf16_report.specs.Prelude.{lines}
 use Rattle.report_notes.specs.RefusalNotes.{kind_note_from}
 use Rattle.report_notes.proofs.first_kind.kind_note_in.Given as goal
 

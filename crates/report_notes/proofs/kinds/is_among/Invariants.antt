@@ -1,6 +1,6 @@
 use Rattle.std.proofs.Common.{◌≡◌, length}
 use Rattle.std.specs.List.{list_any}
-use Rattle.trf16.specs.Prelude.{words, is_word}
+use Rattle.trf16_report.specs.Prelude.{words, is_word}
 use Rattle.report_notes.proofs.kinds.is_among.Given as goal
 
 abbrev pub invariant-loop-word : goal.invariant-loop-word

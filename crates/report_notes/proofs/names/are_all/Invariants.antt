@@ -1,5 +1,5 @@
 use Rattle.std.proofs.Common.{◌≡◌, length}
-use Rattle.trf16.specs.Prelude.{words}
+use Rattle.trf16_report.specs.Prelude.{words}
 use Rattle.report_notes.specs.Notes.{are_all}
 use Rattle.report_notes.proofs.names.are_all.Given as goal
 

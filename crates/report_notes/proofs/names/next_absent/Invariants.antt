@@ -1,5 +1,5 @@
 use Rattle.std.proofs.Common.{◌≡◌, length}
-use Rattle.trf16.specs.Prelude.{words}
+use Rattle.trf16_report.specs.Prelude.{words}
 use Rattle.report_notes.specs.Notes.{absent_notes}
 use Rattle.report_notes.proofs.names.next_absent.Given as goal
 

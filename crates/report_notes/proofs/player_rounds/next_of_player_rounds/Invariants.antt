@@ -1,5 +1,5 @@
 use Rattle.std.proofs.Common.{◌≡◌, ◌-◌}
-use Rattle.trf16.specs.Prelude.{rounds_played}
+use Rattle.trf16_report.specs.Prelude.{rounds_played}
 use Rattle.report_notes.specs.NoteOf.{player_rounds_left_notes}
 use Rattle.report_notes.proofs.player_rounds.next_of_player_rounds.Given as goal
 

@@ -1,6 +1,6 @@
 use Rattle.std.proofs.Common.{◌≡◌, filter, map, min}
 use Rattle.std.specs.List.{cons_option, reduce}
-use Rattle.trf16.specs.Prelude.{entry_of}
+use Rattle.trf16_report.specs.Prelude.{entry_of}
 use Rattle.report_notes.specs.Ratings.{first_rated_below, is_rated_below}
 use Rattle.report_notes.proofs.ratings.first_rated_below.Given as goal
 

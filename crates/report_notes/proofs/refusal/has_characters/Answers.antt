@@ -1,6 +1,6 @@
 use Rattle.std.proofs.Common.{◌∙◌, ap}
 use Rattle.std.specs.Str.{is_utf8}
-use Rattle.trf16.proofs.ReadingLemmas.{is_utf8_is}
+use Rattle.trf16_report.proofs.ReadingLemmas.{is_utf8_is}
 use Rattle.report_notes.proofs.refusal.has_characters.Goals as goal
 
 pub returns : goal.returns

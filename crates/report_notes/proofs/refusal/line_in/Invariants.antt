@@ -1,5 +1,5 @@
 use Rattle.std.proofs.Common.{◌≡◌, [], length, slice_index_or}
-use Rattle.trf16.specs.Prelude.{lines}
+use Rattle.trf16_report.specs.Prelude.{lines}
 use Rattle.report_notes.specs.RefusalNotes.{line_in}
 use Rattle.report_notes.proofs.refusal.line_in.Given as goal
 

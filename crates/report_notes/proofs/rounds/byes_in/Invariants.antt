@@ -1,6 +1,6 @@
 use Rattle.std.proofs.Common.{◌≡◌, ◌≤◌, ◌+◌, filter, map, length}
-use Rattle.trf16.specs.Prelude.{entry_of}
-use Rattle.trf16.specs.declared.limits.TheConstants.{MOST_PLAYERS}
+use Rattle.trf16_report.specs.Prelude.{entry_of}
+use Rattle.trf16_report.specs.declared.limits.TheConstants.{MOST_PLAYERS}
 use Rattle.report_notes.specs.Rounds.{byes_in, has_bye}
 use Rattle.report_notes.proofs.rounds.byes_in.Given as goal
 

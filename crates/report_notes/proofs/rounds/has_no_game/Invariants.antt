@@ -1,6 +1,6 @@
 use Rattle.std.proofs.Common.{◌≡◌, map, not}
 use Rattle.std.specs.List.{list_any}
-use Rattle.trf16.specs.Prelude.{entry_of}
+use Rattle.trf16_report.specs.Prelude.{entry_of}
 use Rattle.report_notes.specs.Rounds.{has_no_game, has_opponent}
 use Rattle.report_notes.proofs.rounds.has_no_game.Given as goal
 

@@ -1,5 +1,5 @@
 use Rattle.std.proofs.Common.{◌≡◌, ◌-◌}
-use Rattle.trf16.specs.Prelude.{rounds_played}
+use Rattle.trf16_report.specs.Prelude.{rounds_played}
 use Rattle.report_notes.specs.NoteOf.{rounds_left_notes}
 use Rattle.report_notes.proofs.rounds.next_of_rounds.Given as goal
 

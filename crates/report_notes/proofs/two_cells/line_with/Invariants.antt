@@ -1,5 +1,5 @@
 use Rattle.std.proofs.Common.{◌≡◌, length}
-use Rattle.trf16.specs.Prelude.{lines}
+use Rattle.trf16_report.specs.Prelude.{lines}
 use Rattle.report_notes.specs.RefusalNotes.{line_with}
 use Rattle.report_notes.proofs.two_cells.line_with.Given as goal
 

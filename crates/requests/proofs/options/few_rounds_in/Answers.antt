@@ -3,7 +3,7 @@ use Rattle.std.specs.Str.Parse.{ExplainsUnsignedError, HasUnsignedDigitsIfOk, Pa
 use Rattle.clap.specs.Words.{found_of, rows_of}
 use Rattle.requests.proofs.OptionLemmas.{number_kept, number_read}
 use Rattle.requests.proofs.options.few_rounds_in.Goals as goal
-use Rattle.trf16.specs.declared.limits.TheConstants.{MOST_ROUNDS}
+use Rattle.trf16_report.specs.declared.limits.TheConstants.{MOST_ROUNDS}
 
 pub returns : goal.returns
 returns c =

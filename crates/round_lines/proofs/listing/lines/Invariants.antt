@@ -1,5 +1,5 @@
 use Rattle.std.proofs.Common.{◌≡◌, ◌≤◌, ◌-◌, string_bytes}
-use Rattle.dutch_order.specs.Prelude.{Spends}
+use Rattle.dutch_arrangements.specs.Prelude.{Spends}
 use Rattle.dutch_bracket.specs.Prelude.{frame_of}
 use Rattle.round_lines.specs.CandidateTexts.{line_text}
 use Rattle.round_lines.proofs.ListingLemmas.{IsUnderway}

@@ -1,6 +1,6 @@
 use Rattle.std.proofs.Common.{◌≡◌, ◌++◌, map}
 use Rattle.std.specs.List.{filter_map}
-use Rattle.trf16.specs.Prelude.{entry_of}
+use Rattle.trf16_report.specs.Prelude.{entry_of}
 use Rattle.tables.specs.Prelude.{board_at, boards_unordered}
 use Rattle.tables.proofs.board.unordered.Given as goal
 

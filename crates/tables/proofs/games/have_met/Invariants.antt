@@ -1,6 +1,6 @@
 use Rattle.std.proofs.Common.{◌≡◌}
 use Rattle.std.specs.List.{list_any}
-use Rattle.trf16.specs.Prelude.{cell_in}
+use Rattle.trf16_report.specs.Prelude.{cell_in}
 use Rattle.tables.specs.Prelude.{is_game_with, have_met}
 use Rattle.tables.proofs.RoundLemmas.{rounds_from}
 use Rattle.tables.proofs.games.have_met.Given as goal

@@ -1,6 +1,6 @@
 use Rattle.std.proofs.Common.{◌≡◌, ◌+◌, ◌*◌, ◌≤◌}
 use Rattle.std.specs.Prelude.{sum_by}
-use Rattle.trf16.specs.Prelude.{cell_in}
+use Rattle.trf16_report.specs.Prelude.{cell_in}
 use Rattle.tables.specs.Prelude.{points_against, points_among}
 use Rattle.tables.proofs.RoundLemmas.{rounds_from}
 use Rattle.tables.proofs.keys.points_among.Given as goal

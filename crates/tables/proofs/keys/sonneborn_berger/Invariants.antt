@@ -1,6 +1,6 @@
 use Rattle.std.proofs.Common.{◌≡◌, ◌+◌, ◌*◌, ◌≤◌}
 use Rattle.std.specs.Prelude.{sum_by}
-use Rattle.trf16.specs.Prelude.{cell_in, half_points}
+use Rattle.trf16_report.specs.Prelude.{cell_in, half_points}
 use Rattle.tables.specs.Prelude.{opponent_score, sonneborn_berger}
 use Rattle.tables.proofs.RoundLemmas.{rounds_from}
 use Rattle.tables.proofs.keys.sonneborn_berger.Given as goal

@@ -1,5 +1,5 @@
 use Rattle.std.proofs.Common.{◌≡◌, ◌++◌, map}
-use Rattle.trf16.specs.Prelude.{entry_of}
+use Rattle.trf16_report.specs.Prelude.{entry_of}
 use Rattle.tables.specs.Prelude.{row_of}
 use Rattle.tables.proofs.standings.first_rows.Given as goal
 

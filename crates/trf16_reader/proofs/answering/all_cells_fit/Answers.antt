@@ -1,8 +1,8 @@
 use Rattle.std.proofs.Common.{◌≡◌, Ok, map, ap, sym, ◌∙◌}
 use Rattle.std.proofs.lemmas.Result.{err_from_is_err_and}
-use Rattle.trf16.specs.Prelude.{entry_of, cells_fit, all_cells_fit}
-use Rattle.trf16.proofs.ReadingLemmas.{Fails-on}
-use Rattle.trf16.proofs.AnsweringLemmas.{all_cells-more, all_cells-fail, all_cells-end}
+use Rattle.trf16_report.specs.Prelude.{entry_of, cells_fit, all_cells_fit}
+use Rattle.trf16_report.proofs.ReadingLemmas.{Fails-on}
+use Rattle.trf16_report.proofs.AnsweringLemmas.{all_cells-more, all_cells-fail, all_cells-end}
 use Rattle.trf16_reader.proofs.answering.all_cells_fit.Goals as goal
 
 pub loop-player-preserved : goal.loop-player-preserved

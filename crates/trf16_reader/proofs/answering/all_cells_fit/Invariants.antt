@@ -1,5 +1,5 @@
 use Rattle.std.proofs.Common.{◌≡◌, map}
-use Rattle.trf16.specs.Prelude.{entry_of, all_cells_fit}
+use Rattle.trf16_report.specs.Prelude.{entry_of, all_cells_fit}
 use Rattle.trf16_reader.proofs.answering.all_cells_fit.Given as goal
 
 abbrev pub invariant-loop-player : goal.invariant-loop-player

@@ -1,9 +1,9 @@
 use Rattle.std.proofs.Common.{◌+◌, sym, ◌∙◌, get_or}
 use Rattle.std.proofs.lemmas.Result.{err_from_is_err_and}
-use Rattle.trf16.specs.declared.cell.Cell.TheVariants.{Blank}
-use Rattle.trf16.specs.Prelude.{cell_fits, cells_fit}
-use Rattle.trf16.proofs.ReadingLemmas.{Fails-on}
-use Rattle.trf16.proofs.AnsweringLemmas.{cells-more, cells-fail, cells-end}
+use Rattle.trf16_report.specs.declared.cell.Cell.TheVariants.{Blank}
+use Rattle.trf16_report.specs.Prelude.{cell_fits, cells_fit}
+use Rattle.trf16_report.proofs.ReadingLemmas.{Fails-on}
+use Rattle.trf16_report.proofs.AnsweringLemmas.{cells-more, cells-fail, cells-end}
 use Rattle.trf16_reader.proofs.answering.cells_fit.Goals as goal
 
 pub returns-in_err-cell_fits : goal.returns-in_err-cell_fits

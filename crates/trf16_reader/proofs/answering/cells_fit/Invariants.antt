@@ -1,5 +1,5 @@
 use Rattle.std.proofs.Common.{◌≡◌, ◌+◌, drop}
-use Rattle.trf16.specs.Prelude.{cells_fit}
+use Rattle.trf16_report.specs.Prelude.{cells_fit}
 use Rattle.trf16_reader.proofs.answering.cells_fit.Given as goal
 
 abbrev pub invariant-loop-i : goal.invariant-loop-i

@@ -1,8 +1,8 @@
 use Rattle.std.proofs.Common.{map, ap, sym, ◌∙◌}
 use Rattle.std.proofs.lemmas.Result.{err_from_is_err_and}
-use Rattle.trf16.specs.Prelude.{entry_of, player_fits, players_fit}
-use Rattle.trf16.proofs.ReadingLemmas.{Fails-on}
-use Rattle.trf16.proofs.AnsweringLemmas.{players-more, players-fail, players-end}
+use Rattle.trf16_report.specs.Prelude.{entry_of, player_fits, players_fit}
+use Rattle.trf16_report.proofs.ReadingLemmas.{Fails-on}
+use Rattle.trf16_report.proofs.AnsweringLemmas.{players-more, players-fail, players-end}
 use Rattle.trf16_reader.proofs.answering.players_fit.Goals as goal
 
 pub loop-player-preserved : goal.loop-player-preserved

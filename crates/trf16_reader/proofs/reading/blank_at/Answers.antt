@@ -1,5 +1,5 @@
 use Rattle.std.proofs.Common.{◌∙◌, ap, refl, sym}
-use Rattle.trf16.specs.Prelude.{is_blank, blank_at}
+use Rattle.trf16_report.specs.Prelude.{is_blank, blank_at}
 use Rattle.trf16_reader.proofs.reading.blank_at.Goals as goal
 
 pub returns-then-is_blank : goal.returns-then-is_blank

@@ -1,5 +1,5 @@
 use Rattle.std.proofs.Common.{sym, ◌∙◌}
-use Rattle.trf16.proofs.ReadingLemmas.{exits, blanks_fail}
+use Rattle.trf16_report.proofs.ReadingLemmas.{exits, blanks_fail}
 use Rattle.trf16_reader.proofs.reading.blanks_at.Goals as goal
 
 pub returns-in_err-blank_at : goal.returns-in_err-blank_at

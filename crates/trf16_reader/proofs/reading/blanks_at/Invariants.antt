@@ -1,5 +1,5 @@
 use Rattle.std.proofs.Common.{◌≡◌, drop}
-use Rattle.trf16.specs.Prelude.{blanks_at}
+use Rattle.trf16_report.specs.Prelude.{blanks_at}
 use Rattle.trf16_reader.proofs.reading.blanks_at.Given as goal
 
 abbrev pub invariant-loop-column : goal.invariant-loop-column

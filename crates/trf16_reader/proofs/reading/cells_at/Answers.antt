@@ -1,10 +1,10 @@
 use Rattle.std.proofs.Common.{◌≡◌, ◌-◌, ◌++◌, List, Ok, replicate, take, vec_len, ap, sym}
-use Rattle.trf16.specs.Prelude.{without_last, cells_at, rounds_at, is_blank_cell}
-use Rattle.trf16.specs.declared.cell.Cell.{Cell}
-use Rattle.trf16.specs.declared.cell.Cell.TheVariants.{Blank}
-use Rattle.trf16.specs.declared.limits.TheConstants.{MOST_ROUNDS}
-use Rattle.trf16.proofs.FieldLemmas.{without_last-append}
-use Rattle.trf16.proofs.ReadingLemmas.{all_are_blank}
+use Rattle.trf16_report.specs.Prelude.{without_last, cells_at, rounds_at, is_blank_cell}
+use Rattle.trf16_report.specs.declared.cell.Cell.{Cell}
+use Rattle.trf16_report.specs.declared.cell.Cell.TheVariants.{Blank}
+use Rattle.trf16_report.specs.declared.limits.TheConstants.{MOST_ROUNDS}
+use Rattle.trf16_report.proofs.FieldLemmas.{without_last-append}
+use Rattle.trf16_report.proofs.ReadingLemmas.{all_are_blank}
 use Rattle.trf16_reader.proofs.reading.cells_at.Goals as goal
 
 pub returns-clause-given : goal.returns-clause-given

@@ -1,5 +1,5 @@
 use Rattle.std.proofs.Common.{◌∙◌}
-use Rattle.trf16.proofs.ReadingLemmas.{is_utf8_is}
+use Rattle.trf16_report.proofs.ReadingLemmas.{is_utf8_is}
 use Rattle.trf16_reader.proofs.reading.is_utf8.Goals as goal
 
 pub returns : goal.returns

@@ -1,12 +1,12 @@
 use Rattle.std.proofs.Common.{◌≡◌, ℕ, ◌<◌, nat_lt, true, length, Ok, refl, sym, ap, ◌∙◌, arith}
 use Rattle.std.proofs.lemmas.Bool.{le-ltb}
 use Rattle.std.proofs.lemmas.Bool.Decides.{nat_tests}
-use Rattle.trf16.specs.Prelude.{whole_report, laid_out, lines, Sheet}
-use Rattle.trf16.proofs.ReadingLemmas.{exits, laid_is}
+use Rattle.trf16_report.specs.Prelude.{whole_report, laid_out, lines, Sheet}
+use Rattle.trf16_report.proofs.ReadingLemmas.{exits, laid_is}
 use Rattle.trf16_reader.proofs.reading.laid_out.Goals as goal
-use Rattle.trf16.specs.declared.fault.Fault.{Fault}
+use Rattle.trf16_report.specs.declared.fault.Fault.{Fault}
 use Rattle.std.specs.Prelude.{Result}
-use Rattle.trf16.specs.declared.limits.TheConstants.{MOST_BYTES}
+use Rattle.trf16_report.specs.declared.limits.TheConstants.{MOST_BYTES}
 
 above : (most count : ℕ) → most < count → nat_lt most count ≡ true
 above most count lt = grind (arith, nat_tests)

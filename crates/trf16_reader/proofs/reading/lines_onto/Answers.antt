@@ -2,10 +2,10 @@ use Rattle.std.proofs.Common.{◌≡◌, ℕ, List, [], ◌∷◌, subst, ◌&&�
 use Rattle.std.proofs.lemmas.Bool.{eqb-true}
 use Rattle.std.proofs.lemmas.Result.{err_from_is_err_and}
 use Rattle.std.specs.Prelude.{codes}
-use Rattle.trf16.specs.Prelude.{lines, columns, is_player, is_too_long, line_onto, lines_onto, has_too_many_rounds, without_players, is_kind, names_absent, is_of, is_marked, first_noted, noted_first}
-use Rattle.trf16.proofs.ReadingLemmas.{Fails-on, SameText, line_onto-text, lines-go_on, lines-fail, lines-end, stays_long, becomes_long, nil_from_length}
-use Rattle.trf16.specs.declared.kind.LineKind.{LineKind}
-use Rattle.trf16.proofs.NoteLemmas.{AreNoted, noted-none, noted-more, noted-all, tells_same}
+use Rattle.trf16_report.specs.Prelude.{lines, columns, is_player, is_too_long, line_onto, lines_onto, has_too_many_rounds, without_players, is_kind, names_absent, is_of, is_marked, first_noted, noted_first}
+use Rattle.trf16_report.proofs.ReadingLemmas.{Fails-on, SameText, line_onto-text, lines-go_on, lines-fail, lines-end, stays_long, becomes_long, nil_from_length}
+use Rattle.trf16_report.specs.declared.kind.LineKind.{LineKind}
+use Rattle.trf16_report.proofs.NoteLemmas.{AreNoted, noted-none, noted-more, noted-all, tells_same}
 use Rattle.std.proofs.Math.Bool.{or-false}
 use Rattle.trf16_reader.proofs.reading.lines_onto.Goals as goal
 use Rattle.trf16_reader.proofs.reading.lines_onto.Goals.{then-long, else-long}

@@ -1,7 +1,7 @@
 use Rattle.std.proofs.Common.{◌≡◌, ◌+◌, ◌≤◌, ◌||◌, length}
-use Rattle.trf16.specs.Prelude.{lines, lines_onto, has_too_many_rounds}
-use Rattle.trf16.proofs.ReadingLemmas.{SameText}
-use Rattle.trf16.proofs.NoteLemmas.{AreNoted}
+use Rattle.trf16_report.specs.Prelude.{lines, lines_onto, has_too_many_rounds}
+use Rattle.trf16_report.proofs.ReadingLemmas.{SameText}
+use Rattle.trf16_report.proofs.NoteLemmas.{AreNoted}
 use Rattle.trf16_reader.proofs.reading.lines_onto.Given as goal
 
 abbrev pub invariant-loop-rest : goal.invariant-loop-rest

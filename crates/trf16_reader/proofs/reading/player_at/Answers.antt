@@ -1,6 +1,6 @@
 use Rattle.std.proofs.Common.{refl, [], ◌∷◌}
-use Rattle.trf16.specs.Prelude.{entry_of, blanks_at, start_at, points_at, cells_at, player_at}
-use Rattle.trf16.proofs.ReadingLemmas.{exits}
+use Rattle.trf16_report.specs.Prelude.{entry_of, blanks_at, start_at, points_at, cells_at, player_at}
+use Rattle.trf16_report.proofs.ReadingLemmas.{exits}
 use Rattle.trf16_reader.proofs.reading.player_at.Goals as goal
 
 pub returns-in_err-start-clause-given : goal.returns-in_err-start-clause-given

@@ -1,6 +1,6 @@
 use Rattle.std.proofs.Common.{refl}
-use Rattle.trf16.specs.Prelude.{all_cells_fit, verdict_unsummed}
-use Rattle.trf16.proofs.ReadingLemmas.{accepted-gives}
+use Rattle.trf16_report.specs.Prelude.{all_cells_fit, verdict_unsummed}
+use Rattle.trf16_report.proofs.ReadingLemmas.{accepted-gives}
 use Rattle.trf16_reader.proofs.reading.read_unsummed.Goals as goal
 
 pub returns : goal.returns

@@ -1,6 +1,6 @@
 use Rattle.std.proofs.Common.{refl}
-use Rattle.trf16.specs.Prelude.{players_fit, verdict}
-use Rattle.trf16.proofs.ReadingLemmas.{accepted-gives}
+use Rattle.trf16_report.specs.Prelude.{players_fit, verdict}
+use Rattle.trf16_report.proofs.ReadingLemmas.{accepted-gives}
 use Rattle.trf16_reader.proofs.reading.read_with.Goals as goal
 
 pub returns : goal.returns

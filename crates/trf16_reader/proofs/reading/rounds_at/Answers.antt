@@ -1,9 +1,9 @@
 use Rattle.std.proofs.Common.{◌≡◌, ◌+◌, ◌*◌, ◌-◌, ◌<◌, drop, replicate, Ok, ap, refl, sym, ◌∙◌, vec_len, arith}
 use Rattle.std.proofs.lemmas.Result.{err_from_is_err_and}
-use Rattle.trf16.specs.Prelude.{round_at, rounds_at}
-use Rattle.trf16.specs.declared.cell.Cell.TheVariants.{Blank}
-use Rattle.trf16.specs.declared.limits.TheConstants.{MOST_ROUNDS}
-use Rattle.trf16.proofs.ReadingLemmas.{behind, Fails-on, rounds-go_on, rounds-fail}
+use Rattle.trf16_report.specs.Prelude.{round_at, rounds_at}
+use Rattle.trf16_report.specs.declared.cell.Cell.TheVariants.{Blank}
+use Rattle.trf16_report.specs.declared.limits.TheConstants.{MOST_ROUNDS}
+use Rattle.trf16_report.proofs.ReadingLemmas.{behind, Fails-on, rounds-go_on, rounds-fail}
 use Rattle.trf16_reader.proofs.RoundSteps.{rounds-none}
 use Rattle.trf16_reader.proofs.reading.rounds_at.Goals.{then-loop-cells-test+else-reaches, else-loop-cells-test}
 use Rattle.trf16_reader.proofs.reading.rounds_at.Goals as goal

@@ -1,7 +1,7 @@
 use Rattle.std.proofs.Common.{◌≡◌, ◌≤◌, ◌-◌, vec_len}
-use Rattle.trf16.specs.Prelude.{rounds_at}
-use Rattle.trf16.specs.declared.limits.TheConstants.{MOST_ROUNDS}
-use Rattle.trf16.proofs.ReadingLemmas.{behind}
+use Rattle.trf16_report.specs.Prelude.{rounds_at}
+use Rattle.trf16_report.specs.declared.limits.TheConstants.{MOST_ROUNDS}
+use Rattle.trf16_report.proofs.ReadingLemmas.{behind}
 use Rattle.trf16_reader.proofs.reading.rounds_at.Given as goal
 
 abbrev pub invariant-loop-cells : goal.invariant-loop-cells

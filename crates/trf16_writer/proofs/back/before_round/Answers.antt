@@ -1,5 +1,5 @@
 use Rattle.std.proofs.Common.{List, Some, ap, ◌∙◌, arith}
-use Rattle.trf16.specs.Prelude.{Entry, Sheet}
+use Rattle.trf16_report.specs.Prelude.{Entry, Sheet}
 use Rattle.trf16_writer.proofs.BeforeRoundLemmas.{next_round, earlier_round, no_round, kept}
 use Rattle.trf16_writer.proofs.back.before_round.Goals as goal
 

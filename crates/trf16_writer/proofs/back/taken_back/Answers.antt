@@ -1,5 +1,5 @@
 use Rattle.std.proofs.Common.{◌≡◌, map, option_map, subst}
-use Rattle.trf16.specs.Prelude.{Sheet, line_back}
+use Rattle.trf16_report.specs.Prelude.{Sheet, line_back}
 use Rattle.trf16_writer.proofs.back.taken_back.Goals as goal
 
 pub returns : goal.returns

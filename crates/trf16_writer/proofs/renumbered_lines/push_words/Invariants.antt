@@ -1,6 +1,6 @@
 use Rattle.std.proofs.Common.{◌≡◌, ◌++◌, length}
 use Rattle.std.specs.List.{flat_map}
-use Rattle.trf16.specs.Prelude.{words, renumbered_word}
+use Rattle.trf16_report.specs.Prelude.{words, renumbered_word}
 use Rattle.trf16_writer.specs.StartTable.{new_in}
 use Rattle.trf16_writer.proofs.renumbered_lines.push_words.Given as goal
 

@@ -1,5 +1,5 @@
 use Rattle.std.proofs.Common.{◌≡◌, ◌++◌, map}
-use Rattle.trf16.specs.Prelude.{entry_of, renumbered_entry}
+use Rattle.trf16_report.specs.Prelude.{entry_of, renumbered_entry}
 use Rattle.trf16_writer.specs.StartTable.{new_in}
 use Rattle.trf16_writer.proofs.renumbered_players.renumbered_players.Given as goal
 

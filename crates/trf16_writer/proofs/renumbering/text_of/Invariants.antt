@@ -1,6 +1,6 @@
 use Rattle.std.proofs.Common.{◌≡◌, ◌++◌, map, length}
 use Rattle.std.specs.Prelude.{option_map}
-use Rattle.trf16.specs.Prelude.{entry_of, lines_text, renumbered_line}
+use Rattle.trf16_report.specs.Prelude.{entry_of, lines_text, renumbered_line}
 use Rattle.trf16_writer.specs.StartTable.{new_in}
 use Rattle.trf16_writer.proofs.renumbering.text_of.Given as goal
 

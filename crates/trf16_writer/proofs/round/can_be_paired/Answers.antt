@@ -1,8 +1,8 @@
 use Rattle.std.proofs.Common.{◌<◌, refl, subst, ◌∙◌}
-use Rattle.trf16.specs.Prelude.{rounds_played}
+use Rattle.trf16_report.specs.Prelude.{rounds_played}
 use Rattle.trf16_writer.proofs.BoardLemmas.{paired_from, not_free, free_end}
 use Rattle.trf16_writer.proofs.round.can_be_paired.Goals as goal
-use Rattle.trf16.specs.declared.limits.TheConstants.{MOST_ROUNDS}
+use Rattle.trf16_report.specs.declared.limits.TheConstants.{MOST_ROUNDS}
 
 pub returns-then-not-are_free : goal.returns-then-not-are_free
 returns-then-not-are_free c = (

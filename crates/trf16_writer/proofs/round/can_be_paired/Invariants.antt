@@ -1,5 +1,5 @@
 use Rattle.std.proofs.Common.{◌≡◌, drop}
-use Rattle.trf16.specs.Prelude.{named_by}
+use Rattle.trf16_report.specs.Prelude.{named_by}
 use Rattle.trf16_writer.specs.Steps.{are_free}
 use Rattle.trf16_writer.proofs.round.can_be_paired.Given as goal
 

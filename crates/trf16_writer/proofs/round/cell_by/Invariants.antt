@@ -1,5 +1,5 @@
 use Rattle.std.proofs.Common.{◌≡◌, drop}
-use Rattle.trf16.specs.Prelude.{cell_by}
+use Rattle.trf16_report.specs.Prelude.{cell_by}
 use Rattle.trf16_writer.proofs.round.cell_by.Given as goal
 
 abbrev pub invariant-loop-board : goal.invariant-loop-board

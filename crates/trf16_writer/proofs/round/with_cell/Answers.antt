@@ -1,5 +1,5 @@
 use Rattle.std.proofs.Common.{slice_set, ap, sym, ◌∙◌, arith}
-use Rattle.trf16.specs.Prelude.{with_cell}
+use Rattle.trf16_report.specs.Prelude.{with_cell}
 use Rattle.trf16_writer.proofs.RoundLemmas.{with_cell-blank, with_cell-set}
 use Rattle.trf16_writer.proofs.round.with_cell.Goals as goal
 

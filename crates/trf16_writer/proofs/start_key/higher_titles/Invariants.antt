@@ -1,5 +1,5 @@
 use Rattle.std.proofs.Common.{◌≡◌, ◌+◌, ◌≤◌, length}
-use Rattle.trf16.specs.Prelude.{words, titles, place_among}
+use Rattle.trf16_report.specs.Prelude.{words, titles, place_among}
 use Rattle.trf16_writer.proofs.start_key.higher_titles.Given as goal
 
 abbrev pub invariant-loop-higher : goal.invariant-loop-higher

@@ -1,5 +1,5 @@
 use Rattle.std.proofs.Common.{map}
-use Rattle.trf16.specs.Prelude.{entry_of, rounds_played}
+use Rattle.trf16_report.specs.Prelude.{entry_of, rounds_played}
 use Rattle.trf16_writer.specs.Steps.{entry_turned}
 use Rattle.trf16_writer.proofs.RoundLemmas.{AreTurned}
 use Rattle.trf16_writer.proofs.turn.players_turned.Given as goal

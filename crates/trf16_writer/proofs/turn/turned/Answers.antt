@@ -1,8 +1,8 @@
 use Rattle.std.proofs.Common.{ap, ◌∙◌}
-use Rattle.trf16.specs.Prelude.{rounds_played, starts_of}
+use Rattle.trf16_report.specs.Prelude.{rounds_played, starts_of}
 use Rattle.trf16_writer.specs.Steps.{entry_turned}
 use Rattle.trf16_writer.proofs.RoundLemmas.{keeps-start, starts-with}
-use Rattle.trf16.proofs.ReportLemmas.{starts-entries}
+use Rattle.trf16_report.proofs.ReportLemmas.{starts-entries}
 use Rattle.trf16_writer.proofs.turn.turned.Goals as goal
 
 pub with_players-requires-clause-same : goal.with_players-requires-clause-same

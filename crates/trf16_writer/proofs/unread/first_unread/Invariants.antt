@@ -1,5 +1,5 @@
 use Rattle.std.proofs.Common.{◌≡◌, ◌+◌, ◌<◌, ◌^◌, length}
-use Rattle.trf16.specs.Prelude.{first_at, names_unread, first_unread}
+use Rattle.trf16_report.specs.Prelude.{first_at, names_unread, first_unread}
 use Rattle.trf16_writer.proofs.unread.first_unread.Given as goal
 
 abbrev pub invariant-loop-line : goal.invariant-loop-line

@@ -1,6 +1,6 @@
 use Rattle.std.proofs.Common.{◌∙◌, subst}
 use Rattle.std.proofs.lemmas.List.{take-replicate}
-use Rattle.trf16.specs.Prelude.{use_of, Puts}
+use Rattle.trf16_report.specs.Prelude.{use_of, Puts}
 use Rattle.trf16_writer.proofs.writing.put_blanks.Goals as goal
 
 pub returns : goal.returns

@@ -1,7 +1,7 @@
 use Rattle.std.proofs.Common.{ℕ, false, refl, arith, [], ◌∷◌, ◌≡◌, ◌==◌, ◌%◌, if◌then◌else◌}
 use Rattle.std.proofs.lemmas.Bool.Decides.{nat_tests}
 use Rattle.std.proofs.lemmas.Result.{err_from_is_err_and}
-use Rattle.trf16.proofs.OutputLemmas.{put_both, put_neither}
+use Rattle.trf16_report.proofs.OutputLemmas.{put_both, put_neither}
 use Rattle.trf16_writer.proofs.writing.put_decimal.Goals as goal
 use Rattle.trf16_writer.proofs.writing.put_decimal.Goals.{then-points-eq0, else-points-eq0}
 

@@ -1,7 +1,7 @@
 use Rattle.std.proofs.Common.{ℕ, ◌≡◌, ◌-◌, ◌∙◌, ap, length}
 use Rattle.std.proofs.lemmas.Result.{err_from_is_err_and}
-use Rattle.trf16.specs.Prelude.{columns, blanks}
-use Rattle.trf16.proofs.OutputLemmas.{put_both, put_neither}
+use Rattle.trf16_report.specs.Prelude.{columns, blanks}
+use Rattle.trf16_report.proofs.OutputLemmas.{put_both, put_neither}
 use Rattle.trf16_writer.proofs.writing.put_left.Goals as goal
 
 pub returns-in_err-put_all : goal.returns-in_err-put_all

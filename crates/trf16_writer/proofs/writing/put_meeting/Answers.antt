@@ -1,8 +1,8 @@
 use Rattle.std.proofs.Common.{[], ◌∷◌}
 use Rattle.std.specs.Prelude.{decimal}
 use Rattle.std.proofs.lemmas.Result.{err_from_is_err_and}
-use Rattle.trf16.specs.Prelude.{right_in_four, colour_letter}
-use Rattle.trf16.proofs.OutputLemmas.{put_both, put_neither}
+use Rattle.trf16_report.specs.Prelude.{right_in_four, colour_letter}
+use Rattle.trf16_report.proofs.OutputLemmas.{put_both, put_neither}
 use Rattle.trf16_writer.proofs.writing.put_meeting.Goals as goal
 
 pub returns-in_err-put_number : goal.returns-in_err-put_number

@@ -1,8 +1,8 @@
 use Rattle.std.proofs.Common.{subst}
 use Rattle.std.specs.List.{flat_map}
 use Rattle.std.proofs.lemmas.Result.{err_from_is_err_and}
-use Rattle.trf16.specs.Prelude.{use_of, Puts, entry_of, round_text}
-use Rattle.trf16.proofs.OutputLemmas.{fails_behind, put_neither, put_both}
+use Rattle.trf16_report.specs.Prelude.{use_of, Puts, entry_of, round_text}
+use Rattle.trf16_report.proofs.OutputLemmas.{fails_behind, put_neither, put_both}
 use Rattle.trf16_writer.proofs.WritingLemmas.{from_right, from_points, from_left, from_number}
 use Rattle.trf16_writer.proofs.writing.put_player.Goals as goal
 

@@ -1,7 +1,7 @@
 use Rattle.std.proofs.Common.{◌∙◌}
 use Rattle.std.proofs.lemmas.Result.{err_from_is_err_and}
-use Rattle.trf16.specs.Prelude.{blanks, points_text}
-use Rattle.trf16.proofs.OutputLemmas.{put_both, put_neither}
+use Rattle.trf16_report.specs.Prelude.{blanks, points_text}
+use Rattle.trf16_report.proofs.OutputLemmas.{put_both, put_neither}
 use Rattle.trf16_writer.proofs.WritingLemmas.{points_room}
 use Rattle.trf16_writer.proofs.writing.put_points.Goals as goal
 

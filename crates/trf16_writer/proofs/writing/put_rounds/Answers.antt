@@ -2,9 +2,9 @@ use Rattle.std.proofs.Common.{◌+◌, drop, get_or, ap}
 use Rattle.std.specs.List.{flat_map}
 use Rattle.std.proofs.lemmas.Result.{err_from_is_err_and}
 use Rattle.std.proofs.lemmas.List.{drop_more}
-use Rattle.trf16.specs.Prelude.{round_text}
-use Rattle.trf16.specs.declared.cell.Cell.TheVariants.{Blank}
-use Rattle.trf16.proofs.OutputLemmas.{put_next, put_fails}
+use Rattle.trf16_report.specs.Prelude.{round_text}
+use Rattle.trf16_report.specs.declared.cell.Cell.TheVariants.{Blank}
+use Rattle.trf16_report.proofs.OutputLemmas.{put_next, put_fails}
 use Rattle.trf16_writer.proofs.writing.put_rounds.Goals as goal
 
 pub returns-in_err-put_round : goal.returns-in_err-put_round

@@ -1,7 +1,7 @@
 use Rattle.std.proofs.Common.{drop}
 use Rattle.std.specs.List.{flat_map}
-use Rattle.trf16.specs.Prelude.{use_of, round_text}
-use Rattle.trf16.proofs.OutputLemmas.{IsPutUpTo}
+use Rattle.trf16_report.specs.Prelude.{use_of, round_text}
+use Rattle.trf16_report.proofs.OutputLemmas.{IsPutUpTo}
 use Rattle.trf16_writer.proofs.writing.put_rounds.Given as goal
 
 abbrev pub invariant-loop-cell : goal.invariant-loop-cell

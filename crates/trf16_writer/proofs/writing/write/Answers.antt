@@ -1,9 +1,9 @@
 use Rattle.std.proofs.Common.{map}
 use Rattle.std.specs.Prelude.{option_copied}
 use Rattle.std.proofs.lemmas.Result.{err_from_is_err_and}
-use Rattle.trf16.specs.Prelude.{entry_of, lines_text, written}
+use Rattle.trf16_report.specs.Prelude.{entry_of, lines_text, written}
 use Rattle.trf16_writer.specs.Steps.{next_text}
-use Rattle.trf16.proofs.OutputLemmas.{put_next, put_fails}
+use Rattle.trf16_report.proofs.OutputLemmas.{put_next, put_fails}
 use Rattle.trf16_writer.proofs.WritingLemmas.{lines_next}
 use Rattle.trf16_writer.proofs.writing.write.Goals as goal
 

@@ -1,6 +1,6 @@
 use Rattle.std.proofs.Common.{map, length}
-use Rattle.trf16.specs.Prelude.{entry_of, use_of, lines_text, written}
-use Rattle.trf16.proofs.OutputLemmas.{IsPutUpTo}
+use Rattle.trf16_report.specs.Prelude.{entry_of, use_of, lines_text, written}
+use Rattle.trf16_report.proofs.OutputLemmas.{IsPutUpTo}
 use Rattle.trf16_writer.proofs.writing.write.Given as goal
 
 abbrev pub invariant-loop-line : goal.invariant-loop-line

@@ -1,7 +1,7 @@
 -- The differences put so far, and those of the numbers to come, make them all.
 use Rattle.std.proofs.Common.{◌≡◌, ◌+◌, ◌-◌, ◌≤◌, map}
 use Rattle.arrayvec.specs.ArrayVec.{array_vec_len}
-use Rattle.dutch_order.specs.Prelude.{numbers_from, left_of}
+use Rattle.dutch_arrangements.specs.Prelude.{numbers_from, left_of}
 use Rattle.dutch_bracket.specs.Prelude.{seat_of, score_at, placed_all}
 use Rattle.dutch_candidates.proofs.psd_floor.FlatShape.put_limbo.Given as goal
 

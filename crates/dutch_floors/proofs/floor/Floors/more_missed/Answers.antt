@@ -1,7 +1,7 @@
 -- How many more miss, by how many of the bracket and of the pairs want each colour.
 use Rattle.std.proofs.Common.{◌∙◌, ℕ, ap, arith, length}
 use Rattle.std.proofs.lemmas.List.{length-map}
-use Rattle.dutch_order.specs.declared.bracket.Shape.{Shape}
+use Rattle.dutch_arrangements.specs.declared.bracket.Shape.{Shape}
 use Rattle.dutch_bracket.specs.Prelude.{seat_of}
 use Rattle.dutch_floors.specs.Behind.{Basis}
 use Rattle.dutch_floors.specs.KnownPairs.{by_seat}

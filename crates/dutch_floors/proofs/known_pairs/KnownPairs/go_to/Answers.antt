@@ -1,5 +1,5 @@
 use Rattle.std.proofs.Common.{◌∙◌, ◌+◌, ap, length, take_all, arith}
-use Rattle.dutch_order.specs.Prelude.{Arrangement}
+use Rattle.dutch_arrangements.specs.Prelude.{Arrangement}
 use Rattle.dutch_floors.specs.KnownPairs.{number_pairs}
 use Rattle.dutch_floors.proofs.SumLemmas.{front_more, pairs_count}
 use Rattle.dutch_floors.proofs.known_pairs.KnownPairs.go_to.Goals as goal

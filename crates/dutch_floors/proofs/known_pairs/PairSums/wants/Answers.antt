@@ -1,5 +1,5 @@
 use Rattle.std.proofs.Common.{◌∙◌, sum_by, sym, ap}
-use Rattle.trf16.specs.declared.cell.Colour.TheVariants.{White, Black}
+use Rattle.trf16_report.specs.declared.cell.Colour.TheVariants.{White, Black}
 use Rattle.dutch_bracket.specs.Prelude.{in_both}
 use Rattle.dutch_floors.specs.FloorOf.{wanting}
 use Rattle.dutch_floors.proofs.known_pairs.PairSums.wants.Goals as goal

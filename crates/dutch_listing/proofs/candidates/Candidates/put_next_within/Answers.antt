@@ -1,7 +1,7 @@
 use Rattle.std.proofs.Common.{◌≡◌, ℕ, Bool, true, List, subst, sym}
 use Rattle.std.specs.List.{AllByRecursion}
-use Rattle.dutch_order.specs.Prelude.{Arrangement, Frame, candidates, IsIn, AreCandidates, Passes}
-use Rattle.dutch_order.specs.declared.bracket.Shape.{Shape}
+use Rattle.dutch_arrangements.specs.Prelude.{Arrangement, Frame, candidates, IsIn, AreCandidates, Passes}
+use Rattle.dutch_arrangements.specs.declared.bracket.Shape.{Shape}
 use Rattle.dutch_sequence.proofs.Skipping.{passes-weaker}
 use Rattle.dutch_listing.proofs.Nexts.{step-each}
 use Rattle.dutch_listing.proofs.candidates.Candidates.put_next_within.Goals as goal

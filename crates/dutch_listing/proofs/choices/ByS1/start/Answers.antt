@@ -1,8 +1,8 @@
 use Rattle.std.proofs.Common.{◌≡◌, ◌∙◌, ap, sym, subst, length, take, arith, ◌-◌, ◌+◌, ◌≤◌, ℕ, List, option_copied}
 use Rattle.std.specs.List.{AllByRecursion}
-use Rattle.dutch_order.specs.Prelude.{Arrangement, arrangements, residents_of, from_on, subsets, numbers_from, IsIn, HasS2, Of, choices_from, in_bracket, joined, s1_blocks, limbo_exchanges}
-use Rattle.dutch_order.specs.contracts.cursor.Cursor.{the_view}
-use Rattle.dutch_order.proofs.Behind.{cursor-s1, cursor-s2}
+use Rattle.dutch_arrangements.specs.Prelude.{Arrangement, arrangements, residents_of, from_on, subsets, numbers_from, IsIn, HasS2, Of, choices_from, in_bracket, joined, s1_blocks, limbo_exchanges}
+use Rattle.dutch_arrangements.specs.contracts.cursor.Cursor.{the_view}
+use Rattle.dutch_arrangements.proofs.Behind.{cursor-s1, cursor-s2}
 use Rattle.dutch_sequence.proofs.Counts.{sets-fit, from_on-all}
 use Rattle.dutch_sequence.proofs.Members.{length-numbers}
 use Rattle.dutch_listing.proofs.choices.ByS1.start.Goals as goal

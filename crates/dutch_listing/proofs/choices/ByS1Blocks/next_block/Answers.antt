@@ -1,6 +1,6 @@
 use Rattle.std.proofs.Common.{◌≡◌, ◌∷◌, None, sym, ◌∙◌, ap, option_copied}
 use Rattle.std.specs.List.{AllByRecursion}
-use Rattle.dutch_order.specs.Prelude.{HasS2, if_own, in_s1, joined, s1_blocks}
+use Rattle.dutch_arrangements.specs.Prelude.{HasS2, if_own, in_s1, joined, s1_blocks}
 use Rattle.dutch_sequence.proofs.Skipping.{passes-none, drawn, drawn-stopped}
 use Rattle.dutch_listing.proofs.Blocks.{block-comes, no-blocks, taken}
 use Rattle.dutch_listing.proofs.choices.ByS1Blocks.next_block.Goals as goal

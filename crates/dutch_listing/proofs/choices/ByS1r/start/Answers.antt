@@ -1,6 +1,6 @@
 use Rattle.std.proofs.Common.{◌≡◌, ◌∙◌, ap, sym, ℕ, Bool, List, Option, option_copied}
-use Rattle.dutch_order.specs.Prelude.{Arrangement, left_of, from_on, exchanges, choices_from, in_s2, joined, s1r_blocks}
-use Rattle.dutch_order.specs.contracts.cursor.Cursor.{the_view}
+use Rattle.dutch_arrangements.specs.Prelude.{Arrangement, left_of, from_on, exchanges, choices_from, in_s2, joined, s1r_blocks}
+use Rattle.dutch_arrangements.specs.contracts.cursor.Cursor.{the_view}
 use Rattle.dutch_listing.proofs.choices.ByS1r.start.Goals as goal
 
 -- the same lists have the same blocks

@@ -1,6 +1,6 @@
 use Rattle.std.proofs.Common.{◌≡◌, ◌∷◌, None, sym, ap, subst, ◌∙◌, option_copied}
 use Rattle.std.specs.List.{AllByRecursion}
-use Rattle.dutch_order.specs.Prelude.{HasS2r, if_own, in_s1r, s1r_blocks}
+use Rattle.dutch_arrangements.specs.Prelude.{HasS2r, if_own, in_s1r, s1r_blocks}
 use Rattle.dutch_listing.proofs.Blocks.{comes, ends, goes-whole, idle-behind-s1r, idle-s1r-blocks, some-lent, stops, taken}
 use Rattle.dutch_listing.proofs.Passing.{blocks-each}
 use Rattle.dutch_sequence.proofs.Skipping.{passes-all, passes-same, drawn, drawn-stopped}

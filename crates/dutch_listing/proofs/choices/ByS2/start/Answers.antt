@@ -1,8 +1,8 @@
 use Rattle.std.proofs.Common.{sym, subst, length, ◌≤◌, option_copied, ◌≡◌, ◌∙◌, ap, filter, ℕ, Bool, List, Option}
 use Rattle.std.specs.List.{AllByRecursion}
 use Rattle.std.specs.List.Sorted.{IsStrictlyIncreasing}
-use Rattle.dutch_order.specs.Prelude.{Arrangement, left_of, HasS1r, HasS2, Of, choices_from, in_s1, joined, s2_blocks, all_meet, from_on, all_tuples}
-use Rattle.dutch_order.specs.contracts.cursor.Cursor.{the_view}
+use Rattle.dutch_arrangements.specs.Prelude.{Arrangement, left_of, HasS1r, HasS2, Of, choices_from, in_s1, joined, s2_blocks, all_meet, from_on, all_tuples}
+use Rattle.dutch_arrangements.specs.contracts.cursor.Cursor.{the_view}
 use Rattle.dutch_listing.proofs.Blocks.{of-both}
 use Rattle.dutch_sequence.proofs.Counts.{opponents-leave, opponents-leave-from}
 use Rattle.dutch_listing.proofs.choices.ByS2.start.Goals as goal

@@ -1,6 +1,6 @@
 use Rattle.std.proofs.Common.{◌≡◌, ◌≤◌, sym, subst, ap, ◌∙◌, ◌∷◌, None, length, option_copied}
 use Rattle.std.specs.List.{AllByRecursion}
-use Rattle.dutch_order.specs.Prelude.{left_of, HasS1r, Of, if_own, in_s2, joined, s2_blocks}
+use Rattle.dutch_arrangements.specs.Prelude.{left_of, HasS1r, Of, if_own, in_s2, joined, s2_blocks}
 use Rattle.dutch_listing.proofs.Blocks.{comes, ends, idle-behind-s2, some-lent, stops, taken}
 use Rattle.dutch_sequence.proofs.Skipping.{passes-none, passes-more, passes-keeps, drawn, drawn-stopped}
 use Rattle.dutch_listing.proofs.choices.ByS2Blocks.next_block.Goals as goal

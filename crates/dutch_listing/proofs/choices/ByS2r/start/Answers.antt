@@ -1,6 +1,6 @@
 use Rattle.std.proofs.Common.{◌≡◌, ◌∙◌, ap, sym, length, map, filter, List, ℕ, Option, option_copied}
-use Rattle.dutch_order.specs.Prelude.{Arrangement, left_of, all_meet, from_on, arranged, choices_from, in_s1r, without_own, all_tuples}
-use Rattle.dutch_order.specs.contracts.cursor.Cursor.{the_view}
+use Rattle.dutch_arrangements.specs.Prelude.{Arrangement, left_of, all_meet, from_on, arranged, choices_from, in_s1r, without_own, all_tuples}
+use Rattle.dutch_arrangements.specs.contracts.cursor.Cursor.{the_view}
 use Rattle.dutch_listing.proofs.choices.ByS2r.start.Goals as goal
 
 -- the same lists make the same arrangements

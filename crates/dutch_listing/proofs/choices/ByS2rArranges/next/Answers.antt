@@ -1,5 +1,5 @@
 use Rattle.std.proofs.Common.{false, sym, ap, [], ◌∷◌, map, option_copied}
-use Rattle.dutch_order.specs.Prelude.{arranged, without_own}
+use Rattle.dutch_arrangements.specs.Prelude.{arranged, without_own}
 use Rattle.dutch_listing.proofs.Blocks.{passes-arranged, same-lists}
 use Rattle.dutch_sequence.proofs.Skipping.{passes-none, passes-more, drawn, drawn-stopped}
 use Rattle.dutch_listing.proofs.choices.ByS2rArranges.next.Goals as goal

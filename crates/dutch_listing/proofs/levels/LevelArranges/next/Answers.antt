@@ -1,5 +1,5 @@
 use Rattle.std.proofs.Common.{refl, arith}
-use Rattle.dutch_order.specs.Prelude.{joined}
+use Rattle.dutch_arrangements.specs.Prelude.{joined}
 use Rattle.dutch_listing.proofs.Passing.{passes-each, blocks-each}
 use Rattle.dutch_sequence.proofs.Skipping.{passes-none, passes-more, passes-before, passes-between, passes-fewer, drawn, drawn-stopped}
 use Rattle.dutch_sequence.proofs.Spending.{spends-none, spends-more}

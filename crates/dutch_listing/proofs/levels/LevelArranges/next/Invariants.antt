@@ -1,5 +1,5 @@
 use Rattle.std.proofs.Common.{length, ◌++◌}
-use Rattle.dutch_order.specs.Prelude.{Arrangement, within, joined, Passes, Spends}
+use Rattle.dutch_arrangements.specs.Prelude.{Arrangement, within, joined, Passes, Spends}
 use Rattle.dutch_listing.proofs.levels.LevelArranges.next.Given as goal
 
 abbrev pub invariant-loop-self : goal.invariant-loop-self

@@ -1,6 +1,6 @@
 -- What the turns before skipped is idle too.
 use Rattle.std.proofs.Common.{◌≡◌, ◌∷◌, true, ap, subst, ◌∙◌}
-use Rattle.dutch_order.specs.Prelude.{Frame, down}
+use Rattle.dutch_arrangements.specs.Prelude.{Frame, down}
 use Rattle.dutch_sequence.proofs.Spending.{spends-more}
 use Rattle.dutch_passes.specs.Prelude.{PassesIdle, is_idle_to}
 use Rattle.dutch_search.proofs.PassesTwice.{passes_twice}

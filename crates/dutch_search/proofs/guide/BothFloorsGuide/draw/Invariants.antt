@@ -1,6 +1,6 @@
 -- What was skipped in the turns so far is idle, and the walk goes on with the rest.
 use Rattle.std.proofs.Common.{◌≡◌, ◌-◌}
-use Rattle.dutch_order.specs.Prelude.{Spends}
+use Rattle.dutch_arrangements.specs.Prelude.{Spends}
 use Rattle.dutch_passes.specs.Prelude.{PassesIdle}
 use Rattle.dutch_search.proofs.guide.BothFloorsGuide.draw.Given as goal
 

@@ -1,6 +1,6 @@
 -- The sum of what is known is no less than what the members of each such S1R add.
 use Rattle.std.proofs.Common.{ℕ, ◌+◌, ◌*◌, List, ap, subst, sum_by, arith}
-use Rattle.dutch_order.specs.Prelude.{ExchangeClass, IsIn}
+use Rattle.dutch_arrangements.specs.Prelude.{ExchangeClass, IsIn}
 use Rattle.dutch_weights.specs.Prelude.{Order, kept, short_of}
 use Rattle.dutch_weights.proofs.OrderLemmas.{most_added, under_rest}
 use Rattle.dutch_weights.proofs.order.Order.most.Goals as goal

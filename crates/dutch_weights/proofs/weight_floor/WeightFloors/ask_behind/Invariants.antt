@@ -1,6 +1,6 @@
 -- The floors stay those of the bracket, and steps are only spent.
 use Rattle.std.proofs.Common.{◌≡◌}
-use Rattle.dutch_order.specs.Prelude.{Spends}
+use Rattle.dutch_arrangements.specs.Prelude.{Spends}
 use Rattle.dutch_weights.proofs.weight_floor.WeightFloors.ask_behind.Given as goal
 
 abbrev pub invariant-loop : goal.invariant-loop

@@ -1,6 +1,0 @@
-use Rattle.std.proofs.Common.{◌≡◌, drop}
-use Rattle.dutch_order.specs.Prelude.{are_different}
-use Rattle.dutch_order.proofs.cursor.are_different.Given as goal
-
-abbrev pub invariant-loop-i : goal.invariant-loop-i
-invariant-loop-i l = are_different (drop l.i l.numbers) ≡ are_different l.numbers

@@ -1,5 +1,0 @@
-use Rattle.dutch_pair.proofs.NextRound.{can_be_next}
-use Rattle.dutch_pair.proofs.laws.boards_can_be_the_next_round.Goals as goal
-
-pub returns : goal.returns
-returns c = can_be_next

@@ -1,0 +1,272 @@
+// The walk over the brackets of a round, from the highest scoregroup down (C.04.3 A.3, A.9), specified by the round
+// from where it stands on.
+//
+// Whatever bracket comes next, its players and all lower ones can be paired out, and no two of those moved down may
+// meet. So each bracket has a candidate that can be chosen, and at the end of the walk at most one player is left over.
+ghost use Rattle.std.specs.Prelude.{◌≡◌, ◌+◌, ◌<◌, ◌≤◌, ◌++◌, length, Some, IfErr};
+ghost use Rattle.std.specs.Result.{MatchResult};
+ghost use Rattle.dutch_arrangements.specs.Prelude.{Spends};
+ghost use Rattle.dutch_bracket.specs.Prelude.{HasCandidate, FitsHere, first_group, scoregroups, shape_of};
+ghost use Rattle.dutch_rounds.specs.declared.walk.Halt.TheVariants.{Fault};
+ghost use Rattle.dutch_rounds.specs.Round.{everybody, brackets, paired_again};
+ghost use Rattle.dutch_rounds.specs.Walk.{Goes};
+ghost use Rattle.dutch_rounds.specs.WaysOut.{GoesOut, StandsBefore};
+ghost use Rattle.dutch_rounds.specs.Stages.{GoesOn, IsFound, IsHalt, IsSettled, StandsAt, Starts, TellsUsed, group_kind};
+ghost use Rattle.dutch_rounds.specs.Stages.{round_by, round_from, stage_first};
+
+use crate::stage::{Stage, settle};
+use dutch_arrangements::{Budget, Shape, Stopped, numbered_from};
+use dutch_bracket::context::Context;
+use dutch_bracket::fault::PairFault;
+use dutch_bracket::group::split_first_group;
+use dutch_bracket::reached::{BracketKind, Reached, Seats, bracket, copied};
+use dutch_bracket::seated::seats_of;
+use dutch_choice::finder::Finder;
+use dutch_choice::shape::shape_of;
+use dutch_completion::eligible::can_complete;
+use dutch_player::Field;
+use dutch_player::laws::scores_do_not_ascend;
+use std::alloc::Global;
+use std::marker::Model;
+
+/// All seats of a field, by rank.
+pub(crate) fn everybody(field: &Field) -> Seats
+    ensures { result.items ≡ everybody field.now }
+{
+    numbered_from(0, field.len())
+}
+
+/// What comes next in a walk.
+#[derive(Drop)]
+enum Next<'a> {
+    /// A bracket, and the seats below it, by rank.
+    Bracket { reached: Reached, lower: &'a [u16] },
+    /// The end of the round: who is left over has the bye.
+    Bye(Seats),
+}
+
+/// A walk over the brackets of a round, before one of them or at the end.
+#[derive(Drop)]
+pub(crate) struct Walk<'a> {
+    field: &'a Field,
+    // of the bracket that comes next, as its number
+    budget: Budget,
+    number: u16,
+    next: Next<'a>,
+}
+
+impl<'a> Model for Walk<'a> {
+    ghost use Rattle.dutch_rounds.specs.Stages.{Walk, IsUnderWay, bye_at, round_from};
+
+    ghost Value = { Walk };
+
+    ghost view = { λ w. record {
+      facts = w.field.now;
+      limit = w.budget.limit;
+      used = w.budget.used;
+      number = w.number;
+      rest = round_from w.field.now w.next;
+      bye = bye_at w.next;
+    } };
+
+    ghost invariant = { λ w. IsUnderWay w.field.now w.number w.next };
+}
+
+/// Why a question ends before the walk does.
+#[derive(Drop)]
+pub(crate) enum Halt {
+    /// No pairing meets the absolute criteria.
+    NoPairing,
+    /// The steps of a bracket reached the limit, which is `used`.
+    Undecided { bracket: u16, used: u64 },
+    /// The round could not be paired.
+    Fault(PairFault),
+}
+
+impl From<PairFault> for Halt {
+    ghost from_gives = { λ fault halt. halt ≡ Fault fault };
+
+    fn from(fault: PairFault) -> Halt {
+        Halt::Fault(fault)
+    }
+}
+
+/// The kind of the bracket of a scoregroup above lower seats.
+fn group_kind(lower: &[u16]) -> BracketKind
+    ensures { result ≡ group_kind lower.now }
+{
+    match lower {
+        [] => BracketKind::Last,
+        _ => BracketKind::Ordinary,
+    }
+}
+
+/// A bracket that is paired again, with a number of its own, as the penultimate one.
+fn paired_again(reached: &Reached) -> Reached
+    requires { reached.now.number < 65535 }
+    ensures { result ≡ paired_again reached.now }
+{
+    let mut again = reached.copied();
+    again.number += 1;
+    again.kind = BracketKind::Penultimate;
+    again
+}
+
+/// The shape of a bracket.
+fn shape_in(context: &Context<'_>, budget: &mut Budget) -> Result<Shape, Stopped>
+    requires candidate { HasCandidate context.now.facts context.now.reached context.now.lower }
+    ensures answer { MatchResult result
+        (λ shape. (shape_of context.now.facts context.now.reached context.now.lower ≡ Some shape)
+        × FitsHere context.now shape)
+        (λ _. budget.new.used ≡ budget.new.limit) }
+    ensures spends { Spends budget.old budget.new }
+{
+    match shape_of(context, budget)? {
+        Some(shape) => Ok(shape),
+        None => unreachable!(),
+    }
+}
+
+/// What comes next for some moved down and the seats that are left, by rank, which are split behind their first
+/// scoregroup: the bracket of that group, or the end.
+fn first_group<'a>(
+    field: &Field,
+    number: u16,
+    left: Seats,
+    parts: (&'a [u16], &'a [u16]),
+) -> Next<'a>
+    requires goes { Goes field.now left.items (parts.0.now ++ parts.1.now) }
+    requires out { GoesOut field.now left.items (parts.0.now ++ parts.1.now) }
+    requires small { number + length (parts.0.now ++ parts.1.now) ≤ length field.now.seats + 1 }
+    requires first { parts.0.now ≡ first_group field.now (scoregroups field.now (parts.0.now ++ parts.1.now)) }
+    ensures stands { StandsAt field.now number result }
+    ensures rest { round_from field.now result ≡ brackets field.now number left.items
+        (scoregroups field.now (parts.entry.0.now ++ parts.entry.1.now)) }
+{
+    scores_do_not_ascend(field);
+    let (group, lower) = parts;
+    if group.is_empty() {
+        return Next::Bye(left);
+    }
+    let reached = bracket(number, group_kind(lower), &left, group);
+    Next::Bracket { reached, lower }
+}
+
+/// What comes next behind a stage, which is settled above these lower seats, of which so many are the next scoregroup.
+fn behind<'a>(field: &Field, stage: &Stage, lower: &'a [u16], group: usize) -> Next<'a>
+    requires stands { StandsBefore field.now stage.now.reached.number stage.now.reached lower.now }
+    requires group { group ≡ length (first_group field.now (scoregroups field.now lower.now)) }
+    requires settled { IsSettled field.now lower.now stage.now }
+    ensures stands { StandsAt field.now (stage.now.reached.number + 1) result }
+    ensures rest { round_by field.now stage.now.reached.kind stage.now.reached lower.now
+        ≡ stage_first field.now stage.now (round_from field.now result) }
+{
+    scores_do_not_ascend(field);
+    let reached = &stage.reached;
+    let number = reached.number() + 1;
+    let left = seats_of(reached.seats(), stage.candidate.down());
+    if stage.again {
+        let reached = paired_again(reached);
+        return Next::Bracket { reached, lower };
+    }
+    match reached.kind() {
+        BracketKind::Ordinary => first_group(field, number, left, lower.split_at(group)),
+        BracketKind::Penultimate => Next::Bracket {
+            reached: bracket(number, BracketKind::Collapsed, &left, lower),
+            lower: &lower[..0],
+        },
+        BracketKind::Last | BracketKind::Collapsed => Next::Bye(left),
+    }
+}
+
+impl<'a> Walk<'a> {
+    /// A walk over the brackets of the next round. The test of all present players comes first, and counts to the first
+    /// bracket.
+    #[tactic(auto, using(crate::proofs::GroupWalk::everybody_few))]
+    pub(crate) fn start(
+        alloc: Global,
+        field: &'a Field,
+        all: &'a [u16],
+        limit: u64,
+    ) -> Result<Walk<'a>, Halt>
+        requires all { all.now ≡ everybody field.now }
+        ensures { MatchResult result (Starts field.now limit) (IsHalt field.now limit) }
+    {
+        scores_do_not_ascend(field);
+        let mut budget = Budget { limit, used: 0 };
+        match can_complete(alloc, field, all, &mut budget) {
+            Ok(true) => Ok(Walk {
+                field,
+                budget,
+                number: 1,
+                next: first_group(field, 1, Seats::new(), split_first_group(field, all)),
+            }),
+            Ok(false) => Err(Halt::NoPairing),
+            Err(Stopped) => Err(Halt::Undecided {
+                bracket: 1,
+                used: budget.used,
+            }),
+        }
+    }
+
+    /// The number of the bracket that comes next, if one does.
+    pub(crate) fn number(&self) -> u16
+        ensures { result ≡ self.now.number }
+    {
+        self.number
+    }
+
+    /// Who has the bye, at the end of the walk.
+    pub(crate) fn bye(&self) -> Seats
+        ensures { result.items ≡ self.now.bye }
+    {
+        match &self.next {
+            Next::Bracket { .. } => Seats::new(),
+            Next::Bye(bye) => copied(bye),
+        }
+    }
+
+    /// Settles the bracket that comes next by its choice and the test behind it, and goes behind it, where the budget
+    /// begins anew. The answer is none if no bracket comes.
+    pub(crate) fn settle_next<F: Finder>(&mut self, alloc: Global) -> Result<Option<Stage>, Halt>
+        ensures goes { MatchResult result (GoesOn self.old self.new) (IsHalt self.old.facts self.old.limit) }
+        ensures used { IfErr result (TellsUsed self.new.used) }
+    {
+        scores_do_not_ascend(self.field);
+        let Next::Bracket { reached, lower } = &self.next else {
+            return Ok(None);
+        };
+        let context = Context::new(alloc, self.field, reached, lower);
+        let Some(stage) = settle::<F>(&context, &mut self.budget)? else {
+            return Err(Halt::Undecided {
+                bracket: self.number,
+                used: self.budget.used,
+            });
+        };
+        self.next = behind(self.field, &stage, lower, context.next().len());
+        self.number += 1;
+        self.budget.used = 0;
+        Ok(Some(stage))
+    }
+
+    /// The bracket that comes next, with its shape; nothing more is asked of it. The answer is none if no bracket
+    /// comes.
+    pub(crate) fn bracket(&mut self, alloc: Global) -> Result<Option<(Reached, Shape)>, Halt>
+        ensures found { MatchResult result (IsFound self.old.facts self.old.number)
+            (IsHalt self.old.facts self.old.limit) }
+        ensures used { IfErr result (TellsUsed self.new.used) }
+    {
+        scores_do_not_ascend(self.field);
+        let Next::Bracket { reached, lower } = &self.next else {
+            return Ok(None);
+        };
+        let context = Context::new(alloc, self.field, reached, lower);
+        let Ok(shape) = shape_in(&context, &mut self.budget) else {
+            return Err(Halt::Undecided {
+                bracket: self.number,
+                used: self.budget.used,
+            });
+        };
+        Ok(Some((reached.copied(), shape)))
+    }
+}

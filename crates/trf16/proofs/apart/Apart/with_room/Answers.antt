@@ -1,6 +1,0 @@
-use Rattle.std.proofs.Common.{◌+◌, ◌*◌}
-use Rattle.trf16.proofs.MarkLemmas.{none_marked}
-use Rattle.trf16.proofs.apart.Apart.with_room.Goals as goal
-
-pub returns-clause-none : goal.returns-clause-none
-returns-clause-none c = λ i j. none_marked c.in_ok-from_elem.field-0.items (c.args.count * i + j) c.in_ok-from_elem.ensures.items

@@ -1,6 +1,0 @@
-use Rattle.std.proofs.Common.{◌∙◌, arith}
-use Rattle.trf16.proofs.FieldLemmas.{words-skip}
-use Rattle.trf16.proofs.fields.blank_len.Goals as goal
-
-pub loop-i-preserved : goal.loop-i-preserved
-loop-i-preserved c = words-skip c.args.bytes.now c.loop-i.i (omega arith) c.if-byte-ne32.false ∙ c.loop-i.invariant

@@ -1,6 +1,0 @@
-use Rattle.std.proofs.Common.{◌≡◌, drop}
-use Rattle.trf16.specs.Prelude.{words}
-use Rattle.trf16.proofs.fields.blank_len.Given as goal
-
-abbrev pub invariant-loop-i : goal.invariant-loop-i
-invariant-loop-i l = words (drop l.i l.bytes) ≡ words l.bytes

@@ -1,5 +1,0 @@
-use Rattle.trf16.proofs.MarkLemmas.{none_marked}
-use Rattle.trf16.proofs.start_ranks.StartRanks.new.Goals as goal
-
-pub returns : goal.returns
-returns c = λ start. none_marked c.in_ok-from_elem.field-0.items start c.in_ok-from_elem.ensures.items
