@@ -133,7 +133,7 @@ module _ (facts : Facts) (one other : ℕ) where
 
     seconds_more : (rest : Option Pairing) → Seconds behind rest → Seconds (residents ++ behind) (with_own rest)
     seconds_more None later = tt
-    seconds_more (Some pairing) later x y m = elim (IsIn-append (x, y) own pairing.pairs m) [
+    seconds_more (Some pairing) later = λ x y m. elim (IsIn-append (x, y) own pairing.pairs m) [
       | inl front ↦ IsIn-front y residents behind (own_pair facts number kind md residents lower chosen is x y front).1
       | inr back ↦ IsIn-back y residents behind (later x y back)
     ]
