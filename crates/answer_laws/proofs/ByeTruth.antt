@@ -97,12 +97,12 @@ none_at test first count false is later e number low high = elim (cases_eq numbe
 
 -- where no number is found, none passes
 none_passes : (test : ℕ → Bool) (first count : ℕ) → find test (numbers_from first count) ≡ None → (number : ℕ) → first ≤ number → number < first + count → test number ≡ false
-none_passes test first zero e number low high = absurd (omega (arith, low, high))
+none_passes test first zero e = λ number low high. absurd (omega (arith, low, high))
 none_passes test first (suc count) e = none_at test first count (test first) refl (none_passes test (suc first) count) e
 
 not_barred : (may barred : Bool) → may ≡ false → may ≡ not barred → barred ≡ true
-not_barred may true no is = refl
-not_barred may false no is = absurd (true≢false (sym is ∙ no))
+not_barred may true off is = refl
+not_barred may false off is = absurd (true≢false (sym is ∙ off))
 
 module _ (sheet : Sheet) (facts : Facts) (bye : List ℕ) (seat : ℕ) (by : IsByCells sheet (seat_at facts seat)) where
   abbrev start : ℕ
@@ -113,24 +113,24 @@ module _ (sheet : Sheet) (facts : Facts) (bye : List ℕ) (seat : ℕ) (by : IsB
 
   -- whoever may not have the bye has such a round
   some_round : (seat_at facts seat).may_bye ≡ false → first_bye sheet start ≡ None → ⊥
-  some_round no none =
+  some_round off none =
       let rounds = rounds_played sheet in
-      let place = barred_at cells rounds (not_barred (seat_at facts seat).may_bye (list_any bars_bye (take rounds cells)) no by) in
+      let place = barred_at cells rounds (not_barred (seat_at facts seat).may_bye (list_any bars_bye (take rounds cells)) off by) in
       let passed : bars_bye (cell_in sheet start (suc place.0)) ≡ false =
       none_passes (has_had_bye sheet start) 1 rounds none (suc place.0) (omega arith) (omega (arith, place.1)) in
       let same : suc place.0 - 1 ≡ place.0 = omega arith in
       true≢false (sym place.2 ∙ ap (λ k. bars_bye (get_or cells k Blank)) (sym same) ∙ passed)
 
   since_then : (found : Option ℕ) → first_bye sheet start ≡ found → (seat_at facts seat).may_bye ≡ false → StandsAgainstBye sheet facts bye seat (since found)
-  since_then (Some round) e no =
+  since_then (Some round) e off =
       let there = first_is (has_had_bye sheet start) 1 (rounds_played sheet) round e in
-      (no, record { from_one = there.from; within = omega (arith, there.within); barred = there.passes; none_before = there.before })
-  since_then None e no = absurd (some_round no e)
+      (off, record { from_one = there.from; within = omega (arith, there.within); barred = there.passes; none_before = there.before })
+  since_then None e off = absurd (some_round off e)
 
   bye_at : (may : Bool) (obstacle : Obstacle) → (seat_at facts seat).may_bye ≡ may → cond may (is_even bye) (Some (since (first_bye sheet start))) ≡ Some obstacle
       → StandsAgainstBye sheet facts bye seat obstacle
-  bye_at false obstacle no e =
-      let is : since (first_bye sheet start) ≡ obstacle = cc in subst (StandsAgainstBye sheet facts bye seat) is (since_then (first_bye sheet start) refl no)
+  bye_at false obstacle off e =
+      let is : since (first_bye sheet start) ≡ obstacle = cc in subst (StandsAgainstBye sheet facts bye seat) is (since_then (first_bye sheet start) refl off)
   bye_at true obstacle may e = nobody bye obstacle may e where
     nobody : (all : List ℕ) (obstacle : Obstacle) → (seat_at facts seat).may_bye ≡ true → is_even all ≡ Some obstacle → StandsAgainstBye sheet facts all seat obstacle
     nobody [] obstacle may e = let is : Even ≡ obstacle = cc in subst (StandsAgainstBye sheet facts [] seat) is (may, refl)

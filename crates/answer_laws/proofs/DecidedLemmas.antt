@@ -60,12 +60,11 @@ module _ (player other : ℕ) where
 
   none_at : (first : Stage) (rest : List Stage) (t : Bool) → keeps_both player other first ≡ t → (shared_in rest player other ≡ None → ShareNone rest player other)
       → cond t (Some first) (shared_in rest player other) ≡ None → ShareNone (first ∷ rest) player other
-  none_at first rest true is later e stage m = absurd (let bad : Some first ≡ None = e in cc)
-  none_at first rest false is later e stage (inl same) = ap (keeps_both player other) same ∙ is
-  none_at first rest false is later e stage (inr m) = later e stage m
+  none_at first rest true is later e = absurd (let bad : Some first ≡ None = e in cc)
+  none_at first rest false is later e = λ stage m. elim m [ inl same ↦ ap (keeps_both player other) same ∙ is | inr n ↦ later e stage n ]
 
   none_shared : (stages : List Stage) → shared_in stages player other ≡ None → ShareNone stages player other
-  none_shared [] e stage m = absurd m
+  none_shared [] e = λ stage m. absurd m
   none_shared (first ∷ rest) e = none_at first rest (keeps_both player other first) refl (none_shared rest) e
 
   -- it is the first of the brackets that were reached
