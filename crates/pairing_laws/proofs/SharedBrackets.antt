@@ -20,7 +20,7 @@ use Rattle.dutch_bracket.proofs.SeatPlaces.{get_in}
 use Rattle.dutch_rounds.specs.Prelude.{Pairing, Round, Visit, brackets, ending, everybody, final_bracket, no_pairing, paired_again, pairing_in, passing, penultimate_bracket, round}
 use Rattle.dutch_rounds.proofs.RoundBy.{final_by, ordinary_by, penultimate_by}
 use Rattle.dutch_rounds.proofs.WalkEnds.{of_bracket}
-use Rattle.pairing_laws.specs.SharedBrackets.{ArePaired, shares}
+use Rattle.pairing_laws.specs.SharedBrackets.{ArePaired, pairs_in, shares}
 
 -- ---- the pairs of a bracket
 
@@ -107,7 +107,7 @@ module _ (facts : Facts) (one other : ℕ) where
   Says visits found =
       IfSome found
       (λ pairing. (visit : Visit) → find (shares one other) visits ≡ Some visit → ArePaired one other pairing.pairs
-      → ArePaired one other (all_pairs visit.bracket.seats visit.lists))
+      → ArePaired one other (pairs_in visit))
 
   -- the residents of its brackets are some seats, and the two are paired so
   abbrev Holds : List ℕ → Round → Type 0
@@ -157,11 +157,11 @@ module _ (facts : Facts) (one other : ℕ) where
     -- in it, if it is the first that they share; else behind it
     says_at : (visits : List Visit) (later : Pairing) (t : Bool) → shares one other visited ≡ t → ((z : ℕ) → IsIn z reached.seats → IsIn z behind → ⊥)
         → Seconds behind (Some later) → Says visits (Some later) → (visit : Visit) → cond t (Some visited) (find (shares one other) visits) ≡ Some visit
-        → ArePaired one other (own ++ later.pairs) → ArePaired one other (all_pairs visit.bracket.seats visit.lists)
+        → ArePaired one other (own ++ later.pairs) → ArePaired one other (pairs_in visit)
     says_at visits later true shared apart seconds says visit e paired =
         let same : visited ≡ visit = cc in
         let parts = and_parts (is_member one reached.seats) (is_member other reached.seats) shared in
-        subst (λ (v : Visit). ArePaired one other (all_pairs v.bracket.seats v.lists)) same
+        subst (λ (v : Visit). ArePaired one other (pairs_in v)) same
         (elim (either later.pairs paired) [
           | inl front ↦ front
           | inr (inl back) ↦ absurd (apart other (member-in other reached.seats parts.1) (seconds one other back))
@@ -248,7 +248,7 @@ module _ (facts : Facts) (one other : ℕ) where
       (λ t. (brackets_hold 1 [] groups (λ z none m. absurd none) twice).1) (λ t. tt)
 
 pub there_or_nowhere : (facts : Facts) (pairing : Pairing) (one other : ℕ) (visit : Visit) → (round facts).pairing ≡ Some pairing
-    → find (shares one other) (round facts).reached ≡ Some visit → ArePaired one other pairing.pairs → ArePaired one other (all_pairs visit.bracket.seats visit.lists)
+    → find (shares one other) (round facts).reached ≡ Some visit → ArePaired one other pairing.pairs → ArePaired one other (pairs_in visit)
 there_or_nowhere facts pairing one other visit is shared paired =
     let says : Says facts one other (round facts).reached (Some pairing) =
     subst (λ (found : Option Pairing). Says facts one other (round facts).reached found) is (round_says facts one other) in

@@ -4,13 +4,13 @@ ghost use Rattle.std.specs.Prelude.{◌≡◌, ◌++◌, ◌<◌, ◌≤◌, ◌
 ghost use Rattle.std.specs.List.{find};
 ghost use Rattle.dutch_arrangements.specs.Prelude.{IsIn};
 ghost use Rattle.dutch_player.specs.Prelude.{Facts, CountFromOne};
-ghost use Rattle.dutch_bracket.specs.Prelude.{all_pairs, completable, downfloaters, seats_meet, seats_may_be_left};
+ghost use Rattle.dutch_bracket.specs.Prelude.{completable, downfloaters, seats_meet, seats_may_be_left};
 ghost use Rattle.dutch_bracket.specs.Completion.{Completable};
 ghost use Rattle.dutch_bracket.specs.declared.reached.BracketKind.TheVariants.{Collapsed, Penultimate};
 ghost use Rattle.dutch_rounds.specs.Prelude.{Pairing, Visit, round, everybody, lower_of, AreInOrder, boards, ordered, Barrier};
 ghost use Rattle.dutch_rounds.specs.Prelude.{NameEverybodyOnce, is_reached, HasNoPairOf, NoTwoMayMeet, PairOut, moved_down};
 ghost use Rattle.dutch_rounds.specs.Prelude.{Blocks};
-ghost use Rattle.pairing_laws.specs.SharedBrackets.{ArePaired, shares};
+ghost use Rattle.pairing_laws.specs.SharedBrackets.{ArePaired, pairs_in, shares};
 
 use dutch_player::Field;
 use dutch_player::laws::scores_do_not_ascend;
@@ -54,7 +54,7 @@ pub fn no_two_moved_down_may_meet()
 pub fn two_who_share_a_bracket_meet_there_or_nowhere()
     ensures { (facts : Facts) (pairing : Pairing) (one other : ℕ) (visit : Visit)
         → (round facts).pairing ≡ Some pairing → find (shares one other) (round facts).reached ≡ Some visit
-        → ArePaired one other pairing.pairs → ArePaired one other (all_pairs visit.bracket.seats visit.lists) }
+        → ArePaired one other pairing.pairs → ArePaired one other (pairs_in visit) }
 {}
 
 /// No list of pairs that pairs out the players whom a penultimate bracket leaves over, with all players below it, has a
