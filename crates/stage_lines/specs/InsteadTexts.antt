@@ -52,12 +52,15 @@ bracket_words telling number None = codes "In bracket " ++ (decimal number ++ co
 bracket_words telling number (Some seat) =
     codes "For that, " ++ (seat_words telling seat ++ (codes " would have to go down in bracket " ++ (decimal number ++ codes ": ")))
 
+-- a bracket in front of what is found in it, in a line or in a sentence [with bracket_front]
+abbrev pub bracket_text : TellingFacts → ℕ → Option ℕ → List ℕ
+bracket_text telling number down =
+    in_wording telling.wording (codes "bracket " ++ (decimal number ++ codes " ")) (bracket_words telling number down)
+
 -- a bracket in front of what is found in it for a wish: its number; in a sentence also who would have to go down in it, so that one knows
 -- what is wished [own]
 abbrev pub bracket_front : TellingFacts → Stage → Wish → List ℕ
-bracket_front telling stage wish =
-    in_wording telling.wording (codes "bracket " ++ (decimal stage.reached.number ++ codes " "))
-    (bracket_words telling stage.reached.number (would_go_down stage wish))
+bracket_front telling stage wish = bracket_text telling stage.reached.number (would_go_down stage wish)
 
 -- ---- the line of a player, who asks for a number, 0 for the bye
 

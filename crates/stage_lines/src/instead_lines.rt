@@ -1,8 +1,8 @@
 // The line that tells why a player does not meet another one in the next round, or does not have the bye, piece by piece.
 ghost use Rattle.std.specs.Prelude.{◌≡◌, ◌++◌, OnOk};
 ghost use Rattle.dutch_bracket.specs.Prelude.{quality_in};
-ghost use Rattle.stage_lines.specs.InsteadTexts.{best_front, bracket_front, found_text, front_text, would_go_down};
-ghost use Rattle.stage_lines.specs.InsteadTexts.{granted_text};
+ghost use Rattle.stage_lines.specs.InsteadTexts.{best_front, bracket_front, bracket_text, found_text, front_text};
+ghost use Rattle.stage_lines.specs.InsteadTexts.{granted_text, would_go_down};
 ghost use Rattle.stage_lines.specs.InsteadTexts.{none_b1_text, none_c4_text, none_c5_text};
 ghost use Rattle.round_lines.specs.ValueTexts.{candidate_text};
 
@@ -66,7 +66,8 @@ pub fn put_found(
         ≡ text.old ++ (bracket_front telling.now searched.entry.stage.now searched.entry.wish
         ++ found_text telling.now.wording searched.entry.stage.now searched.entry.found.now)) }
 {
-    put_bracket(text, telling, searched.stage, searched.wish)?;
+    let down = would_go_down(searched.stage, searched.wish);
+    put_bracket(text, telling, searched.stage.reached().number(), down)?;
     put_reason(text, telling, (searched.stage, searched.found))
 }
 
@@ -81,28 +82,28 @@ fn would_go_down(stage: &Stage, wish: Wish) -> Option<u16>
     }
 }
 
-// Puts a bracket in front of what is found in it for a wish.
+// Puts the number of a bracket in front of what is found in it, and in a sentence also who would have to go down in it.
 fn put_bracket(
     text: &mut Page,
     telling: &Telling<'_>,
-    stage: &Stage,
-    wish: Wish,
+    number: u16,
+    down: Option<u16>,
 ) -> Result<(), AllocError>
-    ensures { OnOk result (text.new ≡ text.old ++ bracket_front telling.now stage.now wish) }
+    ensures { OnOk result (text.new ≡ text.old ++ bracket_text telling.now number down) }
 {
-    let number = Number(stage.reached().number());
+    let number = Number(number);
     let line = [Text("bracket "), number, Text(" ")];
-    if let Some(seat) = would_go_down(stage, wish) {
-        let (who, down) = (Seat(seat), Text(" would have to go down in bracket "));
-        let words = [Text("For that, "), who, down, number, Text(": ")];
-        return say(text, telling, &line, &words);
+    match down {
+        Some(seat) => {
+            let (who, down) = (Seat(seat), Text(" would have to go down in bracket "));
+            let words = [Text("For that, "), who, down, number, Text(": ")];
+            say(text, telling, &line, &words)
+        }
+        None => {
+            let words = [Text("In bracket "), number, Text(", ")];
+            say(text, telling, &line, &words)
+        }
     }
-    say(
-        text,
-        telling,
-        &line,
-        &[Text("In bracket "), number, Text(", ")],
-    )
 }
 
 // None that can be chosen grants the wish.
