@@ -17,14 +17,14 @@ use Rattle.command_line.specs.declared.instead.Rival.TheVariants.{Bye, Seat}
 use Rattle.player_lines.specs.declared.obstacle.Obstacle.{Obstacle}
 use Rattle.player_lines.specs.declared.obstacle.Obstacle.TheVariants.{Absent, Met, Apart, Colours, HadBye, Even}
 
--- C.1: one has played a game against the other in a round, and in none before it
+-- one of two has played a game against the other in a round, and in none before it (C.1) [with StandsAgainstMeeting]
 pub record HaveMetFirst (sheet : Sheet) (one other round : ℕ) : Type 0 where
   pub from_one : 1 ≤ round
   pub within : round ≤ rounds_played sheet
   pub game : opponent_played (cell_in sheet one round) ≡ Some other
   pub none_before : (earlier : ℕ) → 1 ≤ earlier → earlier < round → opponent_played (cell_in sheet one earlier) ≢ Some other
 
--- C.3: both have absolute preferences for one colour, and neither is a topscorer
+-- two have absolute preferences for one colour, and neither is a topscorer (C.3) [with StandsAgainstMeeting]
 pub record ColoursClash (facts : Facts) (one other : ℕ) : Type 0 where
   pub mine : Pref
   pub theirs : Pref
@@ -53,12 +53,12 @@ StandsAgainstBye facts bye seat (Met round) = ⊥
 StandsAgainstBye facts bye seat Apart = ⊥
 StandsAgainstBye facts bye seat Colours = ⊥
 
--- a bracket is the last of some in which a seat stands: the seat stands in it, and in none behind it
+-- a bracket is the last of some in which a seat stands: the seat stands in it, and in none behind it [with IsDecidedIn]
 pub record IsLastOf (seat : ℕ) (stage : Stage) (behind : List Stage) : Type 0 where
   pub stands_here : stands_in seat stage ≡ true
   pub none_behind : stands_in_one behind seat ≡ false
 
--- it is the last of one of the two: of the player, or of who is asked for; the bye has none
+-- a bracket is the last of one of the two: of the player, or of who is asked for; the bye has none [with IsDecidedIn]
 abbrev pub IsLastOfOne : ℕ → Rival → Stage → List Stage → Type 0
 IsLastOfOne player Bye stage behind = IsLastOf player stage behind
 IsLastOfOne player (Seat other) stage behind = IsLastOf player stage behind ⊎ IsLastOf other stage behind
@@ -75,7 +75,8 @@ pub record IsDecidedIn (stages : List Stage) (player : ℕ) (rival : Rival) (sta
 
 -- ---- why none grants a wish
 
--- C.1 to C.3: a legal candidate of a stage's bracket, with as many pairs as it has to make and so many moved-down players in them
+-- a legal candidate (C.1 to C.3) of a stage's bracket, with as many pairs as it has to make and so many moved-down players in them [with
+-- NoneCanBeChosen]
 pub record IsLegalWith (facts : Facts) (stage : Stage) (mdps : ℕ) (a : Arrangement) : Type 0 where
   pub room : Fits (frame_of facts stage.reached) (with_mdps stage.shape mdps)
   pub legal : IsIn a (candidates_of facts stage.reached (with_mdps stage.shape mdps))

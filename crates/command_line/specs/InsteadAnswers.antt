@@ -22,7 +22,8 @@ use Rattle.command_line.specs.declared.instead.Rival.TheVariants.{Bye, Seat}
 use Rattle.player_lines.specs.declared.obstacle.Obstacle.{Obstacle}
 use Rattle.player_lines.specs.declared.obstacle.Obstacle.TheVariants.{Absent}
 
--- a round that is paired: its report and its field, the brackets that it reached, and the seat that has the bye, if one has
+-- a round that is paired: its report and its field, the brackets that it reached, and the seat that has the bye, if one has [with
+-- AnswersInstead]
 pub record PairedRound : Type 0 where
   pub telling : TellingFacts
   pub stages : List Stage
@@ -103,7 +104,7 @@ obstacle_of round player Bye = against_bye round.telling.facts round.bye player
 obstacle_of round player (Seat other) = against_meeting round.telling.sheet round.telling.facts player other
 
 module _ (telling : TellingFacts) (steps player number : ℕ) where
-  -- a candidate that grants a wish is searched for in a bracket, in so many steps, and what is found is told
+  -- a candidate that grants a wish is searched for in a bracket, in so many steps, and what is found is told [with AnswersInstead]
   pub record IsSearched (stage : Stage) (wish : Wish) (answer : Answer) : Type 0 where
     pub found : Instead
     pub is : IsInstead (above_lower telling.facts stage.reached) stage.shape wish steps found
@@ -114,17 +115,17 @@ module _ (telling : TellingFacts) (steps player number : ℕ) where
   AnswersWish stage wish true answer = answer ≡ done (granted_text telling player number)
   AnswersWish stage wish false answer = IsSearched stage wish answer
 
-  -- the same of the bracket in which it was decided; where there is no bracket nothing is told
+  -- what is answered of the bracket in which it was decided; where there is no bracket nothing is told [with AnswersInstead]
   abbrev pub AnswersDecided : Option (Stage × Wish) → Answer → Type 0
   AnswersDecided None answer = answer ≡ done []
   AnswersDecided (Some decided) answer = AnswersWish decided.0 decided.1 (grants decided.1 decided.0.candidate.lists) answer
 
-  -- an obstacle, or else what the brackets say
+  -- what is answered where the two are present: an obstacle, or else what the brackets say [with AnswersInstead]
   abbrev pub AnswersPresent : Option Obstacle → Option (Stage × Wish) → Answer → Type 0
   AnswersPresent (Some obstacle) decided answer = answer ≡ done (instead_text telling player number (obstacle_text telling player number obstacle))
   AnswersPresent None decided answer = AnswersDecided decided answer
 
--- what is answered where the two are present, or else that one of them is absent
+-- what is answered where the two are present, or else that one of them is absent [with AnswersInstead]
 abbrev pub AnswersSeats : PairedRound → ℕ → ℕ → ℕ → Option ℕ → Option Rival → Answer → Type 0
 AnswersSeats round steps player number (Some seat) (Some rival) answer =
     AnswersPresent round.telling steps player number (obstacle_of round seat rival) (decided_in round.stages seat rival) answer
