@@ -1,19 +1,18 @@
 // The look-ahead from a bracket of eight to a scoregroup of four, and which of its values are kept.
 ghost use Rattle.std.specs.Prelude.{◌≡◌, IfOk};
-ghost use Rattle.dutch_bracket.specs.Prelude.{IsOf};
+ghost use Rattle.dutch_pair.specs.Prelude.{IsOf};
 
-use crate::reports::{PlayerLine, field_of};
-use dutch_arrangements::{Budget, Numbers};
-use dutch_passes::{Look, LookAhead};
+use crate::reports::{Line, field_of};
+use dutch_order::{Budget, Numbers};
+use dutch_pair::{
+    BracketAt, BracketKind, Look, LookAhead, Reached, are_left, bracket_at, is_next,
+};
 use dutch_player::Field;
-use dutch_rounds::{BracketAt, BracketKind, Reached, are_left, bracket_at, is_next};
-use dutch_search::WithFloors;
 use std::alloc::Global;
 use std::test::Fail;
-use trf16_report::Colour;
 
 // Eight with a full-point bye, by rank, above four who drew.
-const TWELVE: [PlayerLine<'static>; 12] = [
+const TWELVE: [Line; 12] = [
     ("001    1", "0000 - F"),
     ("001    2", "0000 - F"),
     ("001    3", "0000 - F"),
@@ -35,7 +34,7 @@ const FOUR: [u16; 4] = [8, 9, 10, 11];
 fn eight(alloc: Global, field: &Field) -> Result<Reached, Fail>
     ensures { IfOk result (λ reached. IsOf field.now reached) }
 {
-    match bracket_at::<WithFloors>(alloc, field, 100_000, 1)? {
+    match bracket_at(alloc, field, 100_000, 1)? {
         BracketAt::Bracket {
             reached,
             shape: _shape,
@@ -131,7 +130,7 @@ fn is_kept(look: &mut LookAhead<'_>, reached: &Reached) -> Result<bool, Fail>
 
 #[test]
 fn a_value_that_is_kept_takes_no_step(rt: HostRuntime) -> Result<(), Fail> {
-    let field = field_of(rt.alloc(), &TWELVE, Some(5), Some(Colour::White))?;
+    let field = field_of(rt.alloc(), &TWELVE, Some(5))?;
     let reached = eight(rt.alloc(), &field)?;
     let mut look = look_at_four(rt.alloc(), &field, &reached)?;
     assert!(rt; is_kept(&mut look, &reached)?);
@@ -177,7 +176,7 @@ fn look_up_the_first_65(
 
 #[test]
 fn the_last_64_values_are_kept(rt: HostRuntime) -> Result<(), Fail> {
-    let field = field_of(rt.alloc(), &TWELVE, Some(5), Some(Colour::White))?;
+    let field = field_of(rt.alloc(), &TWELVE, Some(5))?;
     let reached = eight(rt.alloc(), &field)?;
     let mut look = look_at_four(rt.alloc(), &field, &reached)?;
     let mut budget = Budget {
@@ -203,7 +202,7 @@ fn is_undecided(look: &mut LookAhead<'_>, reached: &Reached) -> Result<bool, Fai
 
 #[test]
 fn an_undecided_value_is_not_kept(rt: HostRuntime) -> Result<(), Fail> {
-    let field = field_of(rt.alloc(), &TWELVE, Some(5), Some(Colour::White))?;
+    let field = field_of(rt.alloc(), &TWELVE, Some(5))?;
     let reached = eight(rt.alloc(), &field)?;
     let mut look = look_at_four(rt.alloc(), &field, &reached)?;
     assert!(rt; is_undecided(&mut look, &reached)? && look.len() == 0);

@@ -1,26 +1,16 @@
 // The choice in a bracket, as a caller asks for it who has the bracket alone.
 
-use crate::reports::{PlayerLine, field_of};
-use dutch_arrangements::{Budget, Shape};
+use crate::reports::{ONE_MOVES_DOWN, field_of};
+use dutch_order::{Budget, Shape};
+use dutch_pair::calls::a_bracket_stands_above_the_lower;
+use dutch_pair::{BracketAt, Choice, bracket_at, choose, lower_of};
 use dutch_player::Field;
-use dutch_rounds::{BracketAt, Choice, bracket_at, choose, lower_of};
-use dutch_search::WithFloors;
-use pairing_laws::calls::a_bracket_stands_above_the_lower;
 use std::alloc::Global;
 use std::test::Fail;
-use trf16_report::Colour;
-
-// The first won against the third, and the others drew: the first moves down to the second and the fourth.
-const ONE_MOVES_DOWN: [PlayerLine<'static>; 4] = [
-    ("001    1", "   3 w 1"),
-    ("001    2", "   4 b ="),
-    ("001    3", "   1 b 0"),
-    ("001    4", "   2 w ="),
-];
 
 // The choice in the second bracket, above one lower player, and the shape that the bracket was reached with.
 fn choice_in_the_second(alloc: Global, field: &Field) -> Result<(Choice, Shape), Fail> {
-    let BracketAt::Bracket { reached, shape } = bracket_at::<WithFloors>(alloc, field, 1000, 2)?
+    let BracketAt::Bracket { reached, shape } = bracket_at(alloc, field, 1000, 2)?
     else {
         return Err(Fail::new("not reached"));
     };
@@ -34,7 +24,7 @@ fn choice_in_the_second(alloc: Global, field: &Field) -> Result<(Choice, Shape),
         used: 0,
     };
     Ok((
-        choose::<WithFloors>(alloc, field, &reached, &lower, &mut budget)?,
+        choose(alloc, field, &reached, &lower, &mut budget)?,
         shape,
     ))
 }
@@ -58,7 +48,7 @@ fn is_one_with_two(choice: &Choice, shape: Shape) -> bool {
 // The first wants black and meets the second, who wants white; the fourth moves down.
 #[test]
 fn choice_of_a_bracket(rt: HostRuntime) -> Result<(), Fail> {
-    let field = field_of(rt.alloc(), &ONE_MOVES_DOWN, Some(5), Some(Colour::White))?;
+    let field = field_of(rt.alloc(), &ONE_MOVES_DOWN, None)?;
     let (choice, shape) = choice_in_the_second(rt.alloc(), &field)?;
     assert!(rt; is_one_with_two(&choice, shape));
     Ok(())

@@ -1,11 +1,12 @@
-// The steps of the generators of exchanges, whose number no clause tells.
+// The choices of D.1, D.2 and D.3 one after another, and the steps that they take.
 ghost use Rattle.std.specs.Prelude.{◌≤◌, length};
 ghost use Rattle.std.specs.List.Sorted.{IsStrictlyIncreasing};
-ghost use Rattle.dutch_sequence.specs.declared.numbers.TheConstants.{LIMIT};
+ghost use Rattle.dutch_order.specs.TheConstants.{LIMIT};
 
-use crate::free::{AMPLE, raised};
-use dutch_arrangements::{
-    Budget, Exchanges, Generator, LIMIT, LimboExchanges, Numbers, Step, numbered_from,
+use crate::rules::{AMPLE, Apart, Free, raised};
+use dutch_order::{
+    Budget, Exchanges, Generator, LIMIT, LimboExchanges, Numbers, Step, Transpositions,
+    numbered_from,
 };
 use std::alloc::Global;
 use std::test::Fail;
@@ -34,16 +35,18 @@ fn drawn<L: Generator + Drop>(
 }
 
 // The two generators are equal. One runs under an ample limit, the other under limits that rise from 0, and both must
-// take as many steps.
-fn are_drawn<L: Generator + Drop>(
+// give the same lists in as many steps. The answer is the lists and the steps.
+fn drawn_twice<L: Generator + Drop>(
     alloc: Global,
     one: L,
     again: L,
-    lists: &[u16],
-) -> Result<bool, Fail> {
+) -> Result<(Vec<u16>, u64), Fail> {
     let (ample, used) = drawn(alloc, one, AMPLE)?;
     let (raised, used_again) = drawn(alloc, again, 0)?;
-    Ok(ample.as_slice() == lists && raised.as_slice() == lists && used == used_again)
+    if ample.as_slice() != raised.as_slice() || used != used_again {
+        return Err(Fail::new("the limit counts"));
+    }
+    Ok((ample, used))
 }
 
 const SIX_BY_THREE: [u16; 60] = [
@@ -51,13 +54,21 @@ const SIX_BY_THREE: [u16; 60] = [
     5, 1, 4, 6, 2, 4, 5, 1, 5, 6, 2, 4, 6, 3, 4, 5, 2, 5, 6, 3, 4, 6, 3, 5, 6, 4, 5, 6,
 ];
 
-const FOUR_BY_TWO: [u16; 12] = [1, 2, 1, 3, 2, 3, 1, 4, 2, 4, 3, 4];
-
 #[test]
 fn exchanges_of_six_by_three(rt: HostRuntime) -> Result<(), Fail> {
     let one = Exchanges::new(&[1, 2, 3, 4, 5, 6], 3);
     let again = Exchanges::new(&[1, 2, 3, 4, 5, 6], 3);
-    assert!(rt; are_drawn(rt.alloc(), one, again, &SIX_BY_THREE)?);
+    let (sets, _steps) = drawn_twice(rt.alloc(), one, again)?;
+    assert!(rt; sets.as_slice() == SIX_BY_THREE.as_slice());
+    Ok(())
+}
+
+#[test]
+fn exchanges_of_a_pool_with_a_gap(rt: HostRuntime) -> Result<(), Fail> {
+    let one = Exchanges::new(&[1, 2, 3, 5], 2);
+    let again = Exchanges::new(&[1, 2, 3, 5], 2);
+    let (sets, _steps) = drawn_twice(rt.alloc(), one, again)?;
+    assert!(rt; sets.as_slice() == [1, 2, 1, 3, 2, 3, 1, 5, 2, 5, 3, 5].as_slice());
     Ok(())
 }
 
@@ -65,7 +76,44 @@ fn exchanges_of_six_by_three(rt: HostRuntime) -> Result<(), Fail> {
 fn sets_of_moved_down_players(rt: HostRuntime) -> Result<(), Fail> {
     let one = LimboExchanges::new(&[6, 6, 4, 2], 2);
     let again = LimboExchanges::new(&[6, 6, 4, 2], 2);
-    assert!(rt; are_drawn(rt.alloc(), one, again, &FOUR_BY_TWO)?);
+    let (sets, _steps) = drawn_twice(rt.alloc(), one, again)?;
+    assert!(rt; sets.as_slice() == [1, 2, 1, 3, 2, 3, 1, 4, 2, 4, 3, 4].as_slice());
+    Ok(())
+}
+
+const NINE: [u16; 9] = [3, 4, 5, 6, 7, 8, 9, 10, 11];
+
+// 9 times 8 tuples of two.
+#[test]
+fn transpositions_of_two_over_nine(rt: HostRuntime) -> Result<(), Fail> {
+    let one = Transpositions::new(&[1, 2], &NINE, &Free);
+    let again = Transpositions::new(&[1, 2], &NINE, &Free);
+    let (tuples, _steps) = drawn_twice(rt.alloc(), one, again)?;
+    assert_eq!(rt; tuples.len(), 2 * 72);
+    assert!(rt; tuples.starts_with(&[3, 4]) && tuples.ends_with(&[11, 10]));
+    Ok(())
+}
+
+// Three beginnings are shorter than two, and each is tried with both numbers.
+#[test]
+fn transpositions_of_two_over_two(rt: HostRuntime) -> Result<(), Fail> {
+    let one = Transpositions::new(&[1, 2], &[3, 4], &Free);
+    let again = Transpositions::new(&[1, 2], &[3, 4], &Free);
+    let (tuples, steps) = drawn_twice(rt.alloc(), one, again)?;
+    assert!(rt; tuples.as_slice() == [3, 4, 4, 3].as_slice());
+    assert_eq!(rt; steps, 6);
+    Ok(())
+}
+
+// Of the beginnings that are shorter than two one is barred.
+#[test]
+fn transpositions_with_two_kept_apart(rt: HostRuntime) -> Result<(), Fail> {
+    let rule = Apart(1, 3);
+    let one = Transpositions::new(&[1, 2], &[3, 4], &rule);
+    let again = Transpositions::new(&[1, 2], &[3, 4], &rule);
+    let (tuples, steps) = drawn_twice(rt.alloc(), one, again)?;
+    assert!(rt; tuples.as_slice() == [4, 3].as_slice());
+    assert_eq!(rt; steps, 4);
     Ok(())
 }
 

@@ -2,7 +2,7 @@
 // alone.
 use std::io;
 use std::io::{ErrorKind, Read, Write};
-use trf16_report::{Counted, Failed, Sink, Source};
+use trf16::{Counted, Failed, Sink, Source};
 
 // Every read is interrupted.
 #[derive(Drop)]

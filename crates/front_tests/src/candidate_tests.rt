@@ -1,12 +1,13 @@
-// The listings of small brackets: under limits that rise by one they take as many steps, and a bound is asked.
+// The listings of small brackets: under limits that rise by one they take as many steps, a listing begins behind a
+// cursor, and a bound is asked.
 ghost use Rattle.std.specs.Prelude.{◌≡◌, ◌≤◌};
-ghost use Rattle.dutch_arrangements.specs.Prelude.{Fits};
+ghost use Rattle.dutch_order.specs.Prelude.{Fits};
 
-use crate::free::{AMPLE, Free, raised};
-use dutch_arrangements::{
-    Bracket, Budget, Candidate, Exchange, Filling, Prefix, Rule, Shape, Step,
+use crate::rules::{AMPLE, Free, raised};
+use dutch_order::{
+    Bound, Bracket, Budget, Candidate, Candidates, Cursor, CursorFault, Exchange, Filling, Prefix,
+    Rule, Shape, Step, a_cursor_is_of_its_bracket,
 };
-use dutch_listing::{Bound, Candidates};
 use std::alloc::Global;
 use std::test::Fail;
 
@@ -86,6 +87,72 @@ fn four_players_of_one_score(rt: HostRuntime) -> Result<(), Fail> {
     Ok(())
 }
 
+// The candidate of so many, counted from 1, as a cursor's text; none if there are fewer.
+fn printed(
+    alloc: Global,
+    mut candidates: Candidates<'_, Free>,
+    count: u32,
+) -> Result<Option<String>, Fail> {
+    let mut budget = Budget {
+        limit: AMPLE,
+        used: 0,
+    };
+    for _turn in 0..count {
+        candidates.next(&mut budget);
+    }
+    match candidates.cursor() {
+        Some(cursor) => Ok(Some(String::from_str(alloc, cursor.print().as_str())?)),
+        None => Ok(None),
+    }
+}
+
+#[test]
+fn the_fifth_of_four_moved_down_as_text(rt: HostRuntime) -> Result<(), Fail> {
+    let bracket = Bracket::new(&[6, 6, 4, 2, 0, 0], 4, false);
+    let candidates = Candidates::new(&bracket, Shape { pairs: 2, mdps: 2 }, &Free);
+    let text = printed(rt.alloc(), candidates, 5)?;
+    assert!(rt; text.as_deref() == Some("2,3/5,6/0/0"));
+    Ok(())
+}
+
+// The numbers of the candidates of four players of one score behind a cursor; none if the text is no cursor of them.
+fn behind(alloc: Global, text: &str) -> Result<Option<Vec<u16>>, Fail> {
+    let bracket = Bracket::new(&[0, 0, 0, 0], 0, true);
+    let shape = Shape { pairs: 2, mdps: 0 };
+    let Ok(cursor) = Cursor::read(text, &bracket, shape) else {
+        return Ok(None);
+    };
+    a_cursor_is_of_its_bracket(&bracket, shape, text, &cursor);
+    let coming = Candidates::from(&bracket, shape, &Free, cursor);
+    let (numbers, _steps) = listing(alloc, coming, AMPLE)?;
+    Ok(Some(numbers))
+}
+
+#[test]
+fn a_listing_behind_a_cursor(rt: HostRuntime) -> Result<(), Fail> {
+    let seven = behind(rt.alloc(), "0/0/1,4/2,3")?;
+    assert!(rt; matches!(seven, Some(numbers) if numbers.as_slice() == &FOUR[20..]));
+    let none = behind(rt.alloc(), "0/0/3,4/2,1")?;
+    assert!(rt; matches!(none, Some(numbers) if numbers.is_empty()));
+    Ok(())
+}
+
+// Why a text is no cursor of four players of one score.
+fn fault_of(text: &str) -> Option<CursorFault> {
+    let bracket = Bracket::new(&[0, 0, 0, 0], 0, true);
+    Cursor::read(text, &bracket, Shape { pairs: 2, mdps: 0 }).err()
+}
+
+#[test]
+fn texts_that_are_no_cursor(rt: HostRuntime) {
+    for text in ["0/0/1,2", "0/0/01,2/3,4"] {
+        assert!(rt; !Cursor::syntax(text));
+        assert!(rt; fault_of(text) == Some(CursorFault::Syntax));
+    }
+    assert!(rt; Cursor::syntax("0/0/2,1/3,4"));
+    assert!(rt; fault_of("0/0/2,1/3,4") == Some(CursorFault::NotOfBracket));
+}
+
 // A bound that keeps the candidates whose S1R is 1 and 2.
 #[derive(Drop)]
 struct Keeps<'a> {
@@ -133,6 +200,47 @@ impl<'a> Bound for Keeps<'a> {
     }
 }
 
+// A bound that never knows.
+#[derive(Drop)]
+struct KnowsNothing<'a> {
+    bracket: &'a Bracket,
+    shape: Shape,
+    rule: &'a Free,
+}
+
+impl<'a> Bound for KnowsNothing<'a> {
+    type Room = ();
+
+    ghost use Rattle.std.specs.Prelude.{false};
+
+    ghost frame = { λ b. b.bracket.now };
+
+    ghost shape = { λ b. b.shape };
+
+    ghost meets = { λ b. ⟦<Free as Rule>⟧.meets b.rule.now };
+
+    ghost may_be_left = { λ b. ⟦<Free as Rule>⟧.may_be_left b.rule.now };
+
+    ghost is_idle = { λ _ _. false };
+
+    ghost Holds = { λ _ _. Unit {0} };
+
+    fn start(&self, _room: &mut ()) {}
+
+    fn cannot_win(&self, _prefix: &Prefix<'_>, _room: &mut ()) -> bool {
+        false
+    }
+
+    fn cannot_win_with(
+        &self,
+        _prefix: &Prefix<'_>,
+        _exchange: &Exchange<'_>,
+        _room: &mut (),
+    ) -> bool {
+        false
+    }
+}
+
 // A bound that knows of S1R by their exchange alone: those of 1 and 2 whose sum is greater by 2 are idle.
 #[derive(Drop)]
 struct ByDifference<'a> {
@@ -145,7 +253,7 @@ impl<'a> Bound for ByDifference<'a> {
     type Room = ();
 
     ghost use Rattle.std.specs.Prelude.{◌==◌};
-    ghost use Rattle.dutch_arrangements.specs.Prelude.{sum_of};
+    ghost use Rattle.dutch_order.specs.Prelude.{sum_of};
 
     ghost frame = { λ b. b.bracket.now };
 
@@ -217,6 +325,20 @@ fn a_bound_leaves_one_s1r(rt: HostRuntime) -> Result<(), Fail> {
     let candidates = Candidates::new(&bracket, shape, &Free);
     let numbers = [1, 2, 3, 4, 1, 2, 4, 3];
     assert!(rt; are_left(rt.alloc(), candidates, &bound, &numbers)?);
+    Ok(())
+}
+
+#[test]
+fn a_bound_that_never_knows_leaves_all(rt: HostRuntime) -> Result<(), Fail> {
+    let bracket = Bracket::new(&[0, 0, 0, 0], 0, true);
+    let shape = Shape { pairs: 2, mdps: 0 };
+    let bound = KnowsNothing {
+        bracket: &bracket,
+        shape,
+        rule: &Free,
+    };
+    let candidates = Candidates::new(&bracket, shape, &Free);
+    assert!(rt; are_left(rt.alloc(), candidates, &bound, &FOUR)?);
     Ok(())
 }
 

@@ -1,5 +1,5 @@
 use Rattle.std.proofs.Common.{◌≡◌}
-use Rattle.unit_tests.proofs.candidates_tests.are_left.Given as goal
+use Rattle.front_tests.proofs.candidate_tests.are_left.Given as goal
 
 abbrev pub invariant-loop-turn : goal.invariant-loop-turn
 invariant-loop-turn g l = record {

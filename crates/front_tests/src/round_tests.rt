@@ -1,0 +1,176 @@
+// Rounds: when there is no pairing, who stands in a bracket, and why.
+ghost use Rattle.std.specs.Prelude.{◌≤◌, length};
+ghost use Rattle.dutch_pair.specs.Prelude.{IsStage};
+
+use crate::reports::{
+    ALL_HAVE_MET, FIVE, FOUR, HALF_A_POINT_EACH, Line, ONE_MOVES_DOWN, THREE_ARE_ABSENT,
+    TWO_HAVE_MET, TWO_LEAD, field_of,
+};
+use crate::rules::AMPLE;
+use dutch_order::{Budget, numbered_from};
+use dutch_pair::calls::the_first_scoregroup_is_next;
+use dutch_pair::{
+    AllStages, Answer, BracketAt, BracketKind, ITEMS, Instead, Item, Outcome, Quality, Stage, Wish,
+    barrier_of, best_instead, bracket_at, completes, lacks_bye, lower_of, pair_round, quality, seats,
+    split_first_group, stages, who_counts,
+};
+use dutch_player::Field;
+use std::alloc::Global;
+use std::test::Fail;
+
+// Completion of all present players by the rule of their seats.
+fn completion_of(field: &Field) -> Answer {
+    let mut budget = Budget {
+        limit: AMPLE,
+        used: 0,
+    };
+    completes(&numbered_from(0, field.len()), &seats(field), &mut budget)
+}
+
+// There is no pairing exactly if the players cannot be paired out.
+fn agree(alloc: Global, field: &Field) -> Result<bool, Fail> {
+    let answer = completion_of(field);
+    Ok(match pair_round(alloc, field, AMPLE)? {
+        Outcome::Paired(_) => answer == Answer::Yes,
+        Outcome::NoPairing => answer == Answer::No,
+        Outcome::Undecided { .. } => false,
+    })
+}
+
+#[test]
+fn no_pairing_exactly_if_they_cannot_be_paired_out(rt: HostRuntime) -> Result<(), Fail> {
+    let reports: [(&[Line], Option<u8>); 9] = [
+        (&FOUR, Some(5)),
+        (&FIVE, Some(5)),
+        (&ONE_MOVES_DOWN, None),
+        (&ALL_HAVE_MET, None),
+        (&TWO_HAVE_MET, None),
+        (&HALF_A_POINT_EACH, Some(5)),
+        (&TWO_LEAD, Some(3)),
+        (&TWO_LEAD, Some(4)),
+        (&THREE_ARE_ABSENT, None),
+    ];
+    for (lines, total) in reports {
+        let field = field_of(rt.alloc(), lines, total)?;
+        assert!(rt; agree(rt.alloc(), &field)?);
+    }
+    Ok(())
+}
+
+fn is_bracket(found: &BracketAt, kind: BracketKind, players: usize, mdps: usize) -> bool {
+    let BracketAt::Bracket { reached, shape } = found else {
+        return false;
+    };
+    let same = match (reached.kind(), kind) {
+        (BracketKind::Ordinary, BracketKind::Ordinary)
+        | (BracketKind::Last, BracketKind::Last)
+        | (BracketKind::Penultimate, BracketKind::Penultimate)
+        | (BracketKind::Collapsed, BracketKind::Collapsed) => true,
+        _ => false,
+    };
+    same && reached.seats().len() == players && shape.mdps == mdps
+}
+
+// The lower two have met, so the upper two are paired again with them.
+#[test]
+fn the_brackets_of_a_round(rt: HostRuntime) -> Result<(), Fail> {
+    let field = field_of(rt.alloc(), &TWO_HAVE_MET, None)?;
+    let first = bracket_at(rt.alloc(), &field, AMPLE, 1)?;
+    assert!(rt; is_bracket(&first, BracketKind::Ordinary, 2, 0));
+    let second = bracket_at(rt.alloc(), &field, AMPLE, 2)?;
+    assert!(rt; is_bracket(&second, BracketKind::Penultimate, 2, 0));
+    let third = bracket_at(rt.alloc(), &field, AMPLE, 3)?;
+    assert!(rt; is_bracket(&third, BracketKind::Collapsed, 4, 2));
+    let fourth = bracket_at(rt.alloc(), &field, AMPLE, 4)?;
+    assert!(rt; matches!(fourth, BracketAt::NotReached));
+    Ok(())
+}
+
+// What an explanation says of the second bracket of `ONE_MOVES_DOWN`: the first meets the second, and the fourth moves
+// down.
+fn is_explained(alloc: Global, field: &Field, stage: &Stage) -> Result<bool, Fail>
+    requires { IsStage field.now stage.now }
+{
+    let chosen = stage.quality();
+    let others = best_instead(alloc, field, stage, Wish::Pair(1, 3), AMPLE)?;
+    let Instead::Best { quality, .. } = others else {
+        return Ok(false);
+    };
+    Ok((stage.reached().number(), stage.is_again()) == (2, false)
+        && stage.candidate().down() == [3].as_slice()
+        && has_least_items(chosen)
+        && is_worse_in_colours(&quality, chosen)
+        && who_counts(field, stage, Item::MissedPreferences).is_empty())
+}
+
+// The differences 2 and 1, and a pair of the next bracket with the difference 1; nobody is counted.
+fn has_least_items(quality: &Quality) -> bool {
+    (quality.psd(), quality.next_psd()) == ([2, 1].as_slice(), [1].as_slice())
+        && quality.next_pairs() == 1
+        && quality.missed_preferences() == 0
+        && quality.down_again_by().is_empty()
+}
+
+// One player misses a strong preference, which is the first difference.
+fn is_worse_in_colours(quality: &Quality, chosen: &Quality) -> bool {
+    chosen.is_better(quality)
+        && (quality.missed_preferences(), quality.missed_strong()) == (1, 1)
+        && matches!(quality.first_difference(chosen), Some(Item::MissedPreferences))
+}
+
+#[test]
+fn a_bracket_is_explained(rt: HostRuntime) -> Result<(), Fail> {
+    let field = field_of(rt.alloc(), &ONE_MOVES_DOWN, None)?;
+    let AllStages::Paired { stages, bye } = stages(rt.alloc(), &field, AMPLE)? else {
+        return Err(Fail::new("the round is not paired"));
+    };
+    let [_, stage, _] = stages.as_slice() else {
+        return Err(Fail::new("there are not three brackets"));
+    };
+    assert!(rt; bye.is_empty() && is_explained(rt.alloc(), &field, stage)?);
+    assert_eq!(rt; ITEMS.len(), 14);
+    Ok(())
+}
+
+// The quality of what is chosen, asked for once more, above the first scoregroup of the lower players.
+fn quality_again(field: &Field, stage: &Stage) -> Option<Quality>
+    requires { IsStage field.now stage.now }
+{
+    let lower = lower_of(field, stage.reached());
+    the_first_scoregroup_is_next(field, stage.reached(), &lower);
+    let (next, _others) = split_first_group(field, &lower);
+    let mut budget = Budget {
+        limit: AMPLE,
+        used: 0,
+    };
+    quality(field, stage.reached(), stage.candidate(), next, &mut budget)
+}
+
+#[test]
+fn the_quality_of_a_candidate(rt: HostRuntime) -> Result<(), Fail> {
+    let field = field_of(rt.alloc(), &ONE_MOVES_DOWN, None)?;
+    let AllStages::Paired { stages, .. } = stages(rt.alloc(), &field, AMPLE)? else {
+        return Err(Fail::new("the round is not paired"));
+    };
+    let [_, stage, _] = stages.as_slice() else {
+        return Err(Fail::new("there are not three brackets"));
+    };
+    let again = quality_again(&field, stage);
+    assert!(rt; matches!(again, Some(quality) if has_least_items(&quality)));
+    Ok(())
+}
+
+// Nobody blocks, and each is an odd group, whose players may meet nobody else.
+#[test]
+fn why_there_is_no_pairing(rt: HostRuntime) -> Result<(), Fail> {
+    let field = field_of(rt.alloc(), &ALL_HAVE_MET, None)?;
+    assert!(rt; !lacks_bye(&field));
+    let Some(barrier) = barrier_of(rt.alloc(), &field, AMPLE)? else {
+        return Err(Fail::new("no reason was found"));
+    };
+    assert!(rt; !barrier.has_blockers(&field));
+    for seat in 0..field.len() as u16 {
+        assert!(rt; barrier.label(seat) > 0 && barrier.opens_odd_group(&field, seat));
+    }
+    Ok(())
+}
