@@ -101,7 +101,7 @@ fn a_report_as_it_stood_before_a_round(rt: HostRuntime) -> Result<(), Fail> {
         return Err(Fail::new("no such round"));
     };
     assert!(rt; (report.rounds_played(), before.rounds_played()) == (2, 1));
-    assert!(rt; before_round(rt.alloc(), &report, 3)?.is_none());
+    assert!(rt; before_round(rt.alloc(), &report, 4)?.is_none());
     Ok(())
 }
 

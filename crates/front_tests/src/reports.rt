@@ -69,6 +69,15 @@ pub(crate) const ALL_HAVE_MET: [Line; 5] = [
     ("001    4", "   2 w =     3 b =     1 b ="),
 ];
 
+// Of four, three are kept apart.
+pub(crate) const THREE_ARE_APART: [Line; 5] = [
+    ("XXP 1 2 3", ""),
+    ("001    1", ""),
+    ("001    2", ""),
+    ("001    3", ""),
+    ("001    4", ""),
+];
+
 // Two with a full-point bye, above two who have met.
 pub(crate) const TWO_HAVE_MET: [Line; 5] = [
     ("XXR 3", ""),

@@ -3,7 +3,7 @@ ghost use Rattle.std.specs.Prelude.{◌≤◌, length};
 ghost use Rattle.dutch_pair.specs.Prelude.{IsStage};
 
 use crate::reports::{
-    ALL_HAVE_MET, FIVE, FOUR, HALF_A_POINT_EACH, Line, ONE_MOVES_DOWN, THREE_ARE_ABSENT,
+    ALL_HAVE_MET, FIVE, FOUR, HALF_A_POINT_EACH, Line, ONE_MOVES_DOWN, THREE_ARE_ABSENT, THREE_ARE_APART,
     TWO_HAVE_MET, TWO_LEAD, field_of,
 };
 use crate::rules::AMPLE;
@@ -39,11 +39,12 @@ fn agree(alloc: Global, field: &Field) -> Result<bool, Fail> {
 
 #[test]
 fn no_pairing_exactly_if_they_cannot_be_paired_out(rt: HostRuntime) -> Result<(), Fail> {
-    let reports: [(&[Line], Option<u8>); 9] = [
+    let reports: [(&[Line], Option<u8>); 10] = [
         (&FOUR, Some(5)),
         (&FIVE, Some(5)),
         (&ONE_MOVES_DOWN, None),
         (&ALL_HAVE_MET, None),
+        (&THREE_ARE_APART, Some(5)),
         (&TWO_HAVE_MET, None),
         (&HALF_A_POINT_EACH, Some(5)),
         (&TWO_LEAD, Some(3)),
