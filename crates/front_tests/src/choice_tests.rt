@@ -10,8 +10,7 @@ use std::test::Fail;
 
 // The choice in the second bracket, above one lower player, and the shape that the bracket was reached with.
 fn choice_in_the_second(alloc: Global, field: &Field) -> Result<(Choice, Shape), Fail> {
-    let BracketAt::Bracket { reached, shape } = bracket_at(alloc, field, 1000, 2)?
-    else {
+    let BracketAt::Bracket { reached, shape } = bracket_at(alloc, field, 1000, 2)? else {
         return Err(Fail::new("not reached"));
     };
     a_bracket_stands_above_the_lower(field, 2, &reached, shape);
@@ -23,10 +22,7 @@ fn choice_in_the_second(alloc: Global, field: &Field) -> Result<(Choice, Shape),
         limit: 1000,
         used: 0,
     };
-    Ok((
-        choose(alloc, field, &reached, &lower, &mut budget)?,
-        shape,
-    ))
+    Ok((choose(alloc, field, &reached, &lower, &mut budget)?, shape))
 }
 
 fn is_one_with_two(choice: &Choice, shape: Shape) -> bool {

@@ -4,9 +4,7 @@ ghost use Rattle.dutch_pair.specs.Prelude.{IsOf};
 
 use crate::reports::{Line, field_of};
 use dutch_order::{Budget, Numbers};
-use dutch_pair::{
-    BracketAt, BracketKind, Look, LookAhead, Reached, are_left, bracket_at, is_next,
-};
+use dutch_pair::{BracketAt, BracketKind, Look, LookAhead, Reached, are_left, bracket_at, is_next};
 use dutch_player::Field;
 use std::alloc::Global;
 use std::test::Fail;

@@ -5,14 +5,12 @@ use dutch_player::{Field, Float, Pref, Strength};
 use std::test::Fail;
 use trf16::Colour;
 
-// The seat of a start rank.
+// The seat of a start rank, who must be present.
 fn seat_of(field: &Field, start: u16) -> Result<u16, Fail> {
-    for seat in 0..field.len() as u16 {
-        if field.start_rank(seat) == start {
-            return Ok(seat);
-        }
+    match field.seat_with(start) {
+        Some(seat) => Ok(seat),
+        None => Err(Fail::new("not present")),
     }
-    Err(Fail::new("not present"))
 }
 
 fn has_preference(field: &Field, seat: u16, strength: Strength, colour: Colour) -> bool {
@@ -21,13 +19,22 @@ fn has_preference(field: &Field, seat: u16, strength: Strength, colour: Colour) 
 
 // Four games with white, and then two with black.
 const FOUR_WHITES: [Line; 7] = [
-    ("001    1", "   2 w =     3 w =     4 w =     5 w =     6 b =     7 b ="),
+    (
+        "001    1",
+        "   2 w =     3 w =     4 w =     5 w =     6 b =     7 b =",
+    ),
     ("001    2", "   1 b ="),
     ("001    3", "             1 b ="),
     ("001    4", "                       1 b ="),
     ("001    5", "                                 1 b ="),
-    ("001    6", "                                           1 w ="),
-    ("001    7", "                                                     1 w ="),
+    (
+        "001    6",
+        "                                           1 w =",
+    ),
+    (
+        "001    7",
+        "                                                     1 w =",
+    ),
 ];
 
 #[test]

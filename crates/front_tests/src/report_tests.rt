@@ -39,7 +39,9 @@ fn says_how_it_is_paired(report: &Report<'_>) -> bool {
         && report.bye() == 2
         && report.carried(2) == Some(b"XXZ 4 5 6".as_slice())
         && report.carried(3).is_none()
-        && report.unsupported(&[Kind::Xxa, Kind::Xxs, Kind::Rank]).is_none()
+        && report
+            .unsupported(&[Kind::Xxa, Kind::Xxs, Kind::Rank])
+            .is_none()
 }
 
 #[test]

@@ -1,18 +1,19 @@
 // Rounds: when there is no pairing, who stands in a bracket, and why.
 ghost use Rattle.std.specs.Prelude.{◌≤◌, length};
-ghost use Rattle.dutch_pair.specs.Prelude.{IsStage};
+ghost use Rattle.dutch_order.specs.Prelude.{Fits};
+ghost use Rattle.dutch_pair.specs.Prelude.{IsOf, IsStage, frame_of};
 
 use crate::reports::{
-    ALL_HAVE_MET, FIVE, FOUR, HALF_A_POINT_EACH, Line, ONE_MOVES_DOWN, THREE_ARE_ABSENT, THREE_ARE_APART,
-    TWO_HAVE_MET, TWO_LEAD, field_of,
+    ALL_HAVE_MET, FIVE, FOUR, HALF_A_POINT_EACH, Line, ONE_MOVES_DOWN, THREE_ARE_ABSENT,
+    THREE_ARE_APART, TWO_HAVE_MET, TWO_LEAD, field_of,
 };
 use crate::rules::AMPLE;
-use dutch_order::{Budget, numbered_from};
+use dutch_order::{Budget, Candidates, Shape, Step, numbered_from};
 use dutch_pair::calls::the_first_scoregroup_is_next;
 use dutch_pair::{
-    AllStages, Answer, BracketAt, BracketKind, ITEMS, Instead, Item, Outcome, Quality, Stage, Wish,
-    barrier_of, best_instead, bracket_at, completes, lacks_bye, lower_of, pair_round, quality, seats,
-    split_first_group, stages, who_counts,
+    AllStages, Answer, BracketAt, BracketKind, ITEMS, Instead, Item, Outcome, Quality, Reached,
+    Stage, Wish, barrier_of, best_instead, bracket_at, completes, lacks_bye, lower_of, pair_round,
+    quality, seats, split_first_group, stages, who_counts,
 };
 use dutch_player::Field;
 use std::alloc::Global;
@@ -87,6 +88,45 @@ fn the_brackets_of_a_round(rt: HostRuntime) -> Result<(), Fail> {
     Ok(())
 }
 
+// The opponents of a bracket's first player, candidate by candidate.
+fn opponents_of_the_first(
+    alloc: Global,
+    field: &Field,
+    reached: &Reached,
+    shape: Shape,
+) -> Result<Vec<u16>, Fail>
+    requires of { IsOf field.now reached.now }
+    requires fits { Fits (frame_of field.now reached.now) shape }
+{
+    let (frame, rule) = (reached.frame(field), reached.rule(field));
+    let mut candidates = Candidates::new(&frame, shape, &rule);
+    let mut budget = Budget {
+        limit: AMPLE,
+        used: 0,
+    };
+    let mut opponents = Vec::new(alloc);
+    for _turn in 0..10u32 {
+        let Step::Found(candidate) = candidates.next(&mut budget) else {
+            break;
+        };
+        opponents.extend_from_slice(candidate.s2())?;
+    }
+    Ok(opponents)
+}
+
+#[test]
+fn the_candidates_of_a_bracket(rt: HostRuntime) -> Result<(), Fail> {
+    let field = field_of(rt.alloc(), &ONE_MOVES_DOWN, None)?;
+    let found = bracket_at(rt.alloc(), &field, AMPLE, 2)?;
+    let BracketAt::Bracket { reached, shape } = found else {
+        return Err(Fail::new("the bracket is not reached"));
+    };
+    assert!(rt; (shape.pairs, shape.mdps, reached.mdps()) == (1, 1, 1));
+    let opponents = opponents_of_the_first(rt.alloc(), &field, &reached, shape)?;
+    assert!(rt; opponents.as_slice() == [2, 3].as_slice());
+    Ok(())
+}
+
 // What an explanation says of the second bracket of `ONE_MOVES_DOWN`: the first meets the second, and the fourth moves
 // down.
 fn is_explained(alloc: Global, field: &Field, stage: &Stage) -> Result<bool, Fail>
@@ -97,26 +137,42 @@ fn is_explained(alloc: Global, field: &Field, stage: &Stage) -> Result<bool, Fai
     let Instead::Best { quality, .. } = others else {
         return Ok(false);
     };
-    Ok((stage.reached().number(), stage.is_again()) == (2, false)
-        && stage.candidate().down() == [3].as_slice()
-        && has_least_items(chosen)
-        && is_worse_in_colours(&quality, chosen)
-        && who_counts(field, stage, Item::MissedPreferences).is_empty())
+    Ok(
+        (stage.reached().number(), stage.is_again()) == (2, false)
+            && stage.candidate().down() == [3].as_slice()
+            && has_least_items(chosen)
+            && is_worse_in_colours(&quality, chosen)
+            && who_counts(field, stage, Item::MissedPreferences).is_empty(),
+    )
+}
+
+// Nobody floats as before.
+fn has_no_floats(quality: &Quality) -> bool {
+    (quality.down_again(), quality.up_again()) == (0, 0)
+        && (quality.down_again_before(), quality.up_again_before()) == (0, 0)
+        && quality.down_again_by().is_empty()
+        && quality.up_again_by().is_empty()
+        && quality.down_again_before_by().is_empty()
+        && quality.up_again_before_by().is_empty()
 }
 
 // The differences 2 and 1, and a pair of the next bracket with the difference 1; nobody is counted.
 fn has_least_items(quality: &Quality) -> bool {
     (quality.psd(), quality.next_psd()) == ([2, 1].as_slice(), [1].as_slice())
         && quality.next_pairs() == 1
-        && quality.missed_preferences() == 0
-        && quality.down_again_by().is_empty()
+        && (quality.wide_differences(), quality.third_colours()) == (0, 0)
+        && (quality.missed_preferences(), quality.missed_strong()) == (0, 0)
+        && has_no_floats(quality)
 }
 
 // One player misses a strong preference, which is the first difference.
 fn is_worse_in_colours(quality: &Quality, chosen: &Quality) -> bool {
     chosen.is_better(quality)
         && (quality.missed_preferences(), quality.missed_strong()) == (1, 1)
-        && matches!(quality.first_difference(chosen), Some(Item::MissedPreferences))
+        && matches!(
+            quality.first_difference(chosen),
+            Some(Item::MissedPreferences)
+        )
 }
 
 #[test]

@@ -71,9 +71,20 @@ fn a_bye_of_half_a_point(rt: HostRuntime) -> Result<(), Fail> {
 
 #[test]
 fn a_game_without_a_result(rt: HostRuntime) -> Result<(), Fail> {
-    let text = text_of(rt.alloc(), &[("001    1", "   2 w"), ("001    2", "   1 b")])?;
+    let text = text_of(
+        rt.alloc(),
+        &[("001    1", "   2 w"), ("001    2", "   1 b")],
+    )?;
     let report = read(rt.alloc(), text.as_bytes()).map_err(|_| "the report is refused")?;
     let refused = table(rt.alloc(), &report, &[]);
-    assert!(rt; matches!(refused, Err(TieFault::Unfinished { player: 1, round: 1 })));
+    assert!(rt;
+        matches!(
+            refused,
+            Err(TieFault::Unfinished {
+                player: 1,
+                round: 1
+            })
+        )
+    );
     Ok(())
 }

@@ -16,9 +16,8 @@ mod pairs;
 
 pub use pairs::Pairs;
 pub use trf16_reader::{read, read_unsummed, read_with};
-pub use trf16_report::LineKind as Kind;
 pub use trf16_report::{
-    Bye, Cell, Colour, Counted, Excess, Failed, Fault, GameOutcome, MOST_BYTES, MOST_PLAYERS,
-    MOST_ROUNDS, Player, Report, Sink, Source,
+    Bye, Cell, Colour, Counted, Excess, Failed, Fault, GameOutcome, LineKind as Kind, MOST_BYTES,
+    MOST_PLAYERS, MOST_ROUNDS, Player, Report, Sink, Source,
 };
 pub use trf16_writer::{before_round, can_be_paired, first_unread, renumbered_text, summed, write};
