@@ -212,8 +212,10 @@ fn the_quality_of_a_candidate(rt: HostRuntime) -> Result<(), Fail> {
     let [_, stage, _] = stages.as_slice() else {
         return Err(Fail::new("there are not three brackets"));
     };
-    let again = quality_again(&field, stage);
-    assert!(rt; matches!(again, Some(quality) if has_least_items(&quality)));
+    let Some(again) = quality_again(&field, stage) else {
+        return Err(Fail::new("undecided"));
+    };
+    assert!(rt; has_least_items(&again));
     Ok(())
 }
 

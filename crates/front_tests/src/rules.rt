@@ -51,22 +51,22 @@ impl Rule for Strangers {
 pub(crate) struct Apart(pub(crate) u16, pub(crate) u16);
 
 impl Rule for Apart {
-    ghost use Rattle.std.specs.Prelude.{◌==◌, ◌&&◌, ◌||◌, not, true, cong};
-    ghost use Rattle.std.proofs.Math.Bool.{or_comm};
+    ghost use Rattle.std.specs.Prelude.{◌==◌, ◌&&◌, not, true};
+    ghost use Rattle.std.proofs.Math.Bool.{and_comm};
 
-    ghost meets = { λ r a b. not ((a == r.0 && b == r.1) || (b == r.0 && a == r.1)) };
+    ghost meets = { λ r a b. not (a == r.0 && b == r.1) && not (b == r.0 && a == r.1) };
 
     ghost may_be_left = { λ r a. true };
 
     fn may_meet(&self, a: u16, b: u16) -> bool {
-        !((a == self.0 && b == self.1) || (b == self.0 && a == self.1))
+        !(a == self.0 && b == self.1) && !(b == self.0 && a == self.1)
     }
 
     fn last_ok(&self, _a: u16) -> bool {
         true
     }
 
-    ghost symmetric = { λ r a b p q. cong not (or_comm (a == r.0 && b == r.1) (b == r.0 && a == r.1)) };
+    ghost symmetric = { λ r a b p q. and_comm (not (a == r.0 && b == r.1)) (not (b == r.0 && a == r.1)) };
 }
 
 // More steps than any test makes.
