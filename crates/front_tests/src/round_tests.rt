@@ -1,5 +1,4 @@
 // Rounds: when there is no pairing, who stands in a bracket, and why.
-ghost use Rattle.std.specs.Prelude.{◌≤◌, length};
 ghost use Rattle.dutch_order.specs.Prelude.{Fits};
 ghost use Rattle.dutch_pair.specs.Prelude.{IsOf, IsStage, frame_of};
 
