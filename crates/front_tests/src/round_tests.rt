@@ -1,5 +1,7 @@
 // Rounds: when there is no pairing, who stands in a bracket, and why.
+ghost use Rattle.std.specs.Prelude.{◌≤◌, length};
 ghost use Rattle.dutch_order.specs.Prelude.{Fits};
+ghost use Rattle.dutch_order.specs.TheConstants.{LIMIT};
 ghost use Rattle.dutch_pair.specs.Prelude.{IsOf, IsStage, frame_of};
 
 use crate::reports::{
@@ -7,7 +9,7 @@ use crate::reports::{
     THREE_ARE_APART, TWO_HAVE_MET, TWO_LEAD, field_of,
 };
 use crate::rules::AMPLE;
-use dutch_order::{Budget, Candidates, Shape, Step, numbered_from};
+use dutch_order::{Budget, Candidates, Numbers, Shape, Step, numbered_from};
 use dutch_pair::calls::the_first_scoregroup_is_next;
 use dutch_pair::{
     AllStages, Answer, BracketAt, BracketKind, ITEMS, Instead, Item, Outcome, Quality, Reached,
@@ -18,13 +20,20 @@ use dutch_player::Field;
 use std::alloc::Global;
 use std::test::Fail;
 
+// The seats of all present players.
+fn everybody(field: &Field) -> Numbers
+    ensures { length result.items ≤ LIMIT }
+{
+    numbered_from(0, field.len())
+}
+
 // Completion of all present players by the rule of their seats.
 fn completion_of(field: &Field) -> Answer {
     let mut budget = Budget {
         limit: AMPLE,
         used: 0,
     };
-    completes(&numbered_from(0, field.len()), &seats(field), &mut budget)
+    completes(&everybody(field), &seats(field), &mut budget)
 }
 
 // There is no pairing exactly if the players cannot be paired out.
@@ -133,7 +142,11 @@ fn is_explained(alloc: Global, field: &Field, stage: &Stage) -> Result<bool, Fai
 {
     let chosen = stage.quality();
     let others = best_instead(alloc, field, stage, Wish::Pair(1, 3), AMPLE)?;
-    let Instead::Best { quality, .. } = others else {
+    let Instead::Best {
+        quality,
+        candidate: _candidate,
+    } = others
+    else {
         return Ok(false);
     };
     Ok(
@@ -205,7 +218,7 @@ fn quality_again(field: &Field, stage: &Stage) -> Option<Quality>
 #[test]
 fn the_quality_of_a_candidate(rt: HostRuntime) -> Result<(), Fail> {
     let field = field_of(rt.alloc(), &ONE_MOVES_DOWN, None)?;
-    let AllStages::Paired { stages, .. } = stages(rt.alloc(), &field, AMPLE)? else {
+    let AllStages::Paired { stages, bye: _bye } = stages(rt.alloc(), &field, AMPLE)? else {
         return Err(Fail::new("the round is not paired"));
     };
     let [_, stage, _] = stages.as_slice() else {
