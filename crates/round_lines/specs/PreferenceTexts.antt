@@ -12,22 +12,22 @@ strength_text Absolute = codes "absolute"
 strength_text Strong = codes "strong"
 strength_text Mild = codes "mild"
 
--- a colour
+-- a colour in words [with preference_text]
 abbrev pub colour_text : Colour → List ℕ
 colour_text White = codes "white"
 colour_text Black = codes "black"
 
--- A.6: a preference in a line
+-- a preference in a line: how strong it is, and the colour [A.6; own]
 abbrev pub preference_text : Option Pref → List ℕ
 preference_text (Some wish) = strength_text wish.strength ++ (codes " " ++ colour_text wish.colour)
 preference_text None = codes "none"
 
--- A.6: a preference in a sentence
+-- a preference in a sentence: the colour, and how strong it is [with preference_text]
 abbrev pub preference_words : Option Pref → List ℕ
 preference_words (Some wish) = colour_text wish.colour ++ (codes ", " ++ strength_text wish.strength)
 preference_words None = codes "none"
 
--- A.6: a preference in brackets behind a player, without which E.2 to E.4 cannot be followed
+-- A.6: a preference in brackets behind a player
 abbrev pub prefers_words : Option Pref → List ℕ
 prefers_words (Some wish) = codes " (prefers " ++ (preference_words (Some wish) ++ codes ")")
 prefers_words None = codes " (no preference)"
