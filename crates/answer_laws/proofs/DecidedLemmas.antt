@@ -2,7 +2,6 @@
 use Rattle.std.proofs.Common.{◌≡◌, ◌∙◌, ℕ, ◌<◌, Bool, true, false, cond, ◌&&◌, ◌||◌, not, inl, inr, List, [], ◌∷◌, length, map, Option, Some, None, refl, sym, ap, subst, find}
 use Rattle.std.specs.Prelude.{is_some}
 use Rattle.std.proofs.lemmas.Bool.{and_from, and_parts, not-true, true≢false}
-use Rattle.dutch_arrangements.specs.Prelude.{IsIn}
 use Rattle.dutch_player.specs.Prelude.{Facts}
 use Rattle.dutch_bracket.specs.Prelude.{all_pairs}
 use Rattle.dutch_rounds.specs.Prelude.{Pairing, is_reached, own_pairs, round, visit}
