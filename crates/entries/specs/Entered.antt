@@ -1,22 +1,18 @@
 -- What becomes of a report when results and byes are entered by hand.
 use Rattle.std.specs.Prelude.{ℕ, ◌+◌, ◌-◌, Bool, true, false, not, ◌&&◌, ◌||◌, ◌==◌, nat_le, nat_lt, if◌then◌else◌, List, [], ◌∷◌, ◌++◌, map, take, sum_by, Option, Some, None, option_map, Result, Ok, Err}
-use Rattle.std.specs.List.{list_any}
 use Rattle.std.specs.Option.{option_map_or, ok_or}
 use Rattle.trf16_report.specs.Outcomes.{◌>>=◌}
-use Rattle.trf16_report.specs.Prelude.{Entry, Sheet, known, cell_in, rounds_played, half_points, opponent_in_cell, colour_in_cell, is_blank_cell, is_unfinished, has_other_points, with_cell, without_last}
-use Rattle.trf16_report.specs.Summed.{all_cells_fit}
-use Rattle.trf16_report.specs.declared.cell.Colour.{Colour}
+use Rattle.trf16_report.specs.Prelude.{Entry, Sheet, known, rounds_played, half_points, opponent_in_cell, colour_in_cell, is_blank_cell, is_unfinished, has_other_points, with_cell, without_last, all_cells_fit}
 use Rattle.trf16_report.specs.declared.cell.Colour.TheVariants.{White, Black}
 use Rattle.trf16_report.specs.declared.cell.Bye.{Bye as ByeKind}
-use Rattle.trf16_report.specs.declared.cell.Bye.TheVariants.{Half, Full, Allocated as AllocatedBye, Zero}
-use Rattle.trf16_report.specs.declared.cell.GameOutcome.{GameOutcome}
-use Rattle.trf16_report.specs.declared.cell.GameOutcome.TheVariants.{Win, Draw, Loss}
+use Rattle.trf16_report.specs.declared.cell.Bye.TheVariants.{Allocated as AllocatedBye}
 use Rattle.trf16_report.specs.declared.cell.Cell.{Cell}
-use Rattle.trf16_report.specs.declared.cell.Cell.TheVariants.{Blank, Bye, Game, Forfeit, Unfinished}
+use Rattle.trf16_report.specs.declared.cell.Cell.TheVariants.{Blank, Bye}
 use Rattle.trf16_report.specs.declared.fault.Fault.{Fault}
 use Rattle.trf16_report.specs.declared.limits.TheConstants.{MOST_ROUNDS}
+use Rattle.entries.specs.Games.{cell_of_game, cell_with, other_game, same_cell}
+use Rattle.entries.specs.NewCells.{cell_now, is_named, is_put}
 use Rattle.entries.specs.declared.entry.GameResult.{GameResult}
-use Rattle.entries.specs.declared.entry.GameResult.TheVariants.{Played, Forfeited}
 use Rattle.entries.specs.declared.entry.Event.{Event}
 use Rattle.entries.specs.declared.entry.Event.TheVariants.{Scores, NoResult, Asked, Meets, Allocated}
 use Rattle.entries.specs.declared.entry.HandEntry.{HandEntry}
@@ -27,110 +23,6 @@ use Rattle.entries.specs.declared.entry.NewCell.{NewCell}
 use Rattle.entries.specs.declared.entry.NewCells.{NewCells}
 use Rattle.entries.specs.declared.fault.EntryFault.{EntryFault}
 use Rattle.entries.specs.declared.fault.EntryFault.TheVariants.{NotReached, NotKnown, NamedTwice, HasGame, NoGame, NoColour, HasCell, Refused}
-
--- ---- the cells of a game
-
--- the outcome for the other player
-abbrev pub other_outcome : GameOutcome → GameOutcome
-other_outcome Win = Loss
-other_outcome Draw = Draw
-other_outcome Loss = Win
-
--- the result as the other player has it: 1 and 0, = and =, W and L, D and D, + and -; none where there is none [with entered]
-abbrev pub other_side : Option GameResult → Option GameResult
-other_side None = None
-other_side (Some (Played rated got)) = Some (Played rated (other_outcome got))
-other_side (Some (Forfeited won)) = Some (Forfeited (not won))
-
--- a game as the other player has it [with entered]
-abbrev pub other_game : GameOf → GameOf
-other_game game = record {
-  slot = record { player = game.opponent; round = game.slot.round };
-  opponent = game.slot.player;
-  score = other_side game.score;
-}
-
--- the cell of a game of a player who has a colour
-abbrev pub cell_with : ℕ → Option GameResult → Colour → Cell
-cell_with opponent None colour = Unfinished opponent colour
-cell_with opponent (Some (Played rated got)) colour = Game opponent colour rated got
-cell_with opponent (Some (Forfeited won)) colour = Forfeit opponent (Some colour) won
-
--- the same of one who has none: it must not have been played
-abbrev pub cell_without : ℕ → Option GameResult → Option Cell
-cell_without opponent (Some (Forfeited won)) = Some (Forfeit opponent None won)
-cell_without opponent _ = None
-
--- the same of one who has a colour or none; there is none where a colour is wanted [with entered]
-abbrev pub cell_of_game : ℕ → Option GameResult → Option Colour → Option Cell
-cell_of_game opponent score None = cell_without opponent score
-cell_of_game opponent score (Some colour) = Some (cell_with opponent score colour)
-
--- ---- whether a cell is another one
-
-abbrev pub same_colour : Colour → Colour → Bool
-same_colour White White = true
-same_colour Black Black = true
-same_colour _ _ = false
-
-abbrev pub same_colours : Option Colour → Option Colour → Bool
-same_colours None None = true
-same_colours (Some colour) (Some other) = same_colour colour other
-same_colours _ _ = false
-
-abbrev pub same_bye : ByeKind → ByeKind → Bool
-same_bye Half Half = true
-same_bye Full Full = true
-same_bye AllocatedBye AllocatedBye = true
-same_bye Zero Zero = true
-same_bye _ _ = false
-
-abbrev pub same_outcome : GameOutcome → GameOutcome → Bool
-same_outcome Win Win = true
-same_outcome Draw Draw = true
-same_outcome Loss Loss = true
-same_outcome _ _ = false
-
-abbrev pub same_bool : Bool → Bool → Bool
-same_bool true other = other
-same_bool false other = not other
-
--- two cells say the same
-abbrev pub same_cell : Cell → Cell → Bool
-same_cell Blank Blank = true
-same_cell (Bye bye) (Bye other) = same_bye bye other
-same_cell (Game opponent colour rated got) (Game opponent' colour' rated' got') =
-    (opponent == opponent') && (same_colour colour colour' && (same_bool rated rated' && same_outcome got got'))
-same_cell (Forfeit opponent colour won) (Forfeit opponent' colour' won') = (opponent == opponent') && (same_colours colour colour' && same_bool won won')
-same_cell (Unfinished opponent colour) (Unfinished opponent' colour') = (opponent == opponent') && same_colour colour colour'
-same_cell _ _ = false
-
--- ---- the cells so far
-
--- the cell of a slot in a report [with entered]
-abbrev pub cell_in_slot : Sheet → Slot → Cell
-cell_in_slot sheet slot = cell_in sheet slot.player slot.round
-
--- two slots are one
-abbrev pub same_slot : Slot → Slot → Bool
-same_slot slot other = (slot.player == other.player) && (slot.round == other.round)
-
--- an entry so far names the player in the round [with entered]
-abbrev pub is_named : List NewCell → Slot → Bool
-is_named so_far slot = list_any (λ new. same_slot new.slot slot && new.named) so_far
-
--- an entry so far has put the cell [with entered]
-abbrev pub is_put : List NewCell → Slot → Bool
-is_put so_far slot = list_any (λ new. same_slot new.slot slot) so_far
-
--- what stands in a slot once some cells are put, one after the other
-abbrev pub cell_after : List NewCell → Slot → Cell → Cell
-cell_after [] slot cell = cell
-cell_after (new ∷ rest) slot cell = cell_after rest slot (if same_slot new.slot slot then new.cell else cell)
-
--- what stands in a slot with the entries so far [with entered]
-abbrev pub cell_now : Sheet → List NewCell → Slot → Cell
-cell_now sheet so_far slot = cell_after so_far slot (cell_in_slot sheet slot)
 
 -- ---- one entry
 

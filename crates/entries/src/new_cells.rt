@@ -1,7 +1,8 @@
 // The cells that the entries so far put, and what stands in a round with them.
 ghost use Rattle.std.specs.Prelude.{◌≡◌, ◌<◌, ◌||◌};
-ghost use Rattle.entries.specs.Entered.{cell_after, cell_now, is_named, is_put, may_be_put};
-ghost use Rattle.entries.specs.Entered.{same_bye, same_cell, same_colour, same_colours, same_outcome, same_slot};
+ghost use Rattle.entries.specs.Entered.{may_be_put};
+ghost use Rattle.entries.specs.Games.{same_bye, same_cell, same_colour, same_colours, same_outcome};
+ghost use Rattle.entries.specs.NewCells.{cell_after, cell_now, is_named, is_put, same_slot};
 ghost use Rattle.trf16_report.specs.Prelude.{is_blank_cell, is_unfinished};
 
 use crate::entry::{NewCell, Slot};

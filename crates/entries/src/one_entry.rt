@@ -2,9 +2,9 @@
 ghost use Rattle.std.specs.Prelude.{◌≡◌, ◌<◌, IfOk};
 ghost use Rattle.entries.specs.Outcomes.{Gives};
 ghost use Rattle.entries.specs.Steps.{AreOfRound};
-ghost use Rattle.entries.specs.Entered.{are_known, are_named_once, cell_of_game, cell_with, cell_without};
-ghost use Rattle.entries.specs.Entered.{cells_by, coloured, game_cells, meeting_cells, named_alone, named_cell};
-ghost use Rattle.entries.specs.Entered.{other_game, other_outcome, other_side, second_of};
+ghost use Rattle.entries.specs.Entered.{are_known, are_named_once, cells_by, coloured, game_cells, meeting_cells};
+ghost use Rattle.entries.specs.Entered.{named_alone, named_cell, second_of};
+ghost use Rattle.entries.specs.Games.{cell_of_game, cell_with, cell_without, other_game, other_outcome, other_side};
 
 use crate::entry::{Event, GameOf, GameResult, HandEntry, NewCell, NewCells, Slot};
 use crate::fault::EntryFault;

@@ -1,5 +1,5 @@
 use Rattle.std.proofs.Common.{◌≡◌, drop}
-use Rattle.entries.specs.Entered.{cell_after}
+use Rattle.entries.specs.NewCells.{cell_after}
 use Rattle.entries.proofs.new_cells.cell_after.Given as goal
 
 abbrev pub invariant-loop-new : goal.invariant-loop-new
