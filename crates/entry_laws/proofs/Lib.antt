@@ -1,0 +1,2 @@
+pub mod CellsPut
+pub mod OneEntry

@@ -1,0 +1,2 @@
+-- What the laws on entries name.
+pub mod Concerned
