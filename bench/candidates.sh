@@ -10,6 +10,6 @@ mkdir "$work/crates"
 cp -r "$here/../crates/dutch_sequence" "$here/../crates/dutch_arrangements" "$here/../crates/dutch_listing" "$work/crates"
 mkdir -p "$work/crates/candidates/src"
 cp "$here/candidates.rattle" "$work/crates/candidates/src/main.rt"
-printf 'dutch_sequence: arrayvec\ndutch_order: dutch_sequence arrayvec itoa thiserror\ndutch_listing: dutch_arrangements dutch_sequence\ncandidates: dutch_listing dutch_arrangements arrayvec\n' > "$work/crates.txt"
+printf 'dutch_sequence: arrayvec\ndutch_arrangements: dutch_sequence arrayvec itoa thiserror\ndutch_listing: dutch_arrangements dutch_sequence\ncandidates: dutch_listing dutch_arrangements arrayvec\n' > "$work/crates.txt"
 cd "$work/crates/candidates"
 rt try

@@ -1,3 +1,4 @@
 pub mod ObstacleTruth
+pub mod ByeTruth
 pub mod DecidedLemmas
 pub mod ReasonLemmas

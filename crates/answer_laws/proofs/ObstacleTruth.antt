@@ -1,4 +1,4 @@
--- Each obstacle that is told is there.
+-- Each obstacle that is told against a meeting is there.
 use Rattle.std.proofs.Common.{◌≡◌, ◌≢◌, ◌∙◌, ℕ, zero, suc, Bool, true, false, cond, not, ◌&&◌, ◌||◌, ◌==◌, ◌+◌, ◌≤◌, ◌<◌, List, [], ◌∷◌, Option, Some, None, refl, sym, ap, inl, inr, arith, find}
 use Rattle.std.specs.Option.{option_map_or}
 use Rattle.std.proofs.lemmas.Bool.{eq-eqb, eqb-true, true≢false, and_parts, cases_eq}
@@ -10,18 +10,18 @@ use Rattle.dutch_player.specs.declared.preference.Pref.{Pref}
 use Rattle.trf16_report.specs.Prelude.{apart, Sheet, cell_in, rounds_played}
 use Rattle.trf16_report.specs.declared.cell.Colour.{Colour}
 use Rattle.trf16_report.specs.declared.cell.Colour.TheVariants.{White, Black}
-use Rattle.answer_laws.specs.InsteadLaws.{HaveMetFirst, ColoursClash, StandsAgainstMeeting, StandsAgainstBye}
-use Rattle.player_lines.specs.Obstacles.{against_bye, against_meeting, first_against, first_meeting, has_played, is_even}
+use Rattle.answer_laws.specs.InsteadLaws.{HaveMetFirst, ColoursClash, StandsAgainstMeeting}
+use Rattle.player_lines.specs.Obstacles.{against_meeting, first_against, first_meeting, has_played}
 use Rattle.player_lines.specs.declared.obstacle.Obstacle.{Obstacle}
-use Rattle.player_lines.specs.declared.obstacle.Obstacle.TheVariants.{Met, Apart, Colours, HadBye, Even}
+use Rattle.player_lines.specs.declared.obstacle.Obstacle.TheVariants.{Met, Apart, Colours}
 
 -- ---- the first of some numbers that passes a test
 
-record IsFirst (test : ℕ → Bool) (first count number : ℕ) : Type 0 where
-  from : first ≤ number
-  within : number < first + count
-  passes : test number ≡ true
-  before : (earlier : ℕ) → first ≤ earlier → earlier < number → test earlier ≡ false
+pub record IsFirst (test : ℕ → Bool) (first count number : ℕ) : Type 0 where
+  pub from : first ≤ number
+  pub within : number < first + count
+  pub passes : test number ≡ true
+  pub before : (earlier : ℕ) → first ≤ earlier → earlier < number → test earlier ≡ false
 
 first_at : (test : ℕ → Bool) (first count number : ℕ) (t : Bool) → test first ≡ t
     → (find test (numbers_from (suc first) count) ≡ Some number → IsFirst test (suc first) count number)
@@ -46,7 +46,7 @@ first_at test first count number false is later e =
       ];
     }
 
-first_is : (test : ℕ → Bool) (first count number : ℕ) → find test (numbers_from first count) ≡ Some number → IsFirst test first count number
+pub first_is : (test : ℕ → Bool) (first count number : ℕ) → find test (numbers_from first count) ≡ Some number → IsFirst test first count number
 first_is test first zero number e = cc
 first_is test first (suc count) number e = first_at test first count number (test first) refl (first_is test (suc first) count number) e
 
@@ -148,13 +148,3 @@ pub stands_against_meeting : (sheet : Sheet) (facts : Facts) (one other : ℕ) (
 stands_against_meeting sheet facts one other obstacle e =
     meeting_at sheet facts one other (first_meeting sheet (seat_at facts one).start (seat_at facts other).start)
     (apart sheet (seat_at facts one).start (seat_at facts other).start) (colours_allow facts (seat_at facts one) (seat_at facts other)) obstacle refl refl refl e
-
-bye_at : (facts : Facts) (bye : List ℕ) (seat : ℕ) (may : Bool) (obstacle : Obstacle) → (seat_at facts seat).may_bye ≡ may
-    → cond may (is_even bye) (Some HadBye) ≡ Some obstacle → StandsAgainstBye facts bye seat obstacle
-bye_at facts bye seat false obstacle may e = let is : HadBye ≡ obstacle = cc in rw (sym is) may
-bye_at facts [] seat true obstacle may e = let is : Even ≡ obstacle = cc in rw (sym is) (may, refl)
-bye_at facts (first ∷ rest) seat true obstacle may e = cc
-
-pub stands_against_bye : (facts : Facts) (bye : List ℕ) (seat : ℕ) (obstacle : Obstacle) → against_bye facts bye seat ≡ Some obstacle
-    → StandsAgainstBye facts bye seat obstacle
-stands_against_bye facts bye seat obstacle e = bye_at facts bye seat (seat_at facts seat).may_bye obstacle refl e

@@ -1,7 +1,7 @@
 -- What the obstacles say, and the reasons why no candidate grants a wish, in words of their own.
 use Rattle.std.specs.Prelude.{◌≡◌, ◌≢◌, ℕ, ◌<◌, ◌≤◌, ◌⊎◌, ◌&&◌, true, false, List, [], ◌∷◌, ◌++◌, Some}
 use Rattle.dutch_arrangements.specs.Prelude.{Arrangement, Fits, IsIn}
-use Rattle.dutch_player.specs.Prelude.{Facts, seat_at, opponent_played, is_topscorer, preference}
+use Rattle.dutch_player.specs.Prelude.{Facts, seat_at, bars_bye, opponent_played, is_topscorer, preference}
 use Rattle.dutch_player.specs.declared.preference.Strength.TheVariants.{Absolute}
 use Rattle.dutch_player.specs.declared.preference.Pref.{Pref}
 use Rattle.dutch_rounds.specs.Prelude.{lower_of}
@@ -10,21 +10,29 @@ use Rattle.dutch_candidates.specs.Wishes.{grants}
 use Rattle.dutch_choice.specs.Prelude.{with_mdps}
 use Rattle.dutch_rounds.specs.declared.stage.Stage.{Stage}
 use Rattle.dutch_candidates.specs.declared.wish.Wish.{Wish}
+use Rattle.dutch_candidates.specs.declared.wish.Wish.TheVariants.{Pair, LeftOver}
 use Rattle.trf16_report.specs.Prelude.{apart, Sheet, cell_in, rounds_played}
-use Rattle.command_line.specs.InsteadAnswers.{goes_on, stands_in, stands_in_one, wish_in}
+use Rattle.command_line.specs.InsteadAnswers.{goes_on, keeps_both, number_in, stands_in, stands_in_one}
 use Rattle.command_line.specs.declared.instead.Rival.{Rival}
 use Rattle.command_line.specs.declared.instead.Rival.TheVariants.{Bye, Seat}
 use Rattle.player_lines.specs.declared.obstacle.Obstacle.{Obstacle}
 use Rattle.player_lines.specs.declared.obstacle.Obstacle.TheVariants.{Absent, Met, Apart, Colours, HadBye, Even}
 
--- C.1: one has played a game against the other in a round, and in none before it
+-- one of two has played a game against the other in a round, and in none before it (C.1) [with StandsAgainstMeeting]
 pub record HaveMetFirst (sheet : Sheet) (one other round : ℕ) : Type 0 where
   pub from_one : 1 ≤ round
   pub within : round ≤ rounds_played sheet
   pub game : opponent_played (cell_in sheet one round) ≡ Some other
   pub none_before : (earlier : ℕ) → 1 ≤ earlier → earlier < round → opponent_played (cell_in sheet one earlier) ≢ Some other
 
--- C.3: both have absolute preferences for one colour, and neither is a topscorer
+-- a player had the bye, or a point without a game, in a round, and in none before it (C.2) [with StandsAgainstBye]
+pub record HadByeFirst (sheet : Sheet) (start round : ℕ) : Type 0 where
+  pub from_one : 1 ≤ round
+  pub within : round ≤ rounds_played sheet
+  pub barred : bars_bye (cell_in sheet start round) ≡ true
+  pub none_before : (earlier : ℕ) → 1 ≤ earlier → earlier < round → bars_bye (cell_in sheet start earlier) ≡ false
+
+-- two have absolute preferences for one colour, and neither is a topscorer (C.3) [with StandsAgainstMeeting]
 pub record ColoursClash (facts : Facts) (one other : ℕ) : Type 0 where
   pub mine : Pref
   pub theirs : Pref
@@ -41,41 +49,74 @@ StandsAgainstMeeting sheet facts one other (Met round) = HaveMetFirst sheet (sea
 StandsAgainstMeeting sheet facts one other Apart = apart sheet (seat_at facts one).start (seat_at facts other).start ≡ true
 StandsAgainstMeeting sheet facts one other Colours = ColoursClash facts one other
 StandsAgainstMeeting sheet facts one other Absent = ⊥
-StandsAgainstMeeting sheet facts one other HadBye = ⊥
+StandsAgainstMeeting sheet facts one other (HadBye round) = ⊥
 StandsAgainstMeeting sheet facts one other Even = ⊥
 
--- what stands against the bye of a seat: its player may not have it, or nobody has it [C.2; own]
-abbrev pub StandsAgainstBye : Facts → List ℕ → ℕ → Obstacle → Type 0
-StandsAgainstBye facts bye seat HadBye = (seat_at facts seat).may_bye ≡ false
-StandsAgainstBye facts bye seat Even = ((seat_at facts seat).may_bye ≡ true) × (bye ≡ [])
-StandsAgainstBye facts bye seat Absent = ⊥
-StandsAgainstBye facts bye seat (Met round) = ⊥
-StandsAgainstBye facts bye seat Apart = ⊥
-StandsAgainstBye facts bye seat Colours = ⊥
+-- what stands against the bye of a seat: its player may not have it, since they had it, or a point without a game, in that round and in none
+-- before it; or nobody has it [C.2; own]
+abbrev pub StandsAgainstBye : Sheet → Facts → List ℕ → ℕ → Obstacle → Type 0
+StandsAgainstBye sheet facts bye seat (HadBye round) = ((seat_at facts seat).may_bye ≡ false) × HadByeFirst sheet (seat_at facts seat).start round
+StandsAgainstBye sheet facts bye seat Even = ((seat_at facts seat).may_bye ≡ true) × (bye ≡ [])
+StandsAgainstBye sheet facts bye seat Absent = ⊥
+StandsAgainstBye sheet facts bye seat (Met round) = ⊥
+StandsAgainstBye sheet facts bye seat Apart = ⊥
+StandsAgainstBye sheet facts bye seat Colours = ⊥
 
--- a bracket is the last of some in which a seat stands: the seat stands in it, and in none behind it
+-- ---- where it is decided
+
+-- in none of some brackets that keep their pairs do both of two stand [with IsDecidedIn]
+abbrev pub ShareNone : List Stage → ℕ → ℕ → Type 0
+ShareNone stages player other = (stage : Stage) → IsIn stage stages → keeps_both player other stage ≡ false
+
+-- a bracket is the first of some that keeps its pairs in which both of two stand, and the wish is that they meet in it [with IsDecidedIn]
+pub record MeetInFirst (stages : List Stage) (player other : ℕ) (stage : Stage) (wish : Wish) : Type 0 where
+  pub front : List Stage
+  pub behind : List Stage
+  pub split : stages ≡ front ++ stage ∷ behind
+  pub none_before : ShareNone front player other
+  pub keeps_pairs : stage.again ≡ false
+  pub both_stand : (stands_in player stage ≡ true) × (stands_in other stage ≡ true)
+  pub wished : wish ≡ Pair (number_in stage player) (number_in stage other)
+
+-- a bracket is the last of some in which a seat stands: the seat stands in it, and in none behind it [with IsDecidedIn]
 pub record IsLastOf (seat : ℕ) (stage : Stage) (behind : List Stage) : Type 0 where
   pub stands_here : stands_in seat stage ≡ true
   pub none_behind : stands_in_one behind seat ≡ false
 
--- it is the last of one of the two: of the player, or of who is asked for; the bye has none
-abbrev pub IsLastOfOne : ℕ → Rival → Stage → List Stage → Type 0
-IsLastOfOne player Bye stage behind = IsLastOf player stage behind
-IsLastOfOne player (Seat other) stage behind = IsLastOf player stage behind ⊎ IsLastOf other stage behind
+-- a seat is that of the player, or of who is asked for; the bye has none [with IsDecidedIn]
+abbrev pub IsOneOf : ℕ → Rival → ℕ → Type 0
+IsOneOf player Bye seat = seat ≡ player
+IsOneOf player (Seat other) seat = (seat ≡ player) ⊎ (seat ≡ other)
 
--- where it is decided: in a bracket that is the last of one of the two, while each of them stands in it or in one behind it; so it is the
--- first of the last brackets of the two [own]
-pub record IsDecidedIn (stages : List Stage) (player : ℕ) (rival : Rival) (stage : Stage) (wish : Wish) : Type 0 where
+-- whose last bracket it is, while each of the two stands in it or in one behind it: one of the two, and the player, where it is that of both
+-- [with IsDecidedIn]
+pub record IsSettledIn (player : ℕ) (rival : Rival) (stage : Stage) (behind : List Stage) (settled : ℕ) : Type 0 where
+  pub one : IsOneOf player rival settled
+  pub last : IsLastOf settled stage behind
+  pub player_first : stands_in_one behind player ≡ false → settled ≡ player
+  pub both_come : (stands_in_one (stage ∷ behind) player && goes_on (stage ∷ behind) rival) ≡ true
+
+-- a bracket is the first of the last brackets of the two, and the wish is that the one whose last it is goes down in it [with IsDecidedIn]
+pub record GoesDownInFirst (stages : List Stage) (player : ℕ) (rival : Rival) (stage : Stage) (wish : Wish) : Type 0 where
   pub front : List Stage
   pub behind : List Stage
   pub split : stages ≡ front ++ stage ∷ behind
-  pub one_ends : IsLastOfOne player rival stage behind
-  pub both_come : (stands_in_one (stage ∷ behind) player && goes_on (stage ∷ behind) rival) ≡ true
-  pub wished : wish ≡ wish_in behind stage player rival
+  pub settled : ℕ
+  pub ends : IsSettledIn player rival stage behind settled
+  pub wished : wish ≡ LeftOver (number_in stage settled)
+
+-- where it is decided, and what is wished there: in the first bracket that keeps its pairs in which both stand, that they meet; where there
+-- is none, in the first of the last brackets of the two, that the one whose last it is goes down; of a player who asks for the bye, in the
+-- player's own last one, that the player is left over [own]
+abbrev pub IsDecidedIn : List Stage → ℕ → Rival → Stage → Wish → Type 0
+IsDecidedIn stages player Bye stage wish = GoesDownInFirst stages player Bye stage wish
+IsDecidedIn stages player (Seat other) stage wish =
+    MeetInFirst stages player other stage wish ⊎ (ShareNone stages player other × GoesDownInFirst stages player (Seat other) stage wish)
 
 -- ---- why none grants a wish
 
--- C.1 to C.3: a legal candidate of a stage's bracket, with as many pairs as it has to make and so many moved-down players in them
+-- a legal candidate (C.1 to C.3) of a stage's bracket, with as many pairs as it has to make and so many moved-down players in them [with
+-- NoneCanBeChosen]
 pub record IsLegalWith (facts : Facts) (stage : Stage) (mdps : ℕ) (a : Arrangement) : Type 0 where
   pub room : Fits (frame_of facts stage.reached) (with_mdps stage.shape mdps)
   pub legal : IsIn a (candidates_of facts stage.reached (with_mdps stage.shape mdps))

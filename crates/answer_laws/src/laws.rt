@@ -1,13 +1,16 @@
-// Laws on what is told to a player who asks for another opponent, or for the bye: each reason is true.
-ghost use Rattle.std.specs.Prelude.{◌≡◌, ◌<◌, ℕ, true, List, Some, is_some, length, map};
-ghost use Rattle.dutch_player.specs.Prelude.{Facts};
-ghost use Rattle.trf16_report.specs.Prelude.{Sheet};
-ghost use Rattle.dutch_rounds.specs.Prelude.{above_lower, IsStage, IsInstead, Pairing, round, visit};
+// Laws on what is told to a player who asks for another opponent, or for the bye: it is asked where the two could meet,
+// and each reason is true.
+ghost use Rattle.std.specs.Prelude.{◌≡◌, ◌<◌, ℕ, true, List, Ok, Option, Some, is_some, length, map};
+ghost use Rattle.dutch_player.specs.Prelude.{Facts, facts_of};
+ghost use Rattle.trf16_report.specs.Prelude.{HasOwnStarts, Sheet};
+ghost use Rattle.trf16_report.specs.declared.cell.Colour.{Colour};
+ghost use Rattle.dutch_rounds.specs.Prelude.{above_lower, IsStage, IsInstead, Pairing, own_pairs, round, visit};
 ghost use Rattle.dutch_rounds.specs.declared.instead.Instead.TheVariants.{FewerMovedDown, NoneEligible, NoneLegal};
 ghost use Rattle.dutch_rounds.specs.declared.stage.Stage.{Stage};
 ghost use Rattle.dutch_candidates.specs.declared.wish.Wish.{Wish};
-ghost use Rattle.command_line.specs.InsteadAnswers.{decided_in, IsRival};
+ghost use Rattle.command_line.specs.InsteadAnswers.{decided_in, IsRival, shared_in};
 ghost use Rattle.command_line.specs.declared.instead.Rival.{Rival};
+ghost use Rattle.pairing_laws.specs.SharedBrackets.{ArePaired};
 ghost use Rattle.answer_laws.specs.InsteadLaws.{IsDecidedIn, NoneCanBeChosen, NoneWithAsManyMovedDown};
 ghost use Rattle.answer_laws.specs.InsteadLaws.{NoneWithAsManyPairs, StandsAgainstBye, StandsAgainstMeeting};
 ghost use Rattle.player_lines.specs.Obstacles.{against_bye, against_meeting};
@@ -22,19 +25,23 @@ pub fn what_is_told_against_a_meeting_stands()
         → StandsAgainstMeeting sheet facts one other obstacle }
 {}
 
-/// What is told against the bye of a player is true: they may not have it (C.2), or nobody has it.
-#[tactic(auto, using(crate::proofs::ObstacleTruth::stands_against_bye))]
+/// What is told against the bye of a player of a report stands: they may not have it, since they had the bye, or a point
+/// without a game, in that round, and in none before it (C.2); or nobody has it.
+#[tactic(auto, using(crate::proofs::ByeTruth::stands_against_bye))]
 pub fn what_is_told_against_a_bye_stands()
-    ensures { (facts : Facts) (bye : List ℕ) (seat : ℕ) (obstacle : Obstacle)
-        → against_bye facts bye seat ≡ Some obstacle
-        → StandsAgainstBye facts bye seat obstacle }
+    ensures { (sheet : Sheet) (total : Option ℕ) (initial : Option Colour) (facts : Facts) (bye : List ℕ) (seat : ℕ)
+        (obstacle : Obstacle) → HasOwnStarts sheet → facts_of sheet total initial ≡ Ok facts
+        → seat < length facts.seats → against_bye sheet facts bye seat ≡ Some obstacle
+        → StandsAgainstBye sheet facts bye seat obstacle }
 {}
 
-/// In the brackets of a round that is paired it is decided on each present player and whom they ask for, and that in the
-/// first of the last brackets of the two: one of them stands in it and in none behind it, and each of them stands in it
-/// or in one behind it. A player who asks for the bye is decided on in their own last bracket.
+/// In the brackets of a round that is paired it is decided on each two present players in the first bracket that keeps
+/// its pairs in which both stand: the wish is that they meet there. Where there is none, it is decided in the first of
+/// the last brackets of the two, while each of them stands in it or in one behind it: the wish is that the one whose
+/// last it is goes down. On a player who asks for the bye it is decided in their own last bracket: the wish is that
+/// they are left over in it.
 #[tactic(auto, using(crate::proofs::DecidedLemmas::is_decided_somewhere, crate::proofs::DecidedLemmas::is_decided_first))]
-pub fn it_is_decided_in_the_first_of_the_last_brackets()
+pub fn it_is_decided_where_two_could_meet()
     ensures somewhere { (facts : Facts) (pairing : Pairing) (stages : List Stage) (player : ℕ) (rival : Rival)
         → (round facts).pairing ≡ Some pairing → map visit stages ≡ (round facts).reached
         → player < length facts.seats → IsRival facts rival → is_some (decided_in stages player rival) ≡ true }
@@ -42,6 +49,16 @@ pub fn it_is_decided_in_the_first_of_the_last_brackets()
         (wish : Wish) → (round facts).pairing ≡ Some pairing → map visit stages ≡ (round facts).reached
         → player < length facts.seats → IsRival facts rival
         → decided_in stages player rival ≡ Some (stage, wish) → IsDecidedIn stages player rival stage wish }
+{}
+
+/// In the brackets of a round that is paired two players who stand in one that keeps its pairs are paired in the first
+/// such bracket, or in none (A.9, B.2): so the one wish that they meet there is enough.
+#[tactic(auto, using(crate::proofs::DecidedLemmas::there_or_nowhere))]
+pub fn two_who_share_a_bracket_meet_there_or_nowhere()
+    ensures { (facts : Facts) (pairing : Pairing) (stages : List Stage) (player other : ℕ) (stage : Stage)
+        → (round facts).pairing ≡ Some pairing → map visit stages ≡ (round facts).reached
+        → shared_in stages player other ≡ Some stage → ArePaired player other pairing.pairs
+        → ArePaired player other (own_pairs stage) }
 {}
 
 /// Where C.4 is told, a legal candidate grants the wish with as many pairs as the bracket has to make, and no fewer

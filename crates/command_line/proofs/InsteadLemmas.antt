@@ -38,7 +38,7 @@ few_seats facts stage is = omega (arith, is.bracket.sound.few, length-map stage.
 -- what is told of what a search finds
 pub searched : (telling : TellingFacts) (steps player number : ℕ) (stage : Stage) (wish : Wish) (found : Instead) {E : Type 0} (r : Result Reply E)
     → IsInstead (above_lower telling.facts stage.reached) stage.shape wish steps found
-    → IfOk r (λ reply. answer_of reply ≡ search_answer telling player number stage found)
+    → IfOk r (λ reply. answer_of reply ≡ search_answer telling player number stage wish found)
     → IfOk r (λ reply. IsSearched telling steps player number stage wish (answer_of reply))
 searched telling steps player number stage wish found (Ok reply) is tells = record { found = found; is = is; tells = tells }
 searched telling steps player number stage wish found (Err error) is tells = tells

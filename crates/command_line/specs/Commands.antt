@@ -12,7 +12,8 @@ use Rattle.requests.specs.declared.words.Request.{Request}
 use Rattle.requests.specs.declared.words.Request.TheVariants.{Check, Format, Enter, Pair, Boards, Candidates, Explain, Standings}
 
 -- this is an answer to a request over an input, what the pairing-allocated bye gives, and the report that it is, or over why it is refused;
--- where a request asks for a round it is answered on the report as it stood before that round [with Answers]
+-- where a request asks for a round it is answered on the report as it stood before that round, but `boards` on the whole report [with
+-- Answers]
 abbrev pub AnswersReport : Request → List ℕ → ℕ → Result Sheet Fault → Answer → Type 0
 AnswersReport (Check options) input bye report answer = answer ≡ check_answer report options.notes input bye
 AnswersReport (Format options) input bye report answer = answer ≡ format_answer options.points options.renumber (seen_before options.round report)
@@ -30,6 +31,6 @@ verdict_for (Enter options) input bye = verdict_unsummed input bye
 verdict_for request input bye = verdict input bye
 
 -- what each command answers to the bytes of its input, where the pairing-allocated bye gives so many half points; a command with `--round`
--- for the report before that round [own]
+-- for the report before that round, `boards` alone for the whole report [own]
 abbrev pub Answers : Task → List ℕ → Answer → Type 0
 Answers task input answer = AnswersReport task.request input task.bye (verdict_for task.request input task.bye) answer

@@ -38,13 +38,13 @@ about_text round player (Some seat) = present_text round seat
 abbrev pub front_text : PairedRound → ℕ → List ℕ
 front_text round player = first_text round ++ about_text round player (seat_with round.telling.facts player)
 
--- behind that it is told why they do not meet another one, or do not have the bye
+-- behind the round and what is told of a player it is told why they do not meet another one, or do not have the bye [with AnswersExplain]
 pub record IsToldBehind (round : PairedRound) (steps player number : ℕ) (answer : Answer) : Type 0 where
   pub line : Answer
   pub is : AnswersInstead round player number steps line
   pub tells : answer ≡ behind (front_text round player) line
 
--- what is answered to a question on a player, and on who is named instead, if one is
+-- what is answered to a question on a player, and on who is named instead, if one is [with AnswersExplain]
 abbrev pub AnswersQuestion : PairedRound → ℕ → ℕ → Option ℕ → Answer → Type 0
 AnswersQuestion round steps player None answer = answer ≡ done (front_text round player)
 AnswersQuestion round steps player (Some number) answer = IsToldBehind round steps player number answer
@@ -79,25 +79,25 @@ pub record TellsWhy (telling : TellingFacts) (question : Option Question) (answe
 
 -- ---- a round
 
--- what is told of a round
+-- what is told of a round: as it is paired, why it has no pairing, or that it stopped [with AnswersExplain]
 abbrev pub TellsRound : ExplainOptions → TellingFacts → AllStages → Answer → Type 0
 TellsRound options telling (Paired stages bye) answer =
     TellsPaired options.question options.steps (record { telling = telling; stages = stages.items; bye = bye.items }) answer
 TellsRound options telling NoPairing answer = TellsWhy telling options.question answer
 TellsRound options telling (Undecided number used) answer = answer ≡ undecided_in telling.wording number used
 
--- a field is paired, and its round is told
+-- a field is paired, and its round is told [with AnswersExplain]
 pub record IsExplained (options : ExplainOptions) (telling : TellingFacts) (answer : Answer) : Type 0 where
   pub stages : AllStages
   pub are : AreStages telling.facts options.steps stages
   pub tells : TellsRound options telling stages answer
 
--- the same, where nothing is wrong with the question; else that is told
+-- a field is paired, and its round is told, where nothing is wrong with the question; else that is told [with AnswersExplain]
 abbrev pub ExplainsAsked : ExplainOptions → TellingFacts → Option QuestionFault → Answer → Type 0
 ExplainsAsked options telling None answer = IsExplained options telling answer
 ExplainsAsked options telling (Some fault) answer = answer ≡ question_refusal fault
 
--- what is answered to a field, or why the round cannot be paired
+-- what is answered to a field, or why the round cannot be paired [with AnswersExplain]
 abbrev pub ExplainsField : ExplainOptions → Sheet → Result Facts FieldFault → Answer → Type 0
 ExplainsField options sheet (Ok facts) answer =
     ExplainsAsked options (record { sheet = sheet; facts = facts; wording = options.wording }) (question_fault sheet options.question) answer

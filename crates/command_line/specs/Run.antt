@@ -16,48 +16,48 @@ abbrev pub IsInput : Option (List ℕ) → List ℕ → Type 0
 IsInput None input = Unit {0}
 IsInput (Some bytes) input = input ≡ bytes
 
--- a task is answered over the bytes of the source
+-- a task is answered over the bytes of the source [with IsRun]
 pub record IsAnswered (task : Task) (source : Reading) (answer : Answer) : Type 0 where
   pub input : List ℕ
   pub read : IsInput source.device.before input
   pub sound : HasNotFailed source.device
   pub answers : Answers task input answer
 
--- a call of the source failed
+-- a call of the source failed, and that is answered [with IsRun]
 pub record HasReadFault (source : Reading) (answer : Answer) : Type 0 where
   pub failed : HasFailed source.device
   pub tells : answer ≡ read_fault
 
--- memory was refused
+-- memory was refused, and that is answered; no call of the source failed [with IsRun]
 pub record IsOutOfMemory (source : Reading) (answer : Answer) : Type 0 where
   pub sound : HasNotFailed source.device
   pub tells : answer ≡ out_of_memory
 
--- what is answered to a task
+-- what is answered to a task: the command's answer over the bytes of the source, a read fault, or want of memory [with IsRun]
 abbrev pub IsReplyTo : Task → Reading → Answer → Type 0
 IsReplyTo task source answer = IsAnswered task source answer ⊎ (HasReadFault source answer ⊎ IsOutOfMemory source answer)
 
--- the words make a task, which is answered
+-- the words make a task, which is answered [with IsRun]
 pub record IsCarriedOut (words : List (List ℕ)) (source : Reading) (answer : Answer) : Type 0 where
   pub task : Task
   pub asked : AsksFor words task
   pub replies : IsReplyTo task source answer
 
--- the words ask for help or the version, and nothing is read; the text is clap's
+-- the words ask for help or the version, and nothing is read; the text is clap's [with IsRun]
 pub record IsHelped (words : List (List ℕ)) (source : Reading) (answer : Answer) : Type 0 where
   pub asked : AsksForHelp words
   pub unread : IsUnread source
   pub status : answer.status ≡ Done
   pub plain : answer.note ≡ []
 
--- the words are refused, and nothing is read; the text is clap's
+-- the words are refused, and nothing is read; the text is clap's [with IsRun]
 pub record IsCorrected (words : List (List ℕ)) (source : Reading) (answer : Answer) : Type 0 where
   pub mistaken : IsMistaken words
   pub unread : IsUnread source
   pub status : answer.status ≡ BadWords
   pub plain : answer.note ≡ []
 
--- the options are refused with a text of the program's own, and nothing is read
+-- the options are refused with a text of the program's own, and nothing is read [with IsRun]
 pub record HasWordFault (words : List (List ℕ)) (source : Reading) (answer : Answer) : Type 0 where
   pub fault : WordFault
   pub asked : AsksWrongly words fault

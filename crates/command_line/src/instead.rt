@@ -1,13 +1,13 @@
 // Why a player does not meet another one in the next round, or does not have the bye: what stands against it first.
-ghost use Rattle.std.specs.Prelude.{◌≡◌, ◌≤◌, ◌++◌, IfOk, IfSome, MatchOption, None, OnOk, Some, length};
+ghost use Rattle.std.specs.Prelude.{◌≡◌, ◌≤◌, ◌++◌, IfOk, IfSome, MatchOption, None, OnOk, Some, length, option_copied};
 ghost use Rattle.std.specs.List.{AllByRecursion};
 ghost use Rattle.dutch_sequence.specs.declared.numbers.TheConstants.{LIMIT};
 ghost use Rattle.dutch_rounds.specs.Prelude.{IsStage};
 ghost use Rattle.dutch_candidates.specs.Wishes.{grants};
 ghost use Rattle.command_line.specs.InsteadAnswers.{AnswersInstead, AnswersPresent, AnswersWish, IsSearched};
 ghost use Rattle.command_line.specs.InsteadAnswers.{decided_in};
-ghost use Rattle.command_line.specs.InsteadAnswers.{goes_on, number_among, number_in, obstacle_of, rival_of};
-ghost use Rattle.command_line.specs.InsteadAnswers.{stands_in_one, wish_in};
+ghost use Rattle.command_line.specs.InsteadAnswers.{goes_on, keeps_both, number_among, number_in, obstacle_of, rival_of};
+ghost use Rattle.command_line.specs.InsteadAnswers.{settled_in, settled_of, shared_in, stands_in_one};
 ghost use Rattle.stage_lines.specs.InsteadTexts.{in_bracket, instead_text};
 ghost use Rattle.command_line.specs.InsteadAnswers.{search_answer};
 ghost use Rattle.player_lines.specs.Obstacles.{obstacle_text};
@@ -22,7 +22,7 @@ use replies::{Reply, Status};
 use round_lines::Asked;
 use round_lines::page::Page;
 use round_lines::telling::Telling;
-use stage_lines::instead_lines::{put_found, put_front, put_granted};
+use stage_lines::instead_lines::{Searched, put_found, put_front, put_granted};
 use std::alloc::{AllocError, Global};
 use std::marker::Model;
 
@@ -61,8 +61,9 @@ pub struct AskedInSteps {
 
 /// What is answered to a player who asks for another one instead, or for the bye: the first of these that stands
 /// against it: one of the two is absent; C.1; a line `XXP`; C.3; for the bye C.2, or that nobody has it; then what is
-/// chosen in the first bracket behind which one of them does not stand, and the best of its candidates that would grant
-/// it.
+/// chosen in the first bracket that keeps its pairs in which both stand, where alone the two could meet, or if there is
+/// none, or the bye is asked for, in the first bracket behind which one of them does not stand; and the best of its
+/// candidates that would grant it.
 ///
 /// # Errors
 /// Memory was refused.
@@ -133,7 +134,7 @@ fn obstacle_of(round: &Paired<'_>, meeting: Meeting) -> Option<Obstacle>
 {
     let telling = round.telling;
     match meeting.rival {
-        Rival::Bye => against_bye(telling.field, round.bye, meeting.player),
+        Rival::Bye => { against_bye(telling.report, telling.field, round.bye, meeting.player) }
         Rival::Seat(other) => {
             against_meeting(telling.report, telling.field, meeting.player, other)
         }
@@ -211,42 +212,73 @@ fn number_in(field: &Field, stage: &Stage, seat: u16) -> u16
     number_among(stage.reached().seats(), seat)
 }
 
-// What is wished in a bracket behind which one of the two does not stand: that they meet, if it is the last bracket of
-// both; otherwise that the one who was paired in it is left over.
-fn wish_in(field: &Field, behind: &[Stage], stage: &Stage, meeting: Meeting) -> Wish
-    requires { IsStage field.now stage.now }
-    ensures { result ≡ wish_in behind.now stage.now meeting.player meeting.rival }
+// A bracket that keeps its pairs, in which two seats stand.
+fn keeps_both(stage: &Stage, player: u16, other: u16) -> bool
+    ensures { result ≡ keeps_both player other stage.now }
 {
-    let player = meeting.player;
-    let Rival::Seat(other) = meeting.rival else {
-        return Wish::LeftOver(number_in(field, stage, player));
-    };
-    if stands_in_one(behind, other) {
-        return Wish::LeftOver(number_in(field, stage, player));
-    }
-    if stands_in_one(behind, player) {
-        return Wish::LeftOver(number_in(field, stage, other));
-    }
-    Wish::Pair(
-        number_in(field, stage, player),
-        number_in(field, stage, other),
-    )
+    let seats = stage.reached().seats();
+    !stage.is_again() && (seats.contains(&player) && seats.contains(&other))
 }
 
-// The first bracket behind which one of the two does not stand, and what is wished in it.
-fn decided_in<'a>(field: &Field, stages: &'a [Stage], meeting: Meeting) -> Option<(&'a Stage, Wish)>
+// The first bracket that keeps its pairs in which two seats stand: there alone they can be paired.
+fn shared_in<'a>(field: &Field, stages: &'a [Stage], player: u16, other: u16) -> Option<&'a Stage>
     requires { AllByRecursion (IsStage field.now) stages.now }
-    ensures decided { MatchOption result (decided_in stages.now meeting.player meeting.rival ≡ None)
-        (λ decided. decided_in stages.now meeting.player meeting.rival ≡ Some (decided.0.now, decided.1)) }
+    ensures shared { option_copied result ≡ shared_in stages.now player other }
+    ensures stage { IfSome result (λ stage. IsStage field.now stage.now) }
+{
+    let [stage, behind @ ..] = stages else {
+        return None;
+    };
+    if keeps_both(stage, player, other) {
+        return Some(stage);
+    }
+    shared_in(field, behind, player, other)
+}
+
+// Who does not stand behind a bracket.
+fn settled_of(behind: &[Stage], meeting: Meeting) -> u16
+    ensures { result ≡ settled_of behind.now meeting.player meeting.rival }
+{
+    match meeting.rival {
+        Rival::Seat(other) if stands_in_one(behind, meeting.player) => other,
+        Rival::Seat(_) | Rival::Bye => meeting.player,
+    }
+}
+
+// The first bracket behind which one of the two does not stand, and that this one is left over in it.
+fn settled_in<'a>(field: &Field, stages: &'a [Stage], meeting: Meeting) -> Option<(&'a Stage, Wish)>
+    requires { AllByRecursion (IsStage field.now) stages.now }
+    ensures decided { MatchOption result (settled_in stages.now meeting.player meeting.rival ≡ None)
+        (λ decided. settled_in stages.now meeting.player meeting.rival ≡ Some (decided.0.now, decided.1)) }
     ensures stage { IfSome result (λ decided. IsStage field.now decided.0.now) }
 {
     let [stage, behind @ ..] = stages else {
         return None;
     };
     if stands_in_one(behind, meeting.player) && goes_on(behind, meeting.rival) {
-        return decided_in(field, behind, meeting);
+        return settled_in(field, behind, meeting);
     }
-    Some((stage, wish_in(field, behind, stage, meeting)))
+    let settled = number_in(field, stage, settled_of(behind, meeting));
+    Some((stage, Wish::LeftOver(settled)))
+}
+
+// The bracket in which it was decided, and what is wished in it: that the two meet where both stand and pairs are kept;
+// where there is no such bracket, that the one who is settled first is left over.
+fn decided_in<'a>(field: &Field, stages: &'a [Stage], meeting: Meeting) -> Option<(&'a Stage, Wish)>
+    requires { AllByRecursion (IsStage field.now) stages.now }
+    ensures decided { MatchOption result (decided_in stages.now meeting.player meeting.rival ≡ None)
+        (λ decided. decided_in stages.now meeting.player meeting.rival ≡ Some (decided.0.now, decided.1)) }
+    ensures stage { IfSome result (λ decided. IsStage field.now decided.0.now) }
+{
+    let Rival::Seat(other) = meeting.rival else {
+        return settled_in(field, stages, meeting);
+    };
+    let Some(stage) = shared_in(field, stages, meeting.player, other) else {
+        return settled_in(field, stages, meeting);
+    };
+    let first = number_in(field, stage, meeting.player);
+    let second = number_in(field, stage, other);
+    Some((stage, Wish::Pair(first, second)))
 }
 
 // What is answered to a wish in a bracket: that what is chosen there grants it, or what a search for a candidate that
@@ -284,7 +316,13 @@ fn by_search<F: Finder>(
 {
     let (stage, wish) = decided;
     let found = best_instead::<F>(alloc, telling.field, stage, wish, asking.steps)?;
-    tell(alloc, telling, asking.asked, (stage, &found))
+    let found = &found;
+    tell(
+        alloc,
+        telling,
+        asking.asked,
+        Searched { stage, wish, found },
+    )
 }
 
 // What is told of what a search in a bracket found.
@@ -292,14 +330,19 @@ fn tell(
     alloc: Global,
     telling: &Telling<'_>,
     asked: Asked,
-    searched: (&Stage, &Instead),
+    searched: Searched<'_>,
 ) -> Result<Reply, AllocError>
     ensures { IfOk result (λ reply. answer_of reply
-        ≡ search_answer telling.now asked.player asked.number searched.entry.0.now searched.entry.1.now) }
+        ≡ search_answer telling.now asked.player asked.number searched.entry.stage.now searched.entry.wish searched.entry.found.now) }
 {
-    match searched.1 {
+    match searched.found {
         Instead::Undecided { used } => {
-            undecided(alloc, telling.wording, searched.0.reached().number(), *used)
+            undecided(
+                alloc,
+                telling.wording,
+                searched.stage.reached().number(),
+                *used,
+            )
         }
         Instead::Best { .. }
         | Instead::NoneEligible
@@ -313,10 +356,10 @@ fn in_bracket(
     alloc: Global,
     telling: &Telling<'_>,
     asked: Asked,
-    searched: (&Stage, &Instead),
+    searched: Searched<'_>,
 ) -> Result<Reply, AllocError>
     ensures { IfOk result (λ reply. answer_of reply
-        ≡ done (in_bracket telling.now asked.player asked.number searched.entry.0.now searched.entry.1.now)) }
+        ≡ done (in_bracket telling.now asked.player asked.number searched.entry.stage.now searched.entry.wish searched.entry.found.now)) }
 {
     let mut text = Page::new(alloc);
     put_searched(&mut text, telling, asked, searched)?;
@@ -328,10 +371,10 @@ fn put_searched(
     text: &mut Page,
     telling: &Telling<'_>,
     asked: Asked,
-    searched: (&Stage, &Instead),
+    searched: Searched<'_>,
 ) -> Result<(), AllocError>
     ensures { OnOk result (text.new ≡ text.old
-        ++ in_bracket telling.now asked.player asked.number searched.entry.0.now searched.entry.1.now) }
+        ++ in_bracket telling.now asked.player asked.number searched.entry.stage.now searched.entry.wish searched.entry.found.now) }
 {
     put_front(text, telling, asked)?;
     put_found(text, telling, searched)?;

@@ -28,7 +28,9 @@ use trf16_report::{Sink, Source};
 ///
 /// The words are read before the source. If they are refused or ask for help, nothing is read.
 ///
-/// A round is paired with the help of a finder; the answers are the same by any.
+/// A round is paired with the help of a finder. By any finder the answers are the same, but that it
+/// decides how many steps a bracket takes, and so what is undecided at a limit, and how much memory
+/// is wanted.
 pub fn run<'a, F: Finder, R: Source, O: Sink, E: Sink>(
     alloc: Global,
     words: &'a [&'a str],

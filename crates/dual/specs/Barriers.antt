@@ -2,7 +2,7 @@
 use Rattle.std.specs.Prelude.{◌≡◌, ℕ, zero, suc, ◌+◌, ◌<◌, ◌≤◌, ◌%◌, ◌==◌, Bool, true, ◌&&◌, not, ◌⊎◌, if◌then◌else◌, List, All, count_by}
 use Rattle.std.specs.List.{list_any}
 
--- of two who may meet one is a blocker, with label 0, or both are of one group
+-- of two who may meet one is a blocker, with label 0, or both are of one group [with IsBarrier]
 abbrev pub Suits : (ℕ → ℕ → Bool) → (ℕ → ℕ) → ℕ → ℕ → Type 0
 Suits meets label u v = meets u v ≡ true → (label u ≡ 0) ⊎ ((label v ≡ 0) ⊎ (label u ≡ label v))
 

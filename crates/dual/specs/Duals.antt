@@ -2,7 +2,7 @@
 use Rattle.std.specs.Prelude.{◌≡◌, ℕ, ◌+◌, ◌-◌, ◌*◌, ◌/◌, ◌≤◌, Bool, true, ◌&&◌, if◌then◌else◌, List, All, length, sum_by, count_by}
 use Rattle.dual.specs.Matchings.{Costs, in_both}
 
--- a set of players, and the price of each pair inside it
+-- a set of players, and the price of each pair inside it [with Certificate]
 pub record Priced : Type 0 where
   pub has : ℕ → Bool
   pub price : ℕ
@@ -27,11 +27,11 @@ bears costs certificate pair = costs.weight pair.0 pair.1 + certificate.given + 
 abbrev pub bears_left : Costs → Certificate → ℕ → ℕ
 bears_left costs certificate v = costs.left_cost v + certificate.given_left
 
--- two players who may meet can bear their potentials, and so can a player who may be left over
+-- two players who may meet can bear their potentials, and so can a player who may be left over [with IsFeasible]
 abbrev pub Bears : Costs → Certificate → ℕ → ℕ → Type 0
 Bears costs certificate u v = costs.meets u v ≡ true → certificate.potential u + certificate.potential v ≤ bears costs certificate (u, v)
 
--- the potential of a player who may be left over is no more than what they bear
+-- the potential of a player who may be left over is no more than what they bear [with IsFeasible]
 abbrev pub BearsLeft : Costs → Certificate → ℕ → Type 0
 BearsLeft costs certificate v = costs.may_be_left v ≡ true → certificate.potential v ≤ bears_left costs certificate v
 

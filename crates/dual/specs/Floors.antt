@@ -27,11 +27,11 @@ IsFloor costs players left floor =
     → (known : List (ℕ × ℕ)) (known_left : List ℕ) → IsPartOf known pairs → IsPartOf known_left out
     → floor.base + (sum_by (extra_in floor) known + sum_by (extra_left_in floor) known_left) ≤ floor.debt + cost costs pairs out
 
--- of two who may meet the table tells the slack, and so it does of one who may be left over
+-- of two who may meet the table tells the slack, and so it does of one who may be left over [with IsFloorOf]
 abbrev pub TellsSlack : Costs → Certificate → FloorTable → ℕ → ℕ → Type 0
 TellsSlack costs certificate floor u v = costs.meets u v ≡ true → extra_in floor (u, v) ≡ slack costs certificate (u, v)
 
--- of one who may be left over the table tells the slack
+-- of one who may be left over the table tells the slack [with IsFloorOf]
 abbrev pub TellsSlackLeft : Costs → Certificate → FloorTable → ℕ → Type 0
 TellsSlackLeft costs certificate floor v = costs.may_be_left v ≡ true → extra_left_in floor v ≡ slack_left costs certificate v
 
@@ -43,11 +43,11 @@ pub record IsFloorOf (costs : Costs) (players : List ℕ) (left : ℕ) (certific
   pub pairs : All (λ u. All (TellsSlack costs certificate floor u) players) players
   pub left_over : All (TellsSlackLeft costs certificate floor) players
 
--- what two who may meet bear is below a bound, and so is what one bears who may be left over
+-- what two who may meet bear is below a bound, and so is what one bears who may be left over [with IsFeasible]
 abbrev pub BearsBelow : Costs → Certificate → ℕ → ℕ → ℕ → Type 0
 BearsBelow costs certificate most u v = costs.meets u v ≡ true → bears costs certificate (u, v) < most
 
--- what one who may be left over bears is below a bound
+-- what one who may be left over bears is below a bound [with IsFeasible]
 abbrev pub BearsLeftBelow : Costs → Certificate → ℕ → ℕ → Type 0
 BearsLeftBelow costs certificate most v = costs.may_be_left v ≡ true → bears_left costs certificate v < most
 

@@ -56,7 +56,7 @@ Covers meets players (pair ∷ pairs) out = record {
   covered : Covers meets (between ++ behind) pairs later;
 }
 
--- nobody is left out, or one player who may be
+-- nobody is left out, or one player who may be [with Completable]
 abbrev pub MayBeLeftOut : (ℕ → Bool) → List ℕ → Type 0
 MayBeLeftOut may_be_left [] = Unit {0}
 MayBeLeftOut may_be_left (a ∷ []) = may_be_left a ≡ true

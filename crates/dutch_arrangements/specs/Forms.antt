@@ -25,16 +25,16 @@ abbrev pub NoneTwice : List ℕ → Type 0
 NoneTwice [] = Unit {0}
 NoneTwice (x ∷ xs) = (IsIn x xs → ⊥) × NoneTwice xs
 
--- the first members of some pairs ascend
+-- the first members of some pairs ascend [with IsInForm]
 abbrev pub FirstsAscend : List (ℕ × ℕ) → Type 0
 FirstsAscend [] = Unit {0}
 FirstsAscend (pair ∷ pairs) = AllByRecursion (λ later. pair.0 < later.0) pairs × FirstsAscend pairs
 
--- the number of a moved-down player
+-- the number of a moved-down player [with IsInForm]
 abbrev pub IsMovedDown : Frame → ℕ → Type 0
 IsMovedDown frame number = (0 < number) × (number ≤ frame.mdps)
 
--- the number of a resident
+-- the number of a resident [with IsInForm]
 abbrev pub IsResident : Frame → ℕ → Type 0
 IsResident frame number = (frame.mdps < number) × (number ≤ length frame.scores)
 
@@ -58,14 +58,14 @@ pub record HasArrangement (frame : Frame) (shape : Shape) (pairs : List (ℕ × 
   pub inside : IsIn lists (arrangements frame shape)
   pub same : pairs_by_number lists ≡ pairs
 
--- some pairs with one more among them
+-- some pairs with one more among them [with TakesPair]
 pub record IsInsertion (pair : ℕ × ℕ) (pairs more : List (ℕ × ℕ)) : Type 0 where
   pub front : List (ℕ × ℕ)
   pub behind : List (ℕ × ℕ)
   pub before : pairs ≡ front ++ behind
   pub after : more ≡ front ++ pair ∷ behind
 
--- a shape with one pair more, and in it as many moved-down players or one more
+-- a shape with one pair more, and in it as many moved-down players or one more [with TakesPair]
 pub record HasOneMore (shape more : Shape) : Type 0 where
   pub pairs : more.pairs ≡ shape.pairs + 1
   pub mdps : (more.mdps ≡ shape.mdps) ⊎ (more.mdps ≡ shape.mdps + 1)

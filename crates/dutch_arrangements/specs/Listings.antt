@@ -9,8 +9,8 @@ use Rattle.dutch_sequence.specs.Steps.{MatchStep, Passes}
 use Rattle.dutch_sequence.specs.declared.steps.Budget.{Budget}
 use Rattle.dutch_sequence.specs.declared.steps.Step.{Step}
 
--- the bracket, the shape and the rule whose candidates are listed; those still to come; the arrangement behind which they stand, if
--- there is one (the candidate handed out last, or before that, the one from which the listing began); and whether the end was told
+-- a listing: the bracket, the shape and the rule whose candidates are listed; those still to come; the arrangement behind which they stand,
+-- if there is one (the candidate handed out last, or before that, the one from which the listing began); and whether the end was told [own]
 pub record Listing (R : Type 0) : Type 0 where
   pub frame : Frame
   pub shape : Shape

@@ -10,8 +10,8 @@ pub record Beginning : Type 0 where
   pub filling : Filling
   pub lists : Arrangement
 
--- an arrangement begins with these lists: before S1 is chosen every one does; while S2 is filled S1 is its own and its S2 goes on;
--- while S2R is filled S1, S2 and S1R are its own and its S2R goes on
+-- an arrangement begins with these lists: before S1 is chosen every one does; while S2 is filled S1 is its own and its S2 goes on; while S2R
+-- is filled S1, S2 and S1R are its own and its S2R goes on [with Beginning]
 abbrev pub BeginsAt : Filling → Arrangement → Arrangement → Type 0
 BeginsAt S1 beginning a = Unit {0}
 BeginsAt S2 beginning a = (beginning.s1 ≡ a.s1) × GoesOn beginning.s2 a.s2

@@ -15,7 +15,7 @@ use Rattle.dutch_bracket.specs.NextBracket.{quality}
 use Rattle.dutch_bracket.specs.Quality.{Quality, is_better}
 use Rattle.dutch_bracket.specs.Choice.{best}
 
--- a choice: a shape, and an arrangement of it
+-- a choice: a shape, and an arrangement of it [with bracket]
 pub record Choice : Type 0 where
   pub shape : Shape
   pub lists : Arrangement

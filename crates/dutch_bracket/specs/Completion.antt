@@ -9,7 +9,7 @@ use Rattle.dutch_bracket.specs.declared.answer.Answer.TheVariants.{Yes, No, Unde
 -- stands earlier in the list (our own choice), the pairs in the order of their first members
 pub use Rattle.dual.specs.Matchings.{Covers, MayBeLeftOut, Completable}
 
--- a way to pair some players: its pairs, and those whom it leaves out
+-- a way to pair some players: its pairs, and those whom it leaves out [with all_pairings]
 pub record Way : Type 0 where
   pub pairs : List (ℕ × ℕ)
   pub out : List ℕ

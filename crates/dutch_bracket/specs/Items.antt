@@ -31,7 +31,7 @@ article UpAgainBy = 17
 article DownAgainBeforeBy = 18
 article UpAgainBeforeBy = 19
 
--- two qualities have one value in an item
+-- two qualities have one value in an item [with first_difference]
 abbrev pub AreSameIn : Item → Quality → Quality → Type 0
 AreSameIn item a b = compared_in item a b ≡ Equal
 

@@ -74,7 +74,7 @@ unfoldable pub quality : Facts → Reached → List ℕ → Candidate → Qualit
 quality facts reached next candidate =
     quality_with facts (by_seats facts reached.seats candidate) (value_in reached.kind facts (map (seat_of reached.seats) candidate.down) next)
 
--- a bracket with a resident, whose residents have one score, as a scoregroup has
+-- a bracket with a resident, whose residents have one score, as a scoregroup has [own]
 pub record IsFlat (facts : Facts) (reached : Reached) : Type 0 where
   pub resident : reached.mdps < length reached.seats
   pub same : (i : ℕ) → reached.mdps < i → i ≤ length reached.seats → score_at facts (seat_of reached.seats i) ≡ score_at facts (seat_of reached.seats (reached.mdps + 1))
@@ -102,6 +102,6 @@ pub record IsNext (facts : Facts) (reached : Reached) (next : List ℕ) : Type 0
 abbrev pub IsNoBetter : NextValue → NextValue → Type 0
 IsNoBetter next other = (next.pairs ≤ other.pairs) × (next.pairs ≡ other.pairs → is_lower next.psd other.psd ≡ false)
 
--- a quality has no better value of the next bracket
+-- a quality has no better value of the next bracket [with IsNoBetter]
 abbrev pub HasNoBetter : Quality → NextValue → Type 0
 HasNoBetter q next = (q.next_pairs ≤ next.pairs) × (q.next_pairs ≡ next.pairs → is_lower q.next_psd next.psd ≡ false)

@@ -40,7 +40,7 @@ value_below facts reached lower pairs alone = record {
 abbrev pub number_pairs : Arrangement → List (ℕ × ℕ)
 number_pairs a = zip a.s1 a.s2 ++ zip a.s1r a.s2r
 
--- a downfloater of an arrangement, or one of the next lower scoregroup
+-- a downfloater of an arrangement, or one of the next lower scoregroup [with JoinsBelow]
 abbrev pub GoesBelow : Facts → Reached → Arrangement → ℕ → Type 0
 GoesBelow facts reached a v = IsIn v (down (frame_of facts reached) a) ⊎ (length reached.seats < v)
 

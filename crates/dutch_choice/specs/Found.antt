@@ -13,7 +13,7 @@ use Rattle.dutch_choice.specs.Wishes.{is_better_here}
 unfoldable pub best_wished : Context → Option Wish → Shape → Option Arrangement
 best_wished context wish shape = best (is_better_here context) (filter (is_wished wish) (eligible_here context shape))
 
--- a candidate that is told has its downfloaters and its quality
+-- a candidate that is told has its downfloaters and its quality [with best_wished]
 abbrev pub HasItsQuality : Context → Best → Type 0
 HasItsQuality context told =
     (told.candidate.down ≡ down (frame_here context) told.candidate.lists) × (quality_in told.quality ≡ quality_here context told.candidate.lists)

@@ -31,13 +31,15 @@ abbrev pub some_grants : Facts → Reached → Wish → Shape → Bool
 some_grants facts reached wish shape = fits (frame_of facts reached) shape && list_any (grants wish) (candidates_of facts reached shape)
 
 -- a legal candidate with as many pairs as a shape, and from a number of moved-down players in them to below another number, grants a wish
+-- [with IsBarred]
 pub record SomeGrants (facts : Facts) (reached : Reached) (wish : Wish) (shape : Shape) (from to : ℕ) : Type 0 where
   pub mdps : ℕ
   pub from_on : from ≤ mdps
   pub below : mdps < to
   pub granted : some_grants facts reached wish (with_mdps shape mdps) ≡ true
 
--- there is none
+-- no legal candidate with as many pairs as a shape, and from a number of moved-down players in them to below another number, grants a wish
+-- [with IsBarred]
 abbrev pub NoneGrants : Facts → Reached → Wish → Shape → ℕ → ℕ → Type 0
 NoneGrants facts reached wish shape from to =
     (mdps : ℕ) → from ≤ mdps → mdps < to → some_grants facts reached wish (with_mdps shape mdps) ≡ false

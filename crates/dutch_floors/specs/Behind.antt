@@ -26,7 +26,7 @@ basis_for shaped outlook =
       outlook = outlook;
     }
 
--- floors are those of a bracket above lower seats, and of a shape
+-- floors are those of a bracket above lower seats, and of a shape [with Basis]
 pub record IsBasis (facts : Facts) (reached : Reached) (lower : List ℕ) (shape : Shape) (basis : Basis) : Type 0 where
   pub facts_are : basis.facts ≡ facts
   pub stand_is : basis.reached ≡ reached
@@ -39,7 +39,7 @@ abbrev pub IsBasisFor : ShapedBracket → Basis → Type 0
 IsBasisFor shaped = IsBasis shaped.context.now.facts shaped.context.now.reached shaped.context.now.lower shaped.shape
 
 module _ (basis : Basis) (b : Beginning) where
-  -- something is said of each candidate with a beginning
+  -- something is said of each candidate with a beginning [with Basis]
   abbrev pub OfEachBehind : (Arrangement → Type 0) → Type 0
   OfEachBehind says = (a : Arrangement) → IsIn a (candidates_of basis.facts basis.reached basis.shape) → Begins b a → says a
 

@@ -13,7 +13,7 @@ use Rattle.dutch_floors.specs.declared.known_pairs.KnownPairs.{KnownPairs}
 use Rattle.dutch_floors.specs.declared.known_pairs.PairSums.{PairSums}
 
 -- what pairs add up to: how many of their players want each colour, and want it firmly, how many miss so, and how many pairs have players
--- with different scores
+-- with different scores [with AreKnown]
 pub record AreSums (facts : Facts) (pairs : List (ℕ × ℕ)) (sums : PairSums) : Type 0 where
   pub white : sums.white ≡ sum_by (in_both (wanting false facts White)) pairs
   pub black : sums.black ≡ sum_by (in_both (wanting false facts Black)) pairs

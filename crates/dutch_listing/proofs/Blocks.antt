@@ -81,11 +81,6 @@ same-lists a b s1 s2 s1r s2r =
     ∙ ap (λ list. arranged b.s1 b.s2 list a.s2r) s1r
     ∙ ap (λ list. arranged b.s1 b.s2 b.s1r list) s2r
 
--- whether there is one, lent or copied
-pub some-lent : {T : Type 0} (own : Option (Bor T)) → is_some (option_copied own) ≡ is_some own
-some-lent None = refl
-some-lent (Some own) = refl
-
 -- once S1 and S2 are chosen, all is idle where each arrangement that begins so is
 pub idle-behind-s2 : (Idle : Arrangement → Type 0) (s1 chosen_s1 s2 : List ℕ) → chosen_s1 ≡ s1 → ((a : Arrangement) → (chosen_s1 ≡ a.s1) × GoesOn s2 a.s2 → Idle a) → (meets : ℕ → ℕ → Bool) (k : ℕ) (residents : List ℕ) → AllByRecursion Idle (in_s2 meets k s1 residents None s2)
 idle-behind-s2 Idle s1 chosen_s1 s2 at_s1 each =

@@ -4,7 +4,7 @@
 // Each level begins anew in place, for the choice that the level above it has made: it copies that choice into lists of
 // its own, so that no block makes a list. Behind a cursor only the first choice of each level can be the cursor's own.
 // In that choice the level below begins behind the cursor too; in all later ones it begins at its first choice.
-ghost use Rattle.std.specs.Prelude.{◌≡◌, ◌+◌, ◌≤◌, ℕ, List, None, [], ◌∷◌, length, option_copied, true};
+ghost use Rattle.std.specs.Prelude.{◌≡◌, ◌+◌, ◌≤◌, ℕ, List, None, [], ◌∷◌, is_some, length, option_copied, true};
 ghost use Rattle.std.specs.List.{AllByRecursion};
 ghost use Rattle.std.specs.List.Sorted.{IsStrictlyIncreasing};
 ghost use Rattle.dutch_arrangements.specs.Arrangements.{Arrangement, arrangements};

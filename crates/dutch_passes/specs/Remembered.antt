@@ -10,8 +10,8 @@ use Rattle.dutch_passes.specs.declared.remembered.Look.{Look}
 use Rattle.dutch_passes.specs.declared.remembered.Look.TheVariants.{Value, Undecided}
 use Rattle.dutch_bracket.specs.Prelude.{Context, seat_of, Reached, IsOf, NextValue, first_group, scoregroups, IsNext, value_in}
 
--- a look-ahead: the bracket that it looks down from, the next lower scoregroup, the lists of downfloaters for which it keeps values, the
--- last used first, and whether memory was refused for one of them
+-- a look-ahead: the bracket that it looks down from, the next lower scoregroup, the lists of downfloaters for which it keeps values, the last
+-- used first, and whether memory was refused for one of them [with LooksBelow]
 pub record Remembered : Type 0 where
   pub facts : Facts
   pub reached : Reached
@@ -51,7 +51,7 @@ abbrev pub IsLook : NextValue → Type 0 → Look → Type 0
 IsLook value stopped (Value pairs psd) = value ≡ record { pairs = pairs; psd = psd.items }
 IsLook value stopped Undecided = stopped
 
--- the value of a list was used: the list is kept, unless memory was refused for a new one
+-- the value of a list was used: the list is kept, unless memory was refused for a new one [with IsLook]
 abbrev pub IsUsed : List ℕ → Remembered → Remembered → Type 0
 IsUsed down old new = (new ≡ after_use down old) ⊎ ((is_kept down old.kept ≡ false) × (new ≡ after_refusal old))
 
@@ -67,7 +67,7 @@ abbrev pub IsKeptAfter : List ℕ → Remembered → Remembered → Look → Typ
 IsKeptAfter down old new (Value pairs psd) = IsUsed down old new
 IsKeptAfter down old new Undecided = new ≡ old
 
--- a look-ahead of an ordinary bracket above lower seats: it looks to their first scoregroup
+-- a look-ahead of an ordinary bracket above lower seats: it looks to their first scoregroup [with LooksBelow]
 pub record LooksFrom (context : Context) (look : Remembered) : Type 0 where
   pub ordinary : context.reached.kind ≡ Ordinary
   pub field : look.facts ≡ context.facts

@@ -256,34 +256,31 @@ fn best_within<G: Guide>(
     }
 }
 
-/// Keeps what the passes end with by weights that are found now. A no says that the steps for it do not suffice. Where
-/// C.7 counts and they do not tell of the next bracket, these are four times the few steps, else all that are left.
-/// (Apart from its caller, as most brackets do not come to it.)
+/// Keeps what the passes end with by weights that are found now. Where C.7 counts, the first weights do not tell of the
+/// next bracket, and four times the few steps are made with them; if these do not suffice, weights that tell of it are
+/// found, and all steps that are left are made with them. (Apart from its caller, as most brackets do not come to it.)
 #[inline(never)]
 fn best_by_weight<G: Guide>(
     pass: &mut Pass<'_>,
     search: &mut PassRoom<'_, '_, '_, '_, G>,
-    next: bool,
+    few: u64,
     budget: &mut Budget,
-) -> Result<bool, Stopped>
+) -> Result<(), Stopped>
     requires lister { IsLentFor pass.old search.old.start search.old.lister.now }
     requires look { LooksFor pass.old search.old.judge.look }
     requires guide { G.knows search.old.judge.guide pass.old.shaped.context.now pass.old.shaped.shape pass.old.wish }
-    ensures answer { MatchResult result (λ ended. ended ≡ true → IsEnd pass.old search.new.judge.kept)
+    ensures answer { MatchResult result (λ _. IsEnd pass.old search.new.judge.kept)
         (λ _. budget.new.used ≡ budget.new.limit) }
-    ensures lister { IsLentFor pass.old search.new.start search.new.lister.now }
-    ensures look { LooksFor pass.old search.new.judge.look }
-    ensures guide { G.knows search.new.judge.guide pass.old.shaped.context.now pass.old.shaped.shape pass.old.wish }
-    ensures pass { SeeksTheSame pass.old pass.new }
     ensures spends { Spends budget.old budget.new }
 {
-    pass.aim = search.judge.guide.weigh(pass.wish, next, budget)?;
-    let steps = if tells_next(pass, &search.judge.guide) && !next {
-        few_steps(pass.shaped.context.len()).saturating_mul(4)
-    } else {
-        budget.limit - budget.used
-    };
-    best_within(pass, search, steps, budget)
+    pass.aim = search.judge.guide.weigh(pass.wish, false, budget)?;
+    if tells_next(pass, &search.judge.guide) {
+        if best_within(pass, search, few.saturating_mul(4), budget)? {
+            return Ok(());
+        }
+        pass.aim = search.judge.guide.weigh(pass.wish, true, budget)?;
+    }
+    best_in_passes(pass, search, budget)
 }
 
 /// Keeps what the passes end with: first in few steps, since most brackets want no more; then with floors by weight;
@@ -305,12 +302,5 @@ pub fn best_in_time<G: Guide>(
     if best_within(pass, search, few, budget)? {
         return Ok(());
     }
-    if best_by_weight(pass, search, false, budget)? {
-        return Ok(());
-    }
-    if best_by_weight(pass, search, true, budget)? {
-        return Ok(());
-    }
-    budget.used = budget.limit;
-    Err(Stopped)
+    best_by_weight(pass, search, few, budget)
 }

@@ -32,7 +32,7 @@ opponent_played _ = None
 abbrev pub opponents : List Cell → List ℕ
 opponents cells = filter_map opponent_played cells
 
--- a pairing-allocated bye, a forfeit win, or a requested bye of a full point, which is our own choice
+-- a cell that bars the bye: a pairing-allocated bye, a forfeit win, or a requested bye of a full point, which is our own choice [with may_bye]
 abbrev pub bars_bye : Cell → Bool
 bars_bye (Bye Full) = true
 bars_bye (Bye Allocated) = true

@@ -11,7 +11,7 @@ use Rattle.dutch_player.specs.Facts.{Facts, seat_at, total_of}
 use Rattle.dutch_player.specs.Meetings.{may_meet}
 use Rattle.dutch_player.specs.Colours.{with_colour, colours, colour_rule}
 
--- the first of two gets a colour against the second
+-- the first of two gets a colour against the second [with TellsRule]
 abbrev pub Gets : Facts → ℕ → ℕ → Colour → Type 0
 Gets facts a b colour = colours facts a b ≡ with_colour a b colour
 

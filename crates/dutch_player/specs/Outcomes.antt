@@ -4,7 +4,7 @@ use Rattle.std.specs.Result.{is_ok}
 use Rattle.dutch_player.specs.declared.fault.FieldFault.{FieldFault}
 use Rattle.dutch_player.specs.declared.fault.FieldFault.TheVariants.{OutOfMemory}
 
--- the fault that a call answers is the one that the definition gives; want of memory comes last, so the definition gives none
+-- the fault that a call answers is the one that the definition gives; want of memory comes last, so the definition gives none [with Gives]
 abbrev pub Fails : {Y : Type 0} → FieldFault → Result Y FieldFault → Type 0
 Fails OutOfMemory given = is_ok given ≡ true
 Fails fault given = given ≡ Err fault

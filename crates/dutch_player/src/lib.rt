@@ -34,5 +34,5 @@ pub use colour_rule::ColourRule;
 pub use fault::FieldFault;
 pub use field::Field;
 pub use float::Float;
-pub use history::{colour_played, opponent_played};
+pub use history::{bars_bye, colour_played, opponent_played};
 pub use preference::{Pref, Strength};

@@ -32,7 +32,7 @@ visit_of (suc place) visits = visit_at place visits
 abbrev pub shown : Option Visit → Option (Reached × Shape)
 shown found = option_map (λ visit. (visit.bracket, visit.shape)) found
 
--- a call was stopped at its limit, in one of the brackets reached or in the one behind them
+-- a call was stopped at its limit, in one of the brackets reached or in the one behind them [own]
 abbrev pub IsStoppedIn : Facts → ℕ → ℕ → ℕ → Type 0
 IsStoppedIn facts limit bracket used = (used ≡ limit) × (1 ≤ bracket) × (bracket ≤ length (round facts).reached + 1)
 

@@ -21,7 +21,7 @@ use dutch_bracket::shaped::ShapedBracket;
 use dutch_candidates::greatest::has_room;
 use dutch_candidates::narrowed::NarrowedRule;
 use dutch_candidates::wish::Wish;
-use dutch_choice::barred::rules_out;
+use dutch_choice::barred::{rules_out, rules_out_with};
 use dutch_choice::finder::{Finder, best_by};
 use dutch_listing::{Bound, Candidates};
 use dutch_player::Field;
@@ -85,13 +85,14 @@ impl<'a> Bound for Wished<'a> {
         rules_out(&self.shaped, self.wish, prefix)
     }
 
+    #[tactic(auto, using(dutch_choice::proofs::Listings::narrowed_inside), unfolding(dutch_bracket::specs::Brackets::candidates_of))]
     fn cannot_win_with(
         &self,
         _prefix: &Prefix<'_>,
-        _exchange: &Exchange<'_>,
+        exchange: &Exchange<'_>,
         _room: &mut (),
     ) -> bool {
-        false
+        rules_out_with(&self.shaped, self.wish, exchange)
     }
 }
 

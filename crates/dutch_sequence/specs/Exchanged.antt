@@ -6,8 +6,8 @@ use Rattle.dutch_sequence.specs.Choices.{is_member, subsets}
 use Rattle.dutch_sequence.specs.Exchange.{sum_of}
 use Rattle.dutch_sequence.specs.Keys.{IsIn}
 
--- a class: the original S1R and the others of the remainder, both ascending; how many of the others are in S1R; by how much the sum of
--- S1R is greater than that of the original one; some who are in S1R, and some who are not
+-- a class: the original S1R and the others of the remainder, both ascending; how many of the others are in S1R; by how much the sum of S1R is
+-- greater than that of the original one; some who are in S1R, and some who are not [with IsExchange]
 pub record ExchangeClass : Type 0 where
   pub original : List ℕ
   pub others : List ℕ

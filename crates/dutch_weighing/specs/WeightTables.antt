@@ -20,7 +20,7 @@ IsWritten (Some number) k = number ≡ k
 abbrev pub PutsBehind : Option ℕ → List (ℕ × ℕ) → Option ℕ → Type 0
 PutsBehind front digits number = (k : ℕ) → IsWritten front k → IsWritten number (written k digits)
 
--- a number of a bracket
+-- a number of a bracket [with IsHeavy]
 abbrev pub IsNumber : Reached → ℕ → Type 0
 IsNumber reached a = (0 < a) × (a ≤ length reached.seats)
 

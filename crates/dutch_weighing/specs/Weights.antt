@@ -14,14 +14,14 @@ use Rattle.dutch_player.specs.Prelude.{Facts}
 use Rattle.dutch_bracket.specs.declared.reached.BracketKind.TheVariants.{Ordinary}
 use Rattle.dutch_bracket.specs.Prelude.{Context, seated_so, no_value, Quality, float_of, highest_first, is_float, quality_with, IsAbove, Reached, ends_round, numbers_meet, number_may_be_left, first_group, scoregroups, seat_of, HasNoBetter, NextValue, next_in}
 
--- C.7: how many players the next bracket has below each candidate of a shape, which of its differences have a digit of their own, and the base
--- of its digits
+-- how C.7 is measured: how many players the next bracket has below each candidate of a shape, which of its differences have a digit of their
+-- own, and the base of its digits [with Scale]
 pub record NextScale : Type 0 where
   pub players : ℕ
   pub psd : List ℕ
   pub base : ℕ
 
--- the bases of the digits of C.16, C.17, C.18 and C.19
+-- the bases of the digits of C.16, C.17, C.18 and C.19 [with Scale]
 pub record FloatBases : Type 0 where
   pub down_again : ℕ
   pub up_again : ℕ
@@ -144,7 +144,7 @@ weighing facts reached scale = record {
   left_cost = weight_of_one_down facts reached scale;
 }
 
--- a bracket of a field above lower seats, and the scale on which its pairs and its downfloaters are weighed
+-- a bracket of a field above lower seats, and the scale on which its pairs and its downfloaters are weighed [own]
 pub record Weighing : Type 0 where
   pub facts : Facts
   pub reached : Reached
@@ -155,7 +155,7 @@ pub record Weighing : Type 0 where
 abbrev pub numbers : Reached → List ℕ
 numbers reached = numbers_from 1 (length reached.seats)
 
--- a list stands the highest first, and has these differences alone
+-- a list stands the highest first, and has these differences alone [with IsScale]
 abbrev pub IsAmong : List ℕ → List ℕ → Type 0
 IsAmong differences list = (highest_first list ≡ list) × AllByRecursion (λ by. IsIn by differences) list
 
@@ -166,11 +166,12 @@ pub record IsScale (scale : Scale) : Type 0 where
   pub floats : highest_first scale.floats ≡ scale.floats
   pub some : 0 < scale.unit
 
--- C.7: no more pairs than the next bracket has players for
+-- where C.7 is measured, a quality has no more pairs there than the next bracket has players for [with IsScale]
 abbrev pub IsWithin : Option NextScale → Quality → Type 0
 IsWithin next quality = ForSome next (λ n. 2 * quality.next_pairs ≤ n.players)
 
--- it has a digit for each difference of the next bracket of a quality too, which has no more pairs there than players for them
+-- a scale of C.7 has a digit for each difference of the next bracket of a quality, which has no more pairs there than players for them [with
+-- IsScale]
 pub record IsOnNext (next : NextScale) (quality : Quality) : Type 0 where
   pub psd : IsAmong next.psd quality.next_psd
   pub within : 2 * quality.next_pairs ≤ next.players
@@ -204,14 +205,15 @@ pub record HasDigits (scale : Scale) (quality : Quality) : Type 0 where
 abbrev pub count_had : Facts → Float → ℕ → List ℕ → ℕ
 count_had facts float back seats = count_by (λ seat. is_float float (float_of facts back seat)) seats
 
--- the bases of C.16 to C.19 are above the numbers of players who can be counted there
+-- the bases of C.16 to C.19 are above the numbers of players who can be counted there [with IsScale]
 pub record HasFloatBases (facts : Facts) (seats : List ℕ) (bases : FloatBases) : Type 0 where
   pub down_again : count_had facts Down 1 seats < bases.down_again
   pub up_again : count_had facts Up 1 seats < bases.up_again
   pub down_again_before : count_had facts Down 2 seats < bases.down_again_before
   pub up_again_before : count_had facts Up 2 seats < bases.up_again_before
 
--- C.7: the next bracket has so many players below each candidate of a shape of an ordinary bracket above lower seats, and its base is above that
+-- where C.7 is measured, the next bracket has so many players below each candidate of a shape of an ordinary bracket above lower seats, and
+-- its base is above that [with IsScale]
 pub record IsNextScale (facts : Facts) (reached : Reached) (lower : List ℕ) (shape : Shape) (next : NextScale) : Type 0 where
   pub above : IsAbove facts reached lower
   pub ordinary : reached.kind ≡ Ordinary

@@ -14,7 +14,7 @@ pub record Scope : Type 0 where
   pub s1 : List ℕ
   pub s1r : List ℕ
 
--- the same, by the list that is being filled in the scope
+-- a scope covers a beginning, by the list that is being filled in the scope [with Scope]
 abbrev pub CoversBy : Filling → Scope → Beginning → Type 0
 CoversBy S1 scope b = Unit {0}
 CoversBy S2 scope b = (has_s1 b.filling ≡ true) × (b.lists.s1 ≡ scope.s1)

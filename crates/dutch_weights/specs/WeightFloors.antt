@@ -16,7 +16,7 @@ use Rattle.dutch_weighing.specs.Prelude.{HasNoBetterOn, IsOn, IsScale, IsScaleFo
 use Rattle.dutch_weights.specs.Orders.{Order, added}
 use Rattle.dutch_weights.specs.declared.weight_floor.Bar.{Bar}
 
--- a bracket of a field above lower seats, a shape of its arrangements, what is wished of them, and a scale
+-- a bracket of a field above lower seats, a shape of its arrangements, what is wished of them, and a scale [with AreOf]
 pub record Weighed : Type 0 where
   pub facts : Facts
   pub reached : Reached
@@ -65,7 +65,7 @@ weighing_of weighed = record { facts = weighed.facts; reached = weighed.reached;
 abbrev pub weight_in : Weighed → Arrangement → ℕ
 weight_in w a = weight_of w.scale (quality_of w.facts w.reached w.lower a)
 
--- an arrangement is a candidate of a bracket's shape that can be chosen, and grants what is wished
+-- an arrangement is a candidate of a bracket's shape that can be chosen, and grants what is wished [with IsLeast]
 pub record IsChoosable (w : Weighed) (a : Arrangement) : Type 0 where
   pub of : IsOf w.facts w.reached
   pub fits : Fits (frame_of w.facts w.reached) w.shape
@@ -88,7 +88,7 @@ IsWeightFloor w kept =
 abbrev pub IsMostAdded : Order → Beginning → ℕ → Type 0
 IsMostAdded order b most = (a : Arrangement) → Begins b a → added_in order a ≤ most
 
--- the scale is one for candidates of the shape
+-- the scale of floors by weight is one for the candidates of their shape [with IsLeast]
 abbrev pub IsScaled : Weighed → Type 0
 IsScaled w = IsScaleFor w.facts w.reached w.lower w.shape w.scale
 

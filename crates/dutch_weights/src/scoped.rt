@@ -302,7 +302,7 @@ impl<'a, 'b> Scoped<'a, 'b> {
     fn may_have_bye(&self, number: u16) -> bool
         ensures { result ≡ (lower_costs self.now).may_be_left number }
     {
-        self.goes_down(number) && self.by_seat().last_ok(self.seat(number))
+        self.goes_down(number) && self.by_seat().may_be_left(self.seat(number))
     }
 
     /// What one who goes down weighs; a lower player weighs nothing.

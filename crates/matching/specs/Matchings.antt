@@ -2,7 +2,7 @@
 use Rattle.std.specs.Prelude.{◌≡◌, ◌≢◌, ◌≤◌, ◌+◌, ◌*◌, ℕ, Bool, true, List, length, All, Option, Some}
 use Rattle.std.specs.List.{slice_get}
 
--- a list gives the vertex a the partner b
+-- a list gives the vertex a the partner b [with IsMatching]
 abbrev pub Gives : List (Option ℕ) → ℕ → ℕ → Type 0
 Gives partners a b = slice_get partners a ≡ Some (Some b)
 

@@ -8,3 +8,4 @@ pub mod MatchingShapes
 pub mod CandidateShapes
 pub mod GreatestMatchings
 pub mod BestGranting
+pub mod SharedBrackets

@@ -1,6 +1,7 @@
 // Laws of a round and its boards (C.04.3 A.9, B.8): who stands on a board and in a bracket, in which order boards stand,
-// why no bracket is a dead end, and when a round is paired.
+// where two can meet, why no bracket is a dead end, and when a round is paired.
 ghost use Rattle.std.specs.Prelude.{◌≡◌, ◌++◌, ◌<◌, ◌≤◌, ◌↔◌, ℕ, List, None, Some, false, true, is_some, length};
+ghost use Rattle.std.specs.List.{find};
 ghost use Rattle.dutch_arrangements.specs.Prelude.{IsIn};
 ghost use Rattle.dutch_player.specs.Prelude.{Facts, CountFromOne};
 ghost use Rattle.dutch_bracket.specs.Prelude.{completable, downfloaters, seats_meet, seats_may_be_left};
@@ -9,6 +10,7 @@ ghost use Rattle.dutch_bracket.specs.declared.reached.BracketKind.TheVariants.{C
 ghost use Rattle.dutch_rounds.specs.Prelude.{Pairing, Visit, round, everybody, lower_of, AreInOrder, boards, ordered, Barrier};
 ghost use Rattle.dutch_rounds.specs.Prelude.{NameEverybodyOnce, is_reached, HasNoPairOf, NoTwoMayMeet, PairOut, moved_down};
 ghost use Rattle.dutch_rounds.specs.Prelude.{Blocks};
+ghost use Rattle.pairing_laws.specs.SharedBrackets.{ArePaired, pairs_in, shares};
 
 use dutch_player::Field;
 use dutch_player::laws::scores_do_not_ascend;
@@ -44,6 +46,15 @@ pub fn boards_stand_in_order()
 pub fn no_two_moved_down_may_meet()
     ensures { (facts : Facts) (visit : Visit) → IsIn visit (round facts).reached → ¬ (visit.bracket.kind ≡ Collapsed)
         → NoTwoMayMeet facts (moved_down visit.bracket) }
+{}
+
+/// Two players who stand in one bracket that keeps its pairs are paired in the first such bracket, or in none: if it
+/// leaves both over, they are moved down together, and meet in no bracket behind it (A.9, B.2, C.5).
+#[tactic(auto, using(crate::proofs::SharedBrackets::there_or_nowhere))]
+pub fn two_who_share_a_bracket_meet_there_or_nowhere()
+    ensures { (facts : Facts) (pairing : Pairing) (one other : ℕ) (visit : Visit)
+        → (round facts).pairing ≡ Some pairing → find (shares one other) (round facts).reached ≡ Some visit
+        → ArePaired one other pairing.pairs → ArePaired one other (pairs_in visit) }
 {}
 
 /// No list of pairs that pairs out the players whom a penultimate bracket leaves over, with all players below it, has a

@@ -4,7 +4,7 @@ use Rattle.std.specs.Fmt.{decimal}
 use Rattle.std.specs.List.{find}
 use Rattle.std.specs.Option.{option_map_or}
 use Rattle.dutch_arrangements.specs.Prelude.{numbers_from}
-use Rattle.dutch_player.specs.Prelude.{Facts, seat_at, opponent_played, colours_allow}
+use Rattle.dutch_player.specs.Prelude.{Facts, seat_at, bars_bye, opponent_played, colours_allow}
 use Rattle.trf16_report.specs.Prelude.{apart, Sheet, cell_in, rounds_played}
 use Rattle.round_lines.specs.Tellings.{TellingFacts, in_wording, player_words}
 use Rattle.player_lines.specs.declared.obstacle.Obstacle.{Obstacle}
@@ -37,9 +37,23 @@ abbrev pub is_even : List ℕ → Option Obstacle
 is_even [] = Some Even
 is_even (seat ∷ seats) = None
 
--- what stands first against the bye of a seat: its player may not have it, or nobody has it [C.2; own]
-abbrev pub against_bye : Facts → List ℕ → ℕ → Option Obstacle
-against_bye facts bye seat = if (seat_at facts seat).may_bye then is_even bye else Some HadBye
+-- C.2: in a round a player had the bye, or a point without a game
+abbrev pub has_had_bye : Sheet → ℕ → ℕ → Bool
+has_had_bye sheet start round = bars_bye (cell_in sheet start round)
+
+-- C.2: the first such round, from 1 on
+abbrev pub first_bye : Sheet → ℕ → Option ℕ
+first_bye sheet start = find (has_had_bye sheet start) (numbers_from 1 (rounds_played sheet))
+
+-- C.2: a player may not have the bye, since that round; 0 where there is none
+abbrev pub since : Option ℕ → Obstacle
+since (Some round) = HadBye round
+since None = HadBye 0
+
+-- what stands first against the bye of a seat: its player may not have it, since they had it, or a point without a game, in a round, of
+-- which the first is told; or nobody has it [C.2; own]
+abbrev pub against_bye : Sheet → Facts → List ℕ → ℕ → Option Obstacle
+against_bye sheet facts bye seat = if (seat_at facts seat).may_bye then is_even bye else Some (since (first_bye sheet (seat_at facts seat).start))
 
 -- an obstacle as it is told
 abbrev pub obstacle_line : Obstacle → List ℕ
@@ -47,7 +61,7 @@ obstacle_line Absent = codes "absent"
 obstacle_line (Met round) = codes "met round " ++ (decimal round ++ codes " C.1")
 obstacle_line Apart = codes "apart XXP"
 obstacle_line Colours = codes "colours C.3"
-obstacle_line HadBye = codes "bye C.2"
+obstacle_line (HadBye round) = codes "bye C.2"
 obstacle_line Even = codes "even"
 
 -- who is absent where a player asks for a number: one of the two, or, where the bye is asked for by 0, the player
@@ -60,7 +74,8 @@ obstacle_words sheet player number Absent = absent_words sheet player number
 obstacle_words sheet player number (Met round) = codes "They met in round " ++ (decimal round ++ codes " (C.1).")
 obstacle_words sheet player number Apart = codes "An XXP line keeps them apart."
 obstacle_words sheet player number Colours = codes "Both have to get the same colour (C.3)."
-obstacle_words sheet player number HadBye = player_words sheet player ++ codes " has had the bye, or a point without a game (C.2)."
+obstacle_words sheet player number (HadBye round) =
+    player_words sheet player ++ (codes " has had the bye, or a point without a game, in round " ++ (decimal round ++ codes " (C.2)."))
 obstacle_words sheet player number Even = codes "The number of players present is even."
 
 -- an obstacle as it is told, in codes, or in a sentence to a player who asks for a number [own]

@@ -7,10 +7,8 @@ use Rattle.trf16_report.specs.declared.cell.Colour.{Colour}
 use Rattle.trf16_report.specs.declared.cell.Colour.TheVariants.{White, Black}
 use Rattle.dutch_player.specs.declared.float.Float.{Float}
 use Rattle.dutch_player.specs.declared.float.Float.TheVariants.{Up, Down}
-use Rattle.dutch_player.specs.declared.preference.Strength.{Strength}
-use Rattle.dutch_player.specs.declared.preference.Strength.TheVariants.{Absolute, Strong, Mild}
-use Rattle.dutch_player.specs.declared.preference.Pref.{Pref}
 use Rattle.dutch_player.specs.Prelude.{SeatFacts, Facts, seat_at, colour_played, is_topscorer, difference, preference}
+use Rattle.round_lines.specs.PreferenceTexts.{colour_text, preference_text, preference_words}
 use Rattle.round_lines.specs.Tellings.{TellingFacts, in_wording, player_words, players_words}
 use Rattle.common_texts.specs.Prelude.{halves_text}
 
@@ -42,22 +40,6 @@ colours_text sheet start rounds = if rounds == 0 then codes " -" else games_text
 -- A.6: a colour difference, with its sign where it is not 0
 abbrev pub difference_text : ℤ → List ℕ
 difference_text games = if int_lt (pos 0) games then codes "+" ++ signed_decimal games else signed_decimal games
-
--- A.6: how strong a preference is
-abbrev pub strength_text : Strength → List ℕ
-strength_text Absolute = codes "absolute"
-strength_text Strong = codes "strong"
-strength_text Mild = codes "mild"
-
--- a colour
-abbrev pub colour_text : Colour → List ℕ
-colour_text White = codes "white"
-colour_text Black = codes "black"
-
--- A.6: a preference
-abbrev pub preference_text : Option Pref → List ℕ
-preference_text (Some wish) = strength_text wish.strength ++ (codes " " ++ colour_text wish.colour)
-preference_text None = codes "none"
 
 -- A.4: the float of a round
 abbrev pub float_text : Option Float → List ℕ
@@ -129,11 +111,6 @@ games_words sheet start (suc rounds) = games_words sheet start rounds ++ game_be
 -- the same, where a round was paired
 abbrev pub colours_words : Sheet → ℕ → ℕ → List ℕ
 colours_words sheet start rounds = if rounds == 0 then codes "none" else games_words sheet start rounds
-
--- A.6: a preference
-abbrev pub preference_words : Option Pref → List ℕ
-preference_words (Some wish) = colour_text wish.colour ++ (codes ", " ++ strength_text wish.strength)
-preference_words None = codes "none"
 
 -- A.6: a player's colours in a report, and what they come to
 unfoldable pub wish_words : Sheet → SeatFacts → List ℕ

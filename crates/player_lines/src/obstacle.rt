@@ -1,14 +1,14 @@
 // What stands against a meeting in the next round, or against the bye, whatever is chosen in a bracket (C.04.3 C.1 to
 // C.3).
 ghost use Rattle.std.specs.Prelude.{◌≡◌, ◌<◌, ◌++◌, OnOk, Some};
-ghost use Rattle.player_lines.specs.Obstacles.{against_bye, against_meeting, first_meeting, has_played};
+ghost use Rattle.player_lines.specs.Obstacles.{against_bye, against_meeting, first_bye, first_meeting, has_had_bye, has_played, since};
 ghost use Rattle.player_lines.specs.Obstacles.{obstacle_text, obstacle_words};
 
-use dutch_player::{Field, opponent_played};
+use dutch_player::{Field, bars_bye, opponent_played};
 use requests::Wording;
 use round_lines::Asked;
 use round_lines::page::Page;
-use round_lines::pieces::Piece::{Player, Text};
+use round_lines::pieces::Piece::{Number, Player, Text};
 use round_lines::pieces::put;
 use round_lines::telling::Telling;
 use std::alloc::AllocError;
@@ -26,8 +26,8 @@ pub enum Obstacle {
     Apart,
     /// Both have absolute preferences for one colour, and neither is a topscorer (C.3).
     Colours,
-    /// The player may not have the bye (C.2).
-    HadBye,
+    /// The player may not have the bye (C.2): they had it, or a point without a game, in this round for the first time.
+    HadBye { round: u8 },
     /// Nobody has the bye.
     Even,
 }
@@ -43,7 +43,7 @@ impl fmt::Display for Obstacle {
             Obstacle::Met { round } => write!(f, "met round {round} C.1"),
             Obstacle::Apart => f.write_str("apart XXP"),
             Obstacle::Colours => f.write_str("colours C.3"),
-            Obstacle::HadBye => f.write_str("bye C.2"),
+            Obstacle::HadBye { .. } => f.write_str("bye C.2"),
             Obstacle::Even => f.write_str("even"),
         }
     }
@@ -91,12 +91,41 @@ pub fn against_meeting(report: &Report<'_>, field: &Field, one: u16, other: u16)
     }
 }
 
+fn has_had_bye(report: &Report<'_>, start: u16, round: u8) -> bool
+    requires { 0 < round }
+    ensures { result ≡ has_had_bye report.now start round }
+{
+    bars_bye(&report.cell(start, round))
+}
+
+// The first round in which a player had the bye, or a point without a game.
+#[tactic(auto, using(crate::proofs::ObstacleLemmas::passed, crate::proofs::ObstacleLemmas::found, crate::proofs::ObstacleLemmas::none))]
+fn first_bye(report: &Report<'_>, start: u16) -> Option<u8>
+    ensures { result ≡ first_bye report.now start }
+{
+    let rounds = report.rounds_played();
+    for round in 0..rounds {
+        if has_had_bye(report, start, round + 1) {
+            return Some(round + 1);
+        }
+    }
+    None
+}
+
+// That a player may not have the bye, since a round.
+fn since(round: Option<u8>) -> Obstacle
+    ensures { result ≡ since round }
+{
+    let round = round.unwrap_or(0);
+    Obstacle::HadBye { round }
+}
+
 /// What stands first against the bye of a seat, if these have it: C.2, or that nobody has it.
-pub fn against_bye(field: &Field, bye: &[u16], seat: u16) -> Option<Obstacle>
-    ensures { result ≡ against_bye field.now bye.now seat }
+pub fn against_bye(report: &Report<'_>, field: &Field, bye: &[u16], seat: u16) -> Option<Obstacle>
+    ensures { result ≡ against_bye report.now field.now bye.now seat }
 {
     if !field.may_bye(seat) {
-        return Some(Obstacle::HadBye);
+        return Some(since(first_bye(report, field.start_rank(seat))));
     }
     if bye.is_empty() {
         return Some(Obstacle::Even);
@@ -144,9 +173,10 @@ fn put_obstacle_words(
         Obstacle::Met { round } => write!(text, "They met in round {round} (C.1)."),
         Obstacle::Apart => text.push_str("An XXP line keeps them apart."),
         Obstacle::Colours => text.push_str("Both have to get the same colour (C.3)."),
-        Obstacle::HadBye => {
-            let why = Text(" has had the bye, or a point without a game (C.2).");
-            put(text, telling, &[player, why])
+        Obstacle::HadBye { round } => {
+            let why = Text(" has had the bye, or a point without a game, in round ");
+            let round = Number(u16::from(round));
+            put(text, telling, &[player, why, round, Text(" (C.2).")])
         }
         Obstacle::Even => text.push_str("The number of players present is even."),
     }

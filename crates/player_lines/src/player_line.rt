@@ -4,16 +4,17 @@ ghost use Rattle.std.specs.List.{flat_map};
 ghost use Rattle.std.specs.Fmt.{decimal};
 ghost use Rattle.dutch_player.specs.Prelude.{seat_at};
 ghost use Rattle.trf16_report.specs.Prelude.{rounds_played};
-ghost use Rattle.player_lines.specs.PlayerTexts.{absent_text, ascending, colour_text, colours_text, difference_text};
+ghost use Rattle.player_lines.specs.PlayerTexts.{absent_text, ascending, colours_text, difference_text};
 ghost use Rattle.player_lines.specs.PlayerTexts.{float_text, floats_text, game_text, games_text, history_text};
-ghost use Rattle.player_lines.specs.PlayerTexts.{met_text, placed, player_line, player_text, preference_text};
-ghost use Rattle.player_lines.specs.PlayerTexts.{preference_words, rights_text, score_text, wish_text, yes_text};
+ghost use Rattle.player_lines.specs.PlayerTexts.{met_text, placed, player_line, player_text};
+ghost use Rattle.player_lines.specs.PlayerTexts.{rights_text, score_text, wish_text, yes_text};
 
 use crate::player_sentences::put_player_sentences;
 use common_texts::HalfPoints;
-use dutch_player::{Field, Float, Pref, Strength, colour_played};
+use dutch_player::{Field, Float, colour_played};
 use requests::Wording;
 use round_lines::page::Page;
+use round_lines::preference_texts::preference;
 use round_lines::telling::{Telling, put_one};
 use std::alloc::{AllocError, Global};
 use trf16_report::{Colour, Report};
@@ -134,33 +135,6 @@ fn put_difference(text: &mut Page, games: i16) -> Result<(), AllocError>
         write!(text, "+{games}")
     } else {
         write!(text, "{games}")
-    }
-}
-
-pub(crate) fn colour(colour: Colour) -> &'static str
-    ensures { result.now ≡ colour_text colour }
-{
-    match colour {
-        Colour::White => "white",
-        Colour::Black => "black",
-    }
-}
-
-// A preference, as it stands in a line and in a sentence.
-pub(crate) fn preference(preference: Option<Pref>) -> (&'static str, &'static str)
-    ensures line { result.0.now ≡ preference_text preference }
-    ensures words { result.1.now ≡ preference_words preference }
-{
-    let Some(wish) = preference else {
-        return ("none", "none");
-    };
-    match (wish.colour, wish.strength) {
-        (Colour::White, Strength::Absolute) => ("absolute white", "white, absolute"),
-        (Colour::White, Strength::Strong) => ("strong white", "white, strong"),
-        (Colour::White, Strength::Mild) => ("mild white", "white, mild"),
-        (Colour::Black, Strength::Absolute) => ("absolute black", "black, absolute"),
-        (Colour::Black, Strength::Strong) => ("strong black", "black, strong"),
-        (Colour::Black, Strength::Mild) => ("mild black", "black, mild"),
     }
 }
 

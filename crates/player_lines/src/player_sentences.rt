@@ -3,14 +3,16 @@ ghost use Rattle.std.specs.Prelude.{◌≡◌, ◌++◌, OnOk, codes};
 ghost use Rattle.dutch_player.specs.Prelude.{seat_at};
 ghost use Rattle.trf16_report.specs.Prelude.{rounds_played};
 ghost use Rattle.player_lines.specs.PlayerTexts.{colours_words, floats_words, game_behind};
-ghost use Rattle.player_lines.specs.PlayerTexts.{game_words, games_words, met_words, player_sentences, preference_words};
+ghost use Rattle.player_lines.specs.PlayerTexts.{game_words, games_words, met_words, player_sentences};
+ghost use Rattle.round_lines.specs.PreferenceTexts.{preference_words};
 ghost use Rattle.player_lines.specs.PlayerTexts.{rights_words, score_words, wish_words};
 
-use crate::player_line::{ascending, colour, float, preference, yes};
+use crate::player_line::{ascending, float, yes};
 use dutch_player::{Field, Pref, colour_played};
 use round_lines::page::Page;
 use round_lines::pieces::Piece::{Player, Players, Points, Text};
 use round_lines::pieces::put;
+use round_lines::preference_texts::{colour, preference};
 use round_lines::telling::Telling;
 use std::alloc::AllocError;
 use trf16_report::{Colour, Report};

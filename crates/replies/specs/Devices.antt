@@ -3,7 +3,7 @@ use Rattle.std.specs.Prelude.{◌≡◌, ℕ, List, Option}
 use Rattle.std.specs.Io.KnownBytes.{Keeps}
 use Rattle.trf16_report.specs.Prelude.{Use, use_of, HasNotFailed}
 
--- a source before and after, and how many calls of it were made
+-- a source before and after, and how many calls of it were made [with reading_of]
 pub record Reading : Type 0 where
   pub device : Use
   pub calls_before : ℕ
@@ -17,12 +17,12 @@ reading_of bytes failures calls old new = record {
   calls_after = calls new;
 }
 
--- the device has the bytes that it had, and no call of it failed
+-- the device has the bytes that it had, and no call of it failed [with reading_of]
 pub record IsKept (device : Use) : Type 0 where
   pub kept : Keeps device.before device.after
   pub sound : HasNotFailed device
 
--- no call of the source was made
+-- no call of the source was made [with reading_of]
 pub record IsUnread (source : Reading) : Type 0 where
   pub calls : source.calls_after ≡ source.calls_before
   pub kept : IsKept source.device

@@ -10,7 +10,7 @@ use Rattle.trf16_report.specs.declared.limits.TheConstants.{MOST_BYTES}
 abbrev pub most_read : ℕ
 most_read = MOST_BYTES + 1
 
--- the source gave these bytes: all that it had, or as many as are read at most
+-- the source gave these bytes: all that it had, or as many as are read at most [with ReadsInput]
 pub record IsRead (source : Use) (input : List ℕ) : Type 0 where
   pub given : Consumes source.before source.after input
   pub fits : length input ≤ most_read

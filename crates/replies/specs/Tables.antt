@@ -6,7 +6,7 @@ use Rattle.trf16_report.specs.Prelude.{columns, blanks, left_in}
 use Rattle.replies.specs.declared.table.Alignment.{Alignment}
 use Rattle.replies.specs.declared.table.Alignment.TheVariants.{Left, Right}
 
--- a label: a text, and the side of its column at which it stands
+-- a label: a text, and the side of its column at which it stands [with table_text]
 pub record LabelFacts : Type 0 where
   pub side : Alignment
   pub text : List ℕ

@@ -36,7 +36,7 @@ status_of AtEnd = Done
 status_of AtCount = Done
 status_of (Stopped used) = UndecidedStatus
 
--- a bracket of this number and its candidates to come are listed
+-- a bracket of this number and its candidates to come are listed [with AnswersCandidates]
 pub record IsListOfBracket (options : CandidatesOptions) (facts : Facts) (reached : Reached) (shape : Shape) (coming : List Arrangement) (answer : Answer) : Type 0 where
   pub ending : Ending
   pub lines : List ℕ
@@ -45,25 +45,25 @@ pub record IsListOfBracket (options : CandidatesOptions) (facts : Facts) (reache
   pub text : answer.text ≡ bracket_text options.bracket reached.kind shape ++ (lines ++ ending_text options.bracket ending)
   pub plain : answer.note ≡ []
 
--- the same, where the cursor is one of the bracket; else that is told
+-- a bracket and its candidates to come are listed, where the cursor is one of the bracket; else that is told [with AnswersCandidates]
 abbrev pub Lists : CandidatesOptions → Facts → Reached → Shape → Result (List Arrangement) CursorFault → Answer → Type 0
 Lists options facts reached shape (Ok coming) answer = IsListOfBracket options facts reached shape coming answer
 Lists options facts reached shape (Err fault) answer = answer ≡ not_of_bracket options.bracket
 
--- what is answered to the bracket that is found
+-- what is answered to the bracket that is found [with AnswersCandidates]
 abbrev pub AnswersFound : CandidatesOptions → Facts → BracketAt → Answer → Type 0
 AnswersFound options facts (Bracket reached shape) answer = Lists options facts reached shape (coming_of facts reached shape options.from) answer
 AnswersFound options facts NotReached answer = answer ≡ not_reached options.bracket
 AnswersFound options facts NoPairingAt answer = answer ≡ no_pairing
 AnswersFound options facts (UndecidedAt number used) answer = answer ≡ undecided number used
 
--- the bracket that is asked for is found, or not, and that is answered
+-- the bracket that is asked for is found, or not, and that is answered [with AnswersCandidates]
 pub record IsAnswerToField (options : CandidatesOptions) (facts : Facts) (answer : Answer) : Type 0 where
   pub found : BracketAt
   pub is : IsBracketAt facts options.steps options.bracket found
   pub tells : AnswersFound options facts found answer
 
--- what is answered to a field, or why the round cannot be paired
+-- what is answered to a field, or why the round cannot be paired [with AnswersCandidates]
 abbrev pub InField : CandidatesOptions → Result Facts FieldFault → Answer → Type 0
 InField options (Ok facts) answer = IsAnswerToField options facts answer
 InField options (Err fault) answer = answer ≡ field_refusal fault

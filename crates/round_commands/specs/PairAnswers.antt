@@ -26,25 +26,25 @@ boards_text boards = decimal (length boards) ++ (codes "\n" ++ flat_map board_te
 abbrev pub TellsReport : Sheet → List (ℕ × ℕ) → Answer → Type 0
 TellsReport sheet boards answer = answer ≡ done (written (with_round boards sheet))
 
--- the boards, the boards with names and scores, or the report with them
+-- the boards, the boards with names and scores, or the report with them [with AnswersPair]
 abbrev pub TellsBoards : Shown → Sheet → List (ℕ × ℕ) → Answer → Type 0
 TellsBoards Boards sheet boards answer = answer ≡ done (boards_text boards)
 TellsBoards Names sheet boards answer = answer ≡ done (named_boards_text sheet boards)
 TellsBoards Report sheet boards answer = TellsReport sheet boards answer
 
--- what is answered to the outcome of pairing
+-- what is answered to the outcome of pairing [with AnswersPair]
 abbrev pub TellsOutcome : PairOptions → Sheet → Outcome → Answer → Type 0
 TellsOutcome options sheet (Paired all) answer = TellsBoards options.shown sheet all.items answer
 TellsOutcome options sheet NoPairing answer = answer ≡ no_pairing
 TellsOutcome options sheet (Undecided number used) answer = answer ≡ undecided number used
 
--- a field is paired, and its outcome is answered
+-- a field is paired, and its outcome is answered [with AnswersPair]
 pub record IsPaired (options : PairOptions) (sheet : Sheet) (facts : Facts) (answer : Answer) : Type 0 where
   pub outcome : Outcome
   pub is : IsOutcome facts options.steps outcome
   pub tells : TellsOutcome options sheet outcome answer
 
--- what is answered to a field, or why the round cannot be paired
+-- what is answered to a field, or why the round cannot be paired [with AnswersPair]
 abbrev pub PairsField : PairOptions → Sheet → Result Facts FieldFault → Answer → Type 0
 PairsField options sheet (Ok facts) answer = IsPaired options sheet facts answer
 PairsField options sheet (Err fault) answer = answer ≡ field_refusal fault

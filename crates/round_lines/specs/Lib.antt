@@ -3,6 +3,7 @@ pub mod Tellings
 pub mod CandidateTexts
 pub mod Listings
 pub mod ItemTexts
+pub mod PreferenceTexts
 pub mod RoundTexts
 pub mod Pieces
 pub mod ValueTexts

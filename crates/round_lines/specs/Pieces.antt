@@ -5,11 +5,11 @@ use Rattle.std.specs.Fmt.{decimal}
 use Rattle.requests.specs.declared.options.Wording.TheVariants.{Words}
 use Rattle.round_lines.specs.CandidateTexts.{rank_text}
 use Rattle.round_lines.specs.ItemTexts.{differences_text, points_text}
-use Rattle.round_lines.specs.RoundTexts.{all_scored_words, scored_text}
+use Rattle.round_lines.specs.RoundTexts.{all_scored_words, preferring_words, scored_text}
 use Rattle.round_lines.specs.Tellings.{TellingFacts, player_words, players_words, seat_words, seats_words}
 use Rattle.round_lines.specs.declared.pieces.Piece.{Piece}
 use Rattle.round_lines.specs.declared.pieces.Piece.TheVariants.{Text, Number, Count, Points, Rank, Ranks, Scored, Differences}
-use Rattle.round_lines.specs.declared.pieces.Piece.TheVariants.{Player, Players, Seat, Seats, ScoredSeats, DifferencesWords}
+use Rattle.round_lines.specs.declared.pieces.Piece.TheVariants.{Player, Players, Seat, Seats, Preferring, ScoredSeats, DifferencesWords}
 use Rattle.common_texts.specs.Prelude.{halves_text}
 
 module _ (telling : TellingFacts) where
@@ -27,6 +27,7 @@ module _ (telling : TellingFacts) where
   piece_text (Players starts) = players_words telling.sheet starts.now
   piece_text (Seat seat) = seat_words telling seat
   piece_text (Seats seats) = seats_words telling seats.now
+  piece_text (Preferring seat) = preferring_words telling seat
   piece_text (ScoredSeats seats) = all_scored_words telling seats.now
   piece_text (DifferencesWords differences) = points_text Words differences.now
 

@@ -2,11 +2,12 @@
 use Rattle.std.specs.Prelude.{ℕ, zero, suc, ◌-◌, ◌/◌, List, [], ◌∷◌, ◌++◌, length, take, drop, codes}
 use Rattle.std.specs.List.{flat_map}
 use Rattle.std.specs.Fmt.{decimal}
-use Rattle.dutch_player.specs.Prelude.{colours, colour_rule}
+use Rattle.dutch_player.specs.Prelude.{colours, colour_rule, preference, seat_at}
 use Rattle.dutch_player.specs.declared.colour_rule.ColourRule.{ColourRule}
 use Rattle.dutch_player.specs.declared.colour_rule.ColourRule.TheVariants.{BothPreferences, StrongerPreference, Alternation, HigherRank, InitialColour}
 use Rattle.dutch_bracket.specs.Prelude.{Reached, score_at}
 use Rattle.round_lines.specs.CandidateTexts.{rank_text}
+use Rattle.round_lines.specs.PreferenceTexts.{prefers_words}
 use Rattle.round_lines.specs.Tellings.{TellingFacts, in_wording, seat_words}
 use Rattle.common_texts.specs.Prelude.{halves_text}
 
@@ -106,11 +107,15 @@ module _ (telling : TellingFacts) where
       ++ (codes " " ++ (rank_text telling.facts (colours telling.facts pair.0 pair.1).1
       ++ (codes " " ++ (rule_text (colour_rule telling.facts pair.0 pair.1) ++ codes "\n")))))
 
-  -- the same in a sentence
+  -- a player and the colour they prefer (A.6)
+  abbrev pub preferring_words : ℕ → List ℕ
+  preferring_words seat = seat_words telling seat ++ prefers_words (preference (seat_at telling.facts seat).played)
+
+  -- the same in a sentence, with what both prefer
   unfoldable pub colours_words : ℕ × ℕ → List ℕ
   colours_words pair =
-      codes "White: " ++ (seat_words telling (colours telling.facts pair.0 pair.1).0
-      ++ (codes ". Black: " ++ (seat_words telling (colours telling.facts pair.0 pair.1).1
+      codes "White: " ++ (preferring_words (colours telling.facts pair.0 pair.1).0
+      ++ (codes ". Black: " ++ (preferring_words (colours telling.facts pair.0 pair.1).1
       ++ (codes ". " ++ (rule_words (colour_rule telling.facts pair.0 pair.1) ++ codes "\n")))))
 
   -- a board: who has white, who has black, and the rule of article E that decided [with round_text]

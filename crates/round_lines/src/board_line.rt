@@ -3,14 +3,15 @@ ghost use Rattle.std.specs.Prelude.{◌≡◌, ◌++◌, OnOk};
 ghost use Rattle.round_lines.specs.RoundTexts.{colours_text, rule_text, rule_words};
 
 use crate::page::Page;
-use crate::pieces::Piece::{Rank, Seat, Text};
+use crate::pieces::Piece::{Preferring, Rank, Text};
 use crate::pieces::say;
 use crate::telling::Telling;
 use dutch_bracket::seated::Pair;
 use dutch_player::ColourRule;
 use std::alloc::AllocError;
 
-/// Puts the board of a pair: who has white, who has black, and the rule that decided.
+/// Puts the board of a pair: who has white, who has black, and the rule that decided; in a sentence also what both
+/// prefer.
 ///
 /// # Errors
 /// Memory was refused.
@@ -34,9 +35,9 @@ pub fn put_board(text: &mut Page, telling: &Telling<'_>, pair: Pair) -> Result<(
         ],
         &[
             Text("White: "),
-            Seat(white),
+            Preferring(white),
             Text(". Black: "),
-            Seat(black),
+            Preferring(black),
             Text(". "),
             Text(words),
             Text("\n"),

@@ -16,6 +16,7 @@ mod lists;
 mod member_lines;
 pub mod page;
 pub mod pieces;
+pub mod preference_texts;
 mod round_line;
 pub mod telling;
 pub mod value_texts;

@@ -7,6 +7,7 @@ ghost use Rattle.round_lines.specs.Tellings.{in_wording};
 
 use crate::lists::{put_differences, put_listed, put_ranks, put_scored, put_scored_words};
 use crate::page::Page;
+use crate::preference_texts::put_preferring;
 use crate::telling::{Telling, put_one, put_players, put_seat, put_seats, start_at};
 use common_texts::HalfPoints;
 use requests::Wording;
@@ -39,6 +40,8 @@ pub enum Piece<'a> {
     Seat(u16),
     /// Players with their names, by seat.
     Seats(&'a [u16]),
+    /// A player with their name and the colour they prefer, by seat.
+    Preferring(u16),
     /// Players with their names and scores, by seat.
     ScoredSeats(&'a [u16]),
     /// Differences as points in a sentence.
@@ -68,6 +71,7 @@ fn put_piece(text: &mut Page, telling: &Telling<'_>, piece: &Piece<'_>) -> Resul
         Piece::Players(starts) => put_players(text, telling.report, starts),
         Piece::Seat(seat) => put_seat(text, telling, seat),
         Piece::Seats(seats) => put_seats(text, telling, seats),
+        Piece::Preferring(seat) => put_preferring(text, telling, seat),
         Piece::ScoredSeats(seats) => put_scored_words(text, telling, seats),
         Piece::DifferencesWords(differences) => put_listed(text, Wording::Words, differences),
     }

@@ -1,12 +1,14 @@
 -- The line that tells why a player does not meet another one in the next round, or does not have the bye; as codes, and as a sentence.
-use Rattle.std.specs.Prelude.{ℕ, ◌==◌, if◌then◌else◌, List, [], ◌++◌, codes}
+use Rattle.std.specs.Prelude.{ℕ, ◌==◌, if◌then◌else◌, List, [], ◌++◌, Option, Some, None, codes}
 use Rattle.std.specs.Fmt.{decimal}
-use Rattle.dutch_bracket.specs.Prelude.{quality_in}
+use Rattle.dutch_bracket.specs.Prelude.{ends_round, quality_in, seat_of}
+use Rattle.dutch_candidates.specs.declared.wish.Wish.{Wish}
+use Rattle.dutch_candidates.specs.declared.wish.Wish.TheVariants.{Pair, LeftOver}
 use Rattle.dutch_rounds.specs.declared.instead.Instead.{Instead}
 use Rattle.dutch_rounds.specs.declared.instead.Instead.TheVariants.{Best, FewerMovedDown, NoneEligible, NoneLegal, Undecided}
 use Rattle.dutch_rounds.specs.declared.stage.Stage.{Stage}
 use Rattle.requests.specs.declared.options.Wording.{Wording}
-use Rattle.round_lines.specs.Tellings.{TellingFacts, in_wording, player_words}
+use Rattle.round_lines.specs.Tellings.{TellingFacts, in_wording, player_words, seat_words}
 use Rattle.round_lines.specs.ValueTexts.{candidate_text}
 
 -- ---- what a search in a bracket finds
@@ -39,10 +41,26 @@ found_text wording stage FewerMovedDown = none_b1_text wording
 found_text wording stage NoneLegal = none_c5_text wording
 found_text wording stage (Undecided used) = []
 
--- the number of a bracket in front of what is found in it [with found_text]
-abbrev pub bracket_front : Wording → ℕ → List ℕ
-bracket_front wording number =
-    in_wording wording (codes "bracket " ++ (decimal number ++ codes " ")) (codes "In bracket " ++ (decimal number ++ codes ", "))
+-- who would have to go down in a bracket, by seat: whoever is to be left over in one that does not end the round [with bracket_front]
+abbrev pub would_go_down : Stage → Wish → Option ℕ
+would_go_down stage (Pair p q) = None
+would_go_down stage (LeftOver p) = if ends_round stage.reached.kind then None else Some (seat_of stage.reached.seats p)
+
+-- a bracket in a sentence in front of what is found in it, where somebody would have to go down in it, or nobody [with bracket_front]
+abbrev pub bracket_words : TellingFacts → ℕ → Option ℕ → List ℕ
+bracket_words telling number None = codes "In bracket " ++ (decimal number ++ codes ", ")
+bracket_words telling number (Some seat) =
+    codes "For that, " ++ (seat_words telling seat ++ (codes " would have to go down in bracket " ++ (decimal number ++ codes ": ")))
+
+-- a bracket in front of what is found in it, in a line or in a sentence [with bracket_front]
+abbrev pub bracket_text : TellingFacts → ℕ → Option ℕ → List ℕ
+bracket_text telling number down =
+    in_wording telling.wording (codes "bracket " ++ (decimal number ++ codes " ")) (bracket_words telling number down)
+
+-- a bracket in front of what is found in it for a wish: its number; in a sentence also who would have to go down in it, so that one knows
+-- what is wished [own]
+abbrev pub bracket_front : TellingFacts → Stage → Wish → List ℕ
+bracket_front telling stage wish = bracket_text telling stage.reached.number (would_go_down stage wish)
 
 -- ---- the line of a player, who asks for a number, 0 for the bye
 
@@ -79,7 +97,7 @@ module _ (telling : TellingFacts) (player number : ℕ) where
   abbrev pub instead_text : List ℕ → List ℕ
   instead_text why = front_text ++ (why ++ codes "\n")
 
-  -- the same, by what a search in a bracket found
-  abbrev pub in_bracket : Stage → Instead → List ℕ
-  in_bracket stage found =
-      front_text ++ (bracket_front telling.wording stage.reached.number ++ (found_text telling.wording stage found ++ codes "\n"))
+  -- the same, by what a search in a bracket found for a wish
+  abbrev pub in_bracket : Stage → Wish → Instead → List ℕ
+  in_bracket stage wish found =
+      front_text ++ (bracket_front telling stage wish ++ (found_text telling.wording stage found ++ codes "\n"))

@@ -1,17 +1,18 @@
 // The line that tells why a player does not meet another one in the next round, or does not have the bye, piece by piece.
 ghost use Rattle.std.specs.Prelude.{◌≡◌, ◌++◌, OnOk};
 ghost use Rattle.dutch_bracket.specs.Prelude.{quality_in};
-ghost use Rattle.stage_lines.specs.InsteadTexts.{best_front, bracket_front, found_text, front_text, granted_text};
+ghost use Rattle.stage_lines.specs.InsteadTexts.{best_front, bracket_front, bracket_text, found_text, front_text};
+ghost use Rattle.stage_lines.specs.InsteadTexts.{granted_text, would_go_down};
 ghost use Rattle.stage_lines.specs.InsteadTexts.{none_b1_text, none_c4_text, none_c5_text};
 ghost use Rattle.round_lines.specs.ValueTexts.{candidate_text};
 
 use dutch_arrangements::Candidate;
 use dutch_bracket::quality::Quality;
-use dutch_rounds::{Instead, Stage};
+use dutch_rounds::{Instead, Stage, Wish};
 use requests::Wording;
 use round_lines::Asked;
 use round_lines::page::Page;
-use round_lines::pieces::Piece::{Number, Player, Text};
+use round_lines::pieces::Piece::{Number, Player, Seat, Text};
 use round_lines::pieces::say;
 use round_lines::telling::{Telling, in_wording};
 use round_lines::value_texts::put_candidate;
@@ -47,31 +48,62 @@ pub fn put_front(text: &mut Page, telling: &Telling<'_>, asked: Asked) -> Result
     say(text, telling, &[front, number, behind], &words)
 }
 
+/// What a search in a bracket found for a wish.
+#[derive(Clone, Copy)]
+pub struct Searched<'a> {
+    pub stage: &'a Stage,
+    pub wish: Wish,
+    pub found: &'a Instead,
+}
+
 /// Puts a bracket, and what a search in it found.
 pub fn put_found(
     text: &mut Page,
     telling: &Telling<'_>,
-    searched: (&Stage, &Instead),
+    searched: Searched<'_>,
 ) -> Result<(), AllocError>
     ensures { OnOk result (text.new
-        ≡ text.old ++ (bracket_front telling.now.wording searched.entry.0.now.reached.number
-        ++ found_text telling.now.wording searched.entry.0.now searched.entry.1.now)) }
+        ≡ text.old ++ (bracket_front telling.now searched.entry.stage.now searched.entry.wish
+        ++ found_text telling.now.wording searched.entry.stage.now searched.entry.found.now)) }
 {
-    put_bracket(text, telling, searched.0.reached().number())?;
-    put_reason(text, telling, searched)
+    let down = would_go_down(searched.stage, searched.wish);
+    put_bracket(text, telling, searched.stage.reached().number(), down)?;
+    put_reason(text, telling, (searched.stage, searched.found))
 }
 
-// Puts the number of a bracket in front of what is found in it.
-fn put_bracket(text: &mut Page, telling: &Telling<'_>, number: u16) -> Result<(), AllocError>
-    ensures { OnOk result (text.new ≡ text.old ++ bracket_front telling.now.wording number) }
+// Who would have to go down in a bracket, by seat.
+fn would_go_down(stage: &Stage, wish: Wish) -> Option<u16>
+    ensures { result ≡ would_go_down stage.now wish }
+{
+    let reached = stage.reached();
+    match wish {
+        Wish::LeftOver(number) if !reached.kind().ends_round() => Some(reached.seat(number)),
+        Wish::LeftOver(_) | Wish::Pair(_, _) => None,
+    }
+}
+
+// Puts the number of a bracket in front of what is found in it, and in a sentence also who would have to go down in it.
+fn put_bracket(
+    text: &mut Page,
+    telling: &Telling<'_>,
+    number: u16,
+    down: Option<u16>,
+) -> Result<(), AllocError>
+    ensures { OnOk result (text.new ≡ text.old ++ bracket_text telling.now number down) }
 {
     let number = Number(number);
-    say(
-        text,
-        telling,
-        &[Text("bracket "), number, Text(" ")],
-        &[Text("In bracket "), number, Text(", ")],
-    )
+    let line = [Text("bracket "), number, Text(" ")];
+    match down {
+        Some(seat) => {
+            let (who, down) = (Seat(seat), Text(" would have to go down in bracket "));
+            let words = [Text("For that, "), who, down, number, Text(": ")];
+            say(text, telling, &line, &words)
+        }
+        None => {
+            let words = [Text("In bracket "), number, Text(", ")];
+            say(text, telling, &line, &words)
+        }
+    }
 }
 
 // None that can be chosen grants the wish.

@@ -4,7 +4,7 @@ use Rattle.std.specs.Result.{is_ok}
 use Rattle.tables.specs.declared.fault.TieFault.{TieFault}
 use Rattle.tables.specs.declared.fault.TieFault.TheVariants.{OutOfMemory}
 
--- the fault that a call answers is the one that the definition gives; want of memory comes last, so the definition gives none
+-- the fault that a call answers is the one that the definition gives; want of memory comes last, so the definition gives none [with Gives]
 abbrev pub Fails : {Y : Type 0} → TieFault → Result Y TieFault → Type 0
 Fails OutOfMemory given = is_ok given ≡ true
 Fails fault given = given ≡ Err fault

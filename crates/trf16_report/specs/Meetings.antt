@@ -18,7 +18,7 @@ pub record IsAnswered (sheet : Sheet) (start round opponent : ℕ) : Type 0 wher
 abbrev pub AnswerEachOther : Sheet → Type 0
 AnswerEachOther sheet = (start round opponent : ℕ) → 0 < round → opponent_in_cell (cell_in sheet start round) ≡ Some opponent → IsAnswered sheet start round opponent
 
--- points are the sum over the rounds that were paired, or over all, or under 100 points where games have other points
+-- points are the sum over the rounds that were paired, or over all, or under 100 points where games have other points [with points_fit]
 abbrev pub AreSum : Sheet → Entry → ℕ → Type 0
 AreSum sheet entry points = (points ≡ sum_by (half_points sheet.bye) (take (rounds_played sheet) entry.cells))
     ⊎ ((points ≡ sum_by (half_points sheet.bye) entry.cells) ⊎ ((has_other_points sheet ≡ true) × (points < 200)))

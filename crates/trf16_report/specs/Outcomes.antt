@@ -9,7 +9,7 @@ abbrev pub ◌>>=◌ : {A B E : Type 0} → Result A E → (A → Result B E) �
 (Ok x) >>= f = f x
 (Err fault) >>= f = Err fault
 
--- the fault that a call answers is the one that the definition gives, or memory was refused
+-- the fault that a call answers is the one that the definition gives, or memory was refused [with Gives]
 abbrev pub Fails : {Y : Type 0} → Fault → Result Y Fault → Type 0
 Fails OutOfMemory given = Unit {0}
 Fails fault given = given ≡ Err fault

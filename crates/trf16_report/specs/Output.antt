@@ -3,8 +3,8 @@ use Rattle.std.specs.Prelude.{◌≡◌, ◌<◌, ◌++◌, ℕ, List, Option, R
 use Rattle.std.specs.Io.KnownBytes.{Appends}
 use Rattle.trf16_report.specs.Devices.{CountsOne}
 
--- a device before and after: its bytes where they are known (those still to come of a source, those written of a sink), and how many
--- of its calls had failed
+-- a device before and after: its bytes where they are known (those still to come of a source, those written of a sink), and how many of its
+-- calls had failed [own]
 pub record Use : Type 0 where
   pub before : Option (List ℕ)
   pub after : Option (List ℕ)
@@ -20,20 +20,20 @@ use_of bytes failures old new = record {
   failures_after = failures new;
 }
 
--- no call of the device failed
+-- no call of the device failed [with Use]
 abbrev pub HasNotFailed : Use → Type 0
 HasNotFailed device = device.failures_after ≡ device.failures_before
 
--- one call of the device failed
+-- one call of the device failed [with Use]
 abbrev pub HasFailed : Use → Type 0
 HasFailed device = CountsOne device.failures_before device.failures_after
 
--- the whole text was put
+-- the whole text was put [with Puts]
 pub record HasText (text : List ℕ) (sink : Use) : Type 0 where
   pub written : Appends sink.before sink.after text
   pub sound : HasNotFailed sink
 
--- a call of the sink failed, and a part of the text was put, which ends before the text does
+-- a call of the sink failed, and a part of the text was put, which ends before the text does [with Puts]
 pub record HasPart (text : List ℕ) (sink : Use) : Type 0 where
   pub part : List ℕ
   pub rest : List ℕ

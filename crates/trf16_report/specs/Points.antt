@@ -5,7 +5,7 @@ use Rattle.std.specs.Char.{is_ascii_digit}
 use Rattle.std.specs.Str.{byte}
 use Rattle.trf16_report.specs.Fields.{number_after}
 
--- the half point behind whole points: none where nothing stands there; else a point or comma, and 0 for none or 5 for one
+-- the half point behind whole points: none where nothing stands there; else a point or comma, and 0 for none or 5 for one [with points_of]
 abbrev pub SpellsHalf : List ℕ → ℕ → Type 0
 SpellsHalf [] half = half ≡ 0
 SpellsHalf (mark ∷ digit ∷ []) half =

@@ -11,7 +11,7 @@ abbrev pub ranked_by : {T : Type 0} → (T → T → Bool) → List T → List T
 ranked_by before [] = []
 ranked_by before (x ∷ rest) = placed_by before x (ranked_by before rest)
 
--- none of some goes before one
+-- none of some goes before one [with ranked_by]
 abbrev pub NoneBefore : {T : Type 0} → (T → T → Bool) → T → List T → Type 0
 NoneBefore before x [] = Unit {0}
 NoneBefore before x (other ∷ rest) = (before other x ≡ false) × NoneBefore before x rest

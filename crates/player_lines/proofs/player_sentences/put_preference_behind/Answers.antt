@@ -1,7 +1,7 @@
 -- The preference between what stands in front of it and the end of the line.
 use Rattle.std.proofs.Common.{◌∙◌, ◌++◌, ℕ, List, codes, ap}
 use Rattle.round_lines.proofs.Joined.{joined}
-use Rattle.player_lines.specs.PlayerTexts.{preference_words}
+use Rattle.round_lines.specs.PreferenceTexts.{preference_words}
 use Rattle.player_lines.proofs.player_sentences.put_preference_behind.Goals as goal
 
 pub returns : goal.returns

@@ -1,7 +1,6 @@
 use Rattle.std.proofs.Common.{◌≡◌, ◌∙◌, ap, sym, subst, length, take, arith, ◌-◌, ◌+◌, ◌≤◌, ℕ, List, option_copied}
 use Rattle.std.specs.List.{AllByRecursion}
 use Rattle.dutch_arrangements.specs.Prelude.{Arrangement, arrangements, residents_of, from_on, subsets, numbers_from, IsIn, HasS2, Of, choices_from, in_bracket, joined, s1_blocks, limbo_exchanges}
-use Rattle.dutch_arrangements.specs.contracts.cursor.Cursor.{the_view}
 use Rattle.dutch_arrangements.proofs.Behind.{cursor-s1, cursor-s2}
 use Rattle.dutch_sequence.proofs.Counts.{sets-fit, from_on-all}
 use Rattle.dutch_sequence.proofs.Members.{length-numbers}
@@ -14,10 +13,10 @@ start_from-requires-clause-given g c =
     let given = subst (λ own. Of (λ cursor. IsIn cursor (arrangements frame shape)) (option_copied own)) c.in-Some.is c.requires.given in
     let scores : take frame.mdps frame.scores ≡ take c.mdps.result c.scores.result.now =
     ap (λ n. take n frame.scores) (sym c.mdps.ensures) ∙ ap (take c.mdps.result) (sym c.scores.ensures.scores) in
-    let at_s1 = ap (λ i. (the_view i).s1) c.cursor-inside.view_is ∙ ap (λ (a : Arrangement). a.s1) c.cursor.view_is in
+    let at_s1 = ap (λ (a : Arrangement). a.s1) c.own.view_is in
     subst (λ s1. IsIn s1 (subsets (numbers_from 1 (length (take c.mdps.result c.scores.result.now))) shape.mdps)) (sym (c.deref.ensures.0 ∙ at_s1))
-    (subst (λ scores. IsIn c.in-Some.cursor.now.s1 (subsets (numbers_from 1 (length scores)) shape.mdps)) scores
-    (cursor-s1 frame shape (g.R.Rule.meets c.args.rule.now) c.in-Some.cursor.now given))
+    (subst (λ scores. IsIn c.in-Some.own.now.s1 (subsets (numbers_from 1 (length scores)) shape.mdps)) scores
+    (cursor-s1 frame shape (g.R.Rule.meets c.args.rule.now) c.in-Some.own.now given))
 
 pub invariant_of-self : goal.invariant_of-self
 invariant_of-self g c =
@@ -31,8 +30,9 @@ invariant_of-self g c =
       c.put_residents.ensures.ascends,
       subst (AllByRecursion (λ (s1 : List ℕ). length s1 + k ≤ room)) (sym c.start_from.ensures.coming)
           (from_on-all (λ s1. length s1 + k ≤ room) c.deref.result.now sets (sets-fit (take c.mdps.result c.scores.result.now) shape.mdps k room enough)),
-      subst (λ residents. Of (HasS2 k residents) (option_copied c.args.own)) (sym c.put_residents.ensures.items)
-          (cursor-s2 frame shape (g.R.Rule.meets c.args.rule.now) (option_copied c.args.own) c.requires.given),
+      subst (Of (HasS2 k c.put_residents.new.residents.items)) (sym c.put.ensures)
+          (subst (λ residents. Of (HasS2 k residents) (option_copied c.args.own)) (sym c.put_residents.ensures.items)
+          (cursor-s2 frame shape (g.R.Rule.meets c.args.rule.now) (option_copied c.args.own) c.requires.given)),
     )
 
 pub invariant_of-self-in-None : goal.invariant_of-self-in-None
@@ -46,8 +46,9 @@ invariant_of-self-in-None g c =
       c.put_residents.ensures.ascends,
       subst (AllByRecursion (λ (s1 : List ℕ). length s1 + k ≤ room)) (sym c.start.ensures.coming)
           (sets-fit (take c.mdps.result c.scores.result.now) shape.mdps k room enough),
-      subst (λ residents. Of (HasS2 k residents) (option_copied c.args.own)) (sym c.put_residents.ensures.items)
-          (cursor-s2 frame shape (g.R.Rule.meets c.args.rule.now) (option_copied c.args.own) c.requires.given),
+      subst (Of (HasS2 k c.put_residents.new.residents.items)) (sym c.put.ensures)
+          (subst (λ residents. Of (HasS2 k residents) (option_copied c.args.own)) (sym c.put_residents.ensures.items)
+          (cursor-s2 frame shape (g.R.Rule.meets c.args.rule.now) (option_copied c.args.own) c.requires.given)),
     )
 
 pub returns-in-Some : goal.returns-in-Some
@@ -58,16 +59,17 @@ returns-in-Some g c =
     let k = shape.pairs - shape.mdps in
     let meets = g.R.Rule.meets c.args.rule.now in
     let at = option_copied c.args.own in
-    let own = c.in-Some.cursor.now in
+    let own = c.in-Some.own.now in
     let all = limbo_exchanges (take frame.mdps frame.scores) shape.mdps in
     let scores : take frame.mdps frame.scores ≡ take c.mdps.result c.scores.result.now =
     ap (λ n. take n frame.scores) (sym c.mdps.ensures) ∙ ap (take c.mdps.result) (sym c.scores.ensures.scores) in
-    let at_s1 = ap (λ i. (the_view i).s1) c.cursor-inside.view_is ∙ ap (λ (a : Arrangement). a.s1) c.cursor.view_is in
+    let at_s1 = ap (λ (a : Arrangement). a.s1) c.own.view_is in
     let sets : c.start_from.new.self.coming ≡ from_on own.s1 all =
     c.start_from.ensures.coming
     ∙ ap (λ s1. from_on s1 (limbo_exchanges (take c.mdps.result c.scores.result.now) shape.mdps)) (c.deref.ensures.0 ∙ at_s1)
     ∙ ap (λ scores. from_on own.s1 (limbo_exchanges scores shape.mdps)) (sym scores) in
-    ap (λ residents. joined (s1_blocks meets k residents at c.start_from.new.self.coming)) c.put_residents.ensures.items
+    ap (λ own. joined (s1_blocks meets k c.put_residents.new.residents.items own c.start_from.new.self.coming)) c.put.ensures
+    ∙ ap (λ residents. joined (s1_blocks meets k residents at c.start_from.new.self.coming)) c.put_residents.ensures.items
     ∙ ap (λ sets. joined (s1_blocks meets k (residents_of frame) at sets)) (sets ∙ ap (λ other. choices_from (λ a. a.s1) other all) (sym (ap (λ lent. option_copied lent) c.in-Some.is)))
 
 pub returns-in-None : goal.returns-in-None
@@ -82,5 +84,6 @@ returns-in-None g c =
     let scores : take frame.mdps frame.scores ≡ take c.mdps.result c.scores.result.now =
     ap (λ n. take n frame.scores) (sym c.mdps.ensures) ∙ ap (take c.mdps.result) (sym c.scores.ensures.scores) in
     let sets : c.start.new.self.coming ≡ all = c.start.ensures.coming ∙ ap (λ scores. limbo_exchanges scores shape.mdps) (sym scores) in
-    ap (λ residents. joined (s1_blocks meets k residents at c.start.new.self.coming)) c.put_residents.ensures.items
+    ap (λ own. joined (s1_blocks meets k c.put_residents.new.residents.items own c.start.new.self.coming)) c.put.ensures
+    ∙ ap (λ residents. joined (s1_blocks meets k residents at c.start.new.self.coming)) c.put_residents.ensures.items
     ∙ ap (λ sets. joined (s1_blocks meets k (residents_of frame) at sets)) (sets ∙ ap (λ other. choices_from (λ a. a.s1) other all) (sym (ap (λ lent. option_copied lent) c.in-None.is)))

@@ -1,7 +1,7 @@
-use Rattle.std.proofs.Common.{◌≡◌, ◌∷◌, None, sym, ap, subst, ◌∙◌, option_copied}
+use Rattle.std.proofs.Common.{◌≡◌, ◌∷◌, None, sym, ap, subst, ◌∙◌}
 use Rattle.std.specs.List.{AllByRecursion}
 use Rattle.dutch_arrangements.specs.Prelude.{HasS2r, if_own, in_s1r, s1r_blocks}
-use Rattle.dutch_listing.proofs.Blocks.{comes, ends, goes-whole, idle-behind-s1r, idle-s1r-blocks, some-lent, stops, taken}
+use Rattle.dutch_listing.proofs.Blocks.{comes, ends, goes-whole, idle-behind-s1r, idle-s1r-blocks, stops, taken}
 use Rattle.dutch_listing.proofs.Passing.{blocks-each}
 use Rattle.dutch_sequence.proofs.Skipping.{passes-all, passes-same, drawn, drawn-stopped}
 use Rattle.dutch_listing.proofs.choices.ByS1rBlocks.next_block.Goals as goal
@@ -14,29 +14,29 @@ returns-then-cuts_at_first-clause-answer g c =
     (subst (AllByRecursion (AllByRecursion Idle)) c.self.view_is
     (idle-s1r-blocks Idle own.s1.items own.s2.items
     (λ a at_s1 at_s2. c.cuts_at_first.ensures.told c.if-cuts_at_first.true a (c.deref.ensures.0 ∙ at_s1, goes-whole _ _ (c.deref-2.ensures.0 ∙ at_s2)))
-    (g.R.Rule.meets own.rule.now) own.remainder.items (option_copied own.resume) own.s1r.choices.coming))
+    (g.R.Rule.meets own.rule.now) own.remainder.items own.resume own.s1r.choices.coming))
 
 pub start-requires-clause-same : goal.start-requires-clause-same
 start-requires-clause-same g c =
     let own = c.self.inside in
-    taken (λ a. a.s1r) (HasS2r own.remainder.items) (λ a. a.s1r ≡ c.choose_set.new.sets.latest.items) (option_copied own.resume) _ c.choose_set.new.sets.latest.items
-    c.take_by_s1r-own.ensures.own c.self.invariant.1 (λ a has same. same)
+    taken (λ a. a.s1r) (HasS2r own.remainder.items) (λ a. a.s1r ≡ c.choose_set.new.sets.latest.items) own.resume _ c.choose_set.new.sets.latest.items
+    c.own_by_s1r-own.ensures c.self.invariant.1 (λ a has same. same)
 
 pub returns-clause-answer : goal.returns-clause-answer
 returns-clause-answer g c =
     let own = c.self.inside in
-    let at = option_copied own.resume in
+    let at = own.resume in
     let s1r = c.choose_set.new.sets.latest.items in
     let later = c.choose_set.new.sets.choices.coming in
     let meets = g.R.Rule.meets own.rule.now in
     let Now = g.C.Cuts.Idle c.cuts_at_first.new.self in
     let made : c.start.new.self ≡ in_s1r meets own.s1.items own.s2.items own.remainder.items (if_own (λ a. a.s1r) at s1r) s1r =
-    c.start.ensures ∙ ap (λ taken. in_s1r meets own.s1.items own.s2.items own.remainder.items taken s1r) c.take_by_s1r-own.ensures.own in
+    c.start.ensures ∙ ap (λ taken. in_s1r meets own.s1.items own.s2.items own.remainder.items taken s1r) c.own_by_s1r-own.ensures in
     let Idle = g.C.Cuts.Idle c.args.cuts.now in
     rw (← c.self.view_is) (passes-same (AllByRecursion Idle) _ _ _
-    (blocks-each Now Idle _ _ c.cuts_at_first.ensures.keeps (comes Now (λ a. a.s1r) (in_s1r meets own.s1.items own.s2.items own.remainder.items) _ (λ s1r idle. idle-behind-s1r Now own.s1.items _ own.s2.items _ s1r c.deref.ensures.0 c.deref-2.ensures.0 idle meets own.remainder.items) c.is_some.result at (c.is_some.ensures ∙ sym (some-lent own.resume)) own.s1r.choices.coming later s1r (drawn _ _ _ c.if-not-branch.false c.in_ok-choose_set.ensures.answer)))
+    (blocks-each Now Idle _ _ c.cuts_at_first.ensures.keeps (comes Now (λ a. a.s1r) (in_s1r meets own.s1.items own.s2.items own.remainder.items) _ (λ s1r idle. idle-behind-s1r Now own.s1.items _ own.s2.items _ s1r c.deref.ensures.0 c.deref-2.ensures.0 idle meets own.remainder.items) c.is_held.result at c.is_held.ensures own.s1r.choices.coming later s1r (drawn _ _ _ c.if-not-branch.false c.in_ok-choose_set.ensures.answer)))
     (ap (λ block. block ∷ s1r_blocks meets own.s1.items own.s2.items own.remainder.items None later) (sym made)
-    ∙ ap (λ resume. c.start.new.self ∷ s1r_blocks meets own.s1.items own.s2.items own.remainder.items (option_copied resume) later) (sym c.take_by_s1r-own.ensures.taken)))
+    ∙ ap (λ resume. c.start.new.self ∷ s1r_blocks meets own.s1.items own.s2.items own.remainder.items resume later) (sym c.clear.ensures)))
 
 pub returns-in_err-choose_set-clause-answer : goal.returns-in_err-choose_set-clause-answer
 returns-in_err-choose_set-clause-answer g c =
@@ -45,7 +45,7 @@ returns-in_err-choose_set-clause-answer g c =
     let meets = g.R.Rule.meets own.rule.now in
     let Now = g.C.Cuts.Idle c.cuts_at_first.new.self in
     rw (← c.self.view_is) (drawn-stopped _ _ _ _ c.from_residual.ensures.0 (
-      blocks-each Now Idle _ _ c.cuts_at_first.ensures.keeps (stops Now (λ a. a.s1r) (in_s1r meets own.s1.items own.s2.items own.remainder.items) _ (λ s1r idle. idle-behind-s1r Now own.s1.items _ own.s2.items _ s1r c.deref.ensures.0 c.deref-2.ensures.0 idle meets own.remainder.items) c.is_some.result (option_copied own.resume) (c.is_some.ensures ∙ sym (some-lent own.resume)) _ _ c.in_err-choose_set.ensures.answer.0),
+      blocks-each Now Idle _ _ c.cuts_at_first.ensures.keeps (stops Now (λ a. a.s1r) (in_s1r meets own.s1.items own.s2.items own.remainder.items) _ (λ s1r idle. idle-behind-s1r Now own.s1.items _ own.s2.items _ s1r c.deref.ensures.0 c.deref-2.ensures.0 idle meets own.remainder.items) c.is_held.result own.resume c.is_held.ensures _ _ c.in_err-choose_set.ensures.answer.0),
       c.in_err-choose_set.ensures.answer.1,
     ))
 
@@ -55,7 +55,7 @@ returns-then-not-branch-clause-answer g c =
     let Idle = g.C.Cuts.Idle c.args.cuts.now in
     let meets = g.R.Rule.meets own.rule.now in
     let Now = g.C.Cuts.Idle c.cuts_at_first.new.self in
-    rw (← c.self.view_is) (blocks-each Now Idle _ _ c.cuts_at_first.ensures.keeps (ends Now (λ a. a.s1r) (in_s1r meets own.s1.items own.s2.items own.remainder.items) _ (λ s1r idle. idle-behind-s1r Now own.s1.items _ own.s2.items _ s1r c.deref.ensures.0 c.deref-2.ensures.0 idle meets own.remainder.items) c.is_some.result (option_copied own.resume) (c.is_some.ensures ∙ sym (some-lent own.resume)) _ (drawn _ _ _ c.if-not-branch.true c.in_ok-choose_set.ensures.answer).0))
+    rw (← c.self.view_is) (blocks-each Now Idle _ _ c.cuts_at_first.ensures.keeps (ends Now (λ a. a.s1r) (in_s1r meets own.s1.items own.s2.items own.remainder.items) _ (λ s1r idle. idle-behind-s1r Now own.s1.items _ own.s2.items _ s1r c.deref.ensures.0 c.deref-2.ensures.0 idle meets own.remainder.items) c.is_held.result own.resume c.is_held.ensures _ (drawn _ _ _ c.if-not-branch.true c.in_ok-choose_set.ensures.answer).0))
 
 pub returns-in_err-choose_set-clause-keeps : goal.returns-in_err-choose_set-clause-keeps
 returns-in_err-choose_set-clause-keeps g c = λ a idle. c.cuts_at_first.ensures.keeps a (c.choose_set.ensures.keeps a idle)

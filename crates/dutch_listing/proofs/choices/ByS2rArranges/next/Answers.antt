@@ -1,4 +1,4 @@
-use Rattle.std.proofs.Common.{false, sym, ap, [], ◌∷◌, map, option_copied}
+use Rattle.std.proofs.Common.{false, sym, ap, [], ◌∷◌, map}
 use Rattle.dutch_arrangements.specs.Prelude.{arranged, without_own}
 use Rattle.dutch_listing.proofs.Blocks.{passes-arranged, same-lists}
 use Rattle.dutch_sequence.proofs.Skipping.{passes-none, passes-more, drawn, drawn-stopped}
@@ -24,4 +24,4 @@ returns-clause-answer g c =
     (sym c.refill.ensures) (sym c.refill-2.ensures) (sym c.refill-3.ensures) (sym c.refill-4.ensures) in
     rw (← c.self.view_is) (passes-more Idle _ _ _
     (passes-arranged Idle own.s1.items own.s2.items own.s1r.items _ _ _ [] false c.deref.ensures.0 c.deref-2.ensures.0 c.deref-3.ensures.0 _ _ (drawn _ _ _ c.if-not-branch.false c.in_ok-choose_other.ensures.answer))
-    (passes-none Idle _ _ (ap (λ a. a ∷ map (arranged own.s1.items own.s2.items own.s1r.items) (without_own (option_copied c.choose_other.new.others.resume) c.choose_other.new.others.s2r.choices.coming)) made)))
+    (passes-none Idle _ _ (ap (λ a. a ∷ map (arranged own.s1.items own.s2.items own.s1r.items) (without_own c.choose_other.new.others.resume c.choose_other.new.others.s2r.choices.coming)) made)))
