@@ -1,2 +1,4 @@
 pub mod CellsPut
 pub mod OneEntry
+pub mod AllEntries
+pub mod TheRest

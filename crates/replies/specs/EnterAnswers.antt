@@ -18,18 +18,19 @@ abbrev pub player_words : ℕ → List ℕ → List ℕ
 player_words player what = codes "words: player " ++ (decimal player ++ what)
 
 -- what is wrong with a player in a round
-abbrev pub round_words : ℕ → List ℕ → ℕ → List ℕ → List ℕ
-round_words player what round end' = codes "words: player " ++ (decimal player ++ (what ++ (decimal round ++ end')))
+abbrev pub round_words : ℕ → List ℕ → ℕ → List ℕ
+round_words player what round = codes "words: player " ++ (decimal player ++ (what ++ (decimal round ++ codes "\n")))
 
 -- why entries are refused [with enter_answer]
 abbrev pub entry_text : EntryFault → List ℕ
 entry_text (NotReached round) = round_not_reached_text round
 entry_text (NotKnown player) = player_words player (codes " is not known\n")
 entry_text (NamedTwice player) = player_words player (codes " is named twice\n")
-entry_text (HasGame player round) = round_words player (codes " has a game in round ") round (codes "\n")
-entry_text (NoGame player round) = round_words player (codes " has no game in round ") round (codes "\n")
-entry_text (NoColour player round) = round_words player (codes " has no colour in round ") round (codes "\n")
-entry_text (HasCell player round) = round_words player (codes " has a cell in round ") round (codes ", which --correct replaces\n")
+entry_text (HasGame player round) = round_words player (codes " has a game in round ") round
+entry_text (NoGame player round) = round_words player (codes " has no game in round ") round
+entry_text (NoColour player round) = round_words player (codes " has no colour in round ") round
+entry_text (HasCell player round) =
+    codes "words: player " ++ (decimal player ++ (codes " has a cell in round " ++ (decimal round ++ codes ", which --correct replaces\n")))
 entry_text (Refused fault) = fault_text fault
 entry_text OutOfMemory = memory_text
 

@@ -72,17 +72,16 @@ fn entry_text(alloc: Global, fault: EntryFault) -> Result<String, AllocError>
         EntryFault::NotKnown { player } => player_words(alloc, player, " is not known\n"),
         EntryFault::NamedTwice { player } => player_words(alloc, player, " is named twice\n"),
         EntryFault::HasGame { player, round } => {
-            round_words(alloc, player, " has a game in round ", round, "\n")
+            round_words(alloc, player, " has a game in round ", round)
         }
         EntryFault::NoGame { player, round } => {
-            round_words(alloc, player, " has no game in round ", round, "\n")
+            round_words(alloc, player, " has no game in round ", round)
         }
         EntryFault::NoColour { player, round } => {
-            round_words(alloc, player, " has no colour in round ", round, "\n")
+            round_words(alloc, player, " has no colour in round ", round)
         }
         EntryFault::HasCell { player, round } => {
-            let end = ", which --correct replaces\n";
-            round_words(alloc, player, " has a cell in round ", round, end)
+            format!(in alloc; "words: player {player} has a cell in round {round}, which --correct replaces\n")
         }
         EntryFault::Refused(fault) => refusal_texts::refused(alloc, fault),
         EntryFault::OutOfMemory => String::from_str(alloc, "memory: refused\n"),
@@ -97,14 +96,8 @@ fn player_words(alloc: Global, player: u16, what: &str) -> Result<String, AllocE
 }
 
 // What is wrong with a player in a round.
-fn round_words(
-    alloc: Global,
-    player: u16,
-    what: &str,
-    round: u8,
-    end: &str,
-) -> Result<String, AllocError>
-    ensures { IfOk result (λ text. string_bytes text ≡ round_words player what.now round end.now) }
+fn round_words(alloc: Global, player: u16, what: &str, round: u8) -> Result<String, AllocError>
+    ensures { IfOk result (λ text. string_bytes text ≡ round_words player what.now round) }
 {
-    format!(in alloc; "words: player {player}{what}{round}{end}")
+    format!(in alloc; "words: player {player}{what}{round}\n")
 }

@@ -20,7 +20,7 @@ pub returns-in-NoColour : goal.returns-in-NoColour
 returns-in-NoColour c = rw c.in-NoColour.is c.round_words-in-NoColour.ensures
 
 pub returns-in-HasCell : goal.returns-in-HasCell
-returns-in-HasCell c = rw c.in-HasCell.is c.round_words-in-HasCell.ensures
+returns-in-HasCell c = rw c.in-HasCell.is (search rules)
 
 pub returns-in-Refused : goal.returns-in-Refused
 returns-in-Refused c = rw c.in-Refused.is c.refused.ensures
