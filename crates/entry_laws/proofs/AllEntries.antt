@@ -41,7 +41,22 @@ within-append (x ∷ xs) ys wx wy = (wx.0, within-append xs ys wx.1 wy)
 -- the cells so far: whoever is not named by an entry so far has the opponent of the report
 pub record Kept (sheet : Sheet) (so_far : List NewCell) : Type 0 where
   pub free : (slot : Slot) → 0 < slot.round → is_named so_far slot ≡ false → opponent_in_cell (cell_now sheet so_far slot) ≡ opponent_in_cell (cell_in_slot sheet slot)
-  pub within : AreWithin so_far
+
+-- the cells of an entry are those of a round that a report may have
+in_report : (options : EntryOptions) (sheet : Sheet) (so_far more : List NewCell) (entry : HandEntry) (i : EntryIs options sheet so_far entry more) (new : NewCell)
+    → new.slot.round ≡ i.round → IsInReport new
+in_report options sheet so_far more entry i new same = (subst (λ n. 0 < n) (sym same) i.some, subst (λ n. n ≤ MOST_ROUNDS) (sym same) i.few)
+
+within_more : (options : EntryOptions) (sheet : Sheet) (so_far more : List NewCell) (entry : HandEntry) → with_entry options sheet so_far entry ≡ Ok more → AreWithin so_far → AreWithin more
+within_more options sheet so_far more entry e within =
+    let i = entry_is options sheet so_far more entry e in
+    subst AreWithin (sym i.more_is) (within-append so_far (listed i.new) within (by i i.new.second i.put.second))
+  where
+    by : (i : EntryIs options sheet so_far entry more) (second : Option NewCell) → IsSecond sheet so_far (record { player = entry.player; round = i.round }) entry.event second
+        → AreWithin (i.new.first ∷ option_map_or (λ second. second ∷ []) second [])
+    by i None s = (in_report options sheet so_far more entry i i.new.first (ap (λ (slot : Slot). slot.round) i.put.first), tt)
+    by i (Some second) s =
+        (in_report options sheet so_far more entry i i.new.first (ap (λ (slot : Slot). slot.round) i.put.first), (in_report options sheet so_far more entry i second s.0, tt))
 
 listed_free : (new : NewCells) (slot : Slot) (x : Cell) (o : Option ℕ) → opponent_in_cell x ≡ o → new.first.named ≡ true → is_named (listed new) slot ≡ false
     → ((second : NewCell) → new.second ≡ Some second → same_slot second.slot slot ≡ true → second.named ≡ false → opponent_in_cell second.cell ≡ o)
@@ -49,7 +64,7 @@ listed_free : (new : NewCells) (slot : Slot) (x : Cell) (o : Option ℕ) → opp
 listed_free new slot x o here named none later =
     let first = or_none (same_slot new.first.slot slot && new.first.named) (is_named (option_map_or (λ second. second ∷ []) new.second []) slot) none in
     let apart : same_slot new.first.slot slot ≡ false = and_true (same_slot new.first.slot slot) new.first.named first.0 named in
-    rw apart (by new.second refl first.1)
+    subst (λ b. opponent_in_cell (cell_after (option_map_or (λ second. second ∷ []) new.second []) slot (cond b new.first.cell x)) ≡ o) (sym apart) (by new.second refl first.1)
   where
     and_false : (a b : Bool) → ((a && b) || false) ≡ false → a ≡ true → b ≡ false
     and_false true true e is = absurd (true≢false e)
@@ -82,14 +97,13 @@ pub kept_more : (options : EntryOptions) (sheet : Sheet) (so_far more : List New
     → Kept sheet so_far → Kept sheet more
 kept_more options sheet so_far more entry answered e kept =
     let i = entry_is options sheet so_far more entry e in
-    let at = record { player = entry.player; round = i.round } in
+    let at : Slot = record { player = entry.player; round = i.round } in
     subst (Kept sheet) (sym i.more_is) (record {
       free = λ slot some none.
           let apart = or_none (is_named so_far slot) (is_named (listed i.new) slot) (sym (any-append (λ new. same_slot new.slot slot && new.named) so_far (listed i.new)) ∙ none) in
           ap opponent_in_cell (after-append so_far (listed i.new) slot (cell_in_slot sheet slot))
           ∙ listed_free i.new slot (cell_now sheet so_far slot) (opponent_in_cell (cell_in_slot sheet slot)) (kept.free slot some apart.0) i.put.named apart.1
           (λ second is same unnamed. second_is i slot second (subst (IsSecond sheet so_far at entry.event) is i.put.second) same unnamed);
-      within = within-append so_far (listed i.new) kept.within (listed_within i i.new.second i.put.second);
     })
   where
     second_is : (i : EntryIs options sheet so_far entry more) (slot : Slot) (second : NewCell)
@@ -104,15 +118,6 @@ kept_more options sheet so_far more entry answered e kept =
               let back : opponent_in_cell (cell_in sheet second.slot.player i.round) ≡ Some entry.player = (answered entry.player i.round second.slot.player i.some there).both_ways in
               met.1 ∙ sym back ∙ ap (λ r. opponent_in_cell (cell_in sheet second.slot.player r)) (sym s.0 ∙ parts.1) ∙ ap (λ p. opponent_in_cell (cell_in sheet p slot.round)) parts.0
         ]
-
-    in_report : (i : EntryIs options sheet so_far entry more) (new : NewCell) → new.slot.round ≡ i.round → IsInReport new
-    in_report i new same = (subst (λ n. 0 < n) (sym same) i.some, subst (λ n. n ≤ MOST_ROUNDS) (sym same) i.few)
-
-    listed_within : (i : EntryIs options sheet so_far entry more) (second : Option NewCell)
-        → IsSecond sheet so_far (record { player = entry.player; round = i.round }) entry.event second
-        → AreWithin (i.new.first ∷ option_map_or (λ second. second ∷ []) second [])
-    listed_within i None s = (in_report i i.new.first (ap (λ (slot : Slot). slot.round) i.put.first), tt)
-    listed_within i (Some second) s = (in_report i i.new.first (ap (λ (slot : Slot). slot.round) i.put.first), (in_report i second s.0, tt))
 
 -- an entry that does not concern a slot puts nothing into it
 pub none_more : (options : EntryOptions) (sheet : Sheet) (so_far more : List NewCell) (entry : HandEntry) (slot : Slot) → with_entry options sheet so_far entry ≡ Ok more
@@ -167,14 +172,6 @@ none_more options sheet so_far more entry slot e kept other none =
 
 -- ---- all entries
 
-pub all_kept : (options : EntryOptions) (sheet : Sheet) (so_far all : List NewCell) (entries : List HandEntry) → AnswerEachOther sheet → with_entries options sheet so_far entries ≡ Ok all
-    → Kept sheet so_far → Kept sheet all
-unfolding with_entries
-all_kept options sheet so_far all [] answered e kept = subst (Kept sheet) (same_ok so_far all e) kept
-all_kept options sheet so_far all (entry ∷ rest) answered e kept =
-    let one = then_ok (with_entry options sheet so_far entry) (λ more. with_entries options sheet more rest) all e in
-    all_kept options sheet one.0 all rest answered one.2 (kept_more options sheet so_far one.0 entry answered one.1 kept)
-
 pub all_none : (options : EntryOptions) (sheet : Sheet) (so_far all : List NewCell) (entries : List HandEntry) (slot : Slot) → AnswerEachOther sheet
     → with_entries options sheet so_far entries ≡ Ok all → Kept sheet so_far → concerns options sheet entries slot ≡ false → is_put so_far slot ≡ false → is_put all slot ≡ false
 unfolding with_entries
@@ -186,7 +183,15 @@ all_none options sheet so_far all (entry ∷ rest) slot answered e kept other no
     (none_more options sheet so_far one.0 entry slot one.1 kept apart.0 none)
 
 pub none_so_far : (sheet : Sheet) → Kept sheet []
-none_so_far sheet = record { free = λ slot some none. refl; within = tt }
+none_so_far sheet = record { free = λ slot some none. refl }
+
+pub all_within : (options : EntryOptions) (sheet : Sheet) (so_far all : List NewCell) (entries : List HandEntry) → with_entries options sheet so_far entries ≡ Ok all
+    → AreWithin so_far → AreWithin all
+unfolding with_entries
+all_within options sheet so_far all [] e within = subst AreWithin (same_ok so_far all e) within
+all_within options sheet so_far all (entry ∷ rest) e within =
+    let one = then_ok (with_entry options sheet so_far entry) (λ more. with_entries options sheet more rest) all e in
+    all_within options sheet one.0 all rest one.2 (within_more options sheet so_far one.0 entry one.1 within)
 
 -- ---- the report
 
@@ -228,6 +233,6 @@ pub unconcerned : (options : EntryOptions) (entries : List HandEntry) (sheet new
     → 0 < slot.round → concerns options sheet entries slot ≡ false → cell_in_slot new slot ≡ cell_in_slot sheet slot
 unconcerned options entries sheet new slot answered e some other =
     let i = entered_is options entries sheet new e in
-    let kept = all_kept options sheet [] i.all entries answered i.put (none_so_far sheet) in
+    let within = all_within options sheet [] i.all entries i.put tt in
     let none = all_none options sheet [] i.all entries slot answered i.put (none_so_far sheet) other refl in
-    ap (λ (s : Sheet). cell_in_slot s slot) (sym i.is) ∙ resummed-cell (with_new i.all sheet) slot.player slot.round ∙ with_new-cell i.all sheet slot kept.within some none
+    ap (λ (s : Sheet). cell_in_slot s slot) (sym i.is) ∙ resummed-cell (with_new i.all sheet) slot.player slot.round ∙ with_new-cell i.all sheet slot within some none

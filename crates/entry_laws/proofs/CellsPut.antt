@@ -112,8 +112,9 @@ after-append (new ∷ xs) ys slot cell = after-append xs ys slot (cond (same_slo
 
 pub any-append : (test : NewCell → Bool) (xs ys : List NewCell) → list_any test (xs ++ ys) ≡ (list_any test xs || list_any test ys)
 any-append test [] ys = refl
-any-append test (x ∷ xs) ys = by (test x)
+any-append test (x ∷ xs) ys = by (test x) (any-append test xs ys)
   where
-    by : (here : Bool) → (here || list_any test (xs ++ ys)) ≡ ((here || list_any test xs) || list_any test ys)
-    by true = refl
-    by false = any-append test xs ys
+    by : (here : Bool) → list_any test (xs ++ ys) ≡ (list_any test xs || list_any test ys)
+        → (here || list_any test (xs ++ ys)) ≡ ((here || list_any test xs) || list_any test ys)
+    by true later = refl
+    by false later = later

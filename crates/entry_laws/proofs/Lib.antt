@@ -2,3 +2,5 @@ pub mod CellsPut
 pub mod OneEntry
 pub mod AllEntries
 pub mod TheRest
+pub mod Answered
+pub mod AcceptedEntries

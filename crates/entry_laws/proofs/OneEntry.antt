@@ -73,31 +73,35 @@ coloured_opponent game old cell e = by (cell_of_game game.opponent game.score (c
 -- ---- what an entry puts
 
 -- the second cell: of the other player whom the entry names, or of the opponent, whose opponent the first one stays
-pub abbrev IsSecond : Sheet → List NewCell → Slot → Event → Option NewCell → Type 0
+abbrev pub IsSecond : Sheet → List NewCell → Slot → Event → Option NewCell → Type 0
 IsSecond sheet so_far slot event None = Unit {0}
 IsSecond sheet so_far slot event (Some second) =
     (second.slot.round ≡ slot.round)
     × (((second_of event ≡ Some second.slot.player) × (second.named ≡ true))
     ⊎ ((opponent_in_cell (cell_now sheet so_far slot) ≡ Some second.slot.player) × (opponent_in_cell second.cell ≡ Some slot.player)))
 
+-- whoever is there passes a test
+abbrev pub Passes : (ℕ → Bool) → Option ℕ → Type 0
+Passes test who = IfSome who (λ n. test n ≡ true)
+
 -- the opponents of its cells: the players whom the entry names, or the one who stands there
-pub abbrev OpponentsAre : (ℕ → Type 0) → NewCells → Type 0
-OpponentsAre Q new = IfSome (opponent_in_cell new.first.cell) Q × IfSome new.second (λ second. IfSome (opponent_in_cell second.cell) Q)
+abbrev pub OpponentsAre : (ℕ → Bool) → NewCells → Type 0
+OpponentsAre test new = Passes test (opponent_in_cell new.first.cell) × IfSome new.second (λ second. Passes test (opponent_in_cell second.cell))
 
 pub record IsPut (sheet : Sheet) (so_far : List NewCell) (slot : Slot) (event : Event) (new : NewCells) : Type 0 where
   pub first : new.first.slot ≡ slot
   pub named : new.first.named ≡ true
   pub second : IsSecond sheet so_far slot event new.second
-  pub opponents : (Q : ℕ → Type 0) → Q slot.player → IfSome (second_of event) Q → IfSome (opponent_in_cell (cell_now sheet so_far slot)) Q → OpponentsAre Q new
+  pub opponents : (test : ℕ → Bool) → test slot.player ≡ true → Passes test (second_of event) → Passes test (opponent_in_cell (cell_now sheet so_far slot)) → OpponentsAre test new
 
-if_some : (o : Option ℕ) (x : ℕ) (Q : ℕ → Type 0) → o ≡ Some x → Q x → IfSome o Q
-if_some o x Q e q = subst (λ (o : Option ℕ). IfSome o Q) (sym e) q
+if_some : (o : Option ℕ) (x : ℕ) (test : ℕ → Bool) → o ≡ Some x → test x ≡ true → Passes test o
+if_some o x test e q = subst (λ (o : Option ℕ). Passes test o) (sym e) q
 
-of_some : (o : Option ℕ) (x : ℕ) (Q : ℕ → Type 0) → o ≡ Some x → IfSome o Q → Q x
-of_some o x Q e q = subst (λ (o : Option ℕ). IfSome o Q) e q
+of_some : (o : Option ℕ) (x : ℕ) (test : ℕ → Bool) → o ≡ Some x → Passes test o → test x ≡ true
+of_some o x test e q = subst (λ (o : Option ℕ). Passes test o) e q
 
 alone_put : (sheet : Sheet) (so_far : List NewCell) (slot : Slot) (event : Event) (cell : Cell) (new : NewCells)
-    → ((Q : ℕ → Type 0) → IfSome (opponent_in_cell (cell_now sheet so_far slot)) Q → IfSome (opponent_in_cell cell) Q)
+    → ((test : ℕ → Bool) → Passes test (opponent_in_cell (cell_now sheet so_far slot)) → Passes test (opponent_in_cell cell))
     → named_alone slot cell ≡ new → IsPut sheet so_far slot event new
 alone_put sheet so_far slot event cell new opponents same = subst (IsPut sheet so_far slot event) same (record {
   first = refl;
@@ -171,7 +175,7 @@ cells_put sheet so_far slot Allocated new e =
 -- ---- the cells so far with those of an entry
 
 -- the one or two cells of an entry
-pub abbrev listed : NewCells → List NewCell
+abbrev pub listed : NewCells → List NewCell
 listed new = new.first ∷ option_map_or (λ second. second ∷ []) new.second []
 
 put_one : (correct : Bool) (sheet : Sheet) (so_far more : List NewCell) (new : NewCell) → with_new_cell correct sheet so_far new ≡ Ok more → so_far ++ new ∷ [] ≡ more
@@ -197,7 +201,7 @@ pub record EntryIs (options : EntryOptions) (sheet : Sheet) (so_far : List NewCe
   pub is : round_of options.round sheet entry.event ≡ round
   pub some : 0 < round
   pub few : round ≤ MOST_ROUNDS
-  pub known : known sheet entry.player ≡ true
+  pub player_known : known sheet entry.player ≡ true
   pub second_known : IfSome (second_of entry.event) (λ black. known sheet black ≡ true)
   pub once : is_named so_far (record { player = entry.player; round = round }) ≡ false
   pub new : NewCells
@@ -206,7 +210,7 @@ pub record EntryIs (options : EntryOptions) (sheet : Sheet) (so_far : List NewCe
 
 pub entry_is : (options : EntryOptions) (sheet : Sheet) (so_far more : List NewCell) (entry : HandEntry) → with_entry options sheet so_far entry ≡ Ok more
     → EntryIs options sheet so_far entry more
-unfolding with_entry
+unfolding with_entry reached are_known are_named_once
 entry_is options sheet so_far more entry e =
     let slot_at : ℕ → Slot = λ round. record { player = entry.player; round = round } in
     let put : NewCells → Result (List NewCell) EntryFault = λ new. with_new_cells options.correct sheet so_far new in
@@ -223,7 +227,7 @@ entry_is options sheet so_far more entry e =
       is = r.0;
       some = r.1;
       few = r.2;
-      known = k.0;
+      player_known = k.0;
       second_known = k.1;
       once = once_is one.0 three.0 three.1;
       new = four.0;
@@ -232,7 +236,6 @@ entry_is options sheet so_far more entry e =
     }
   where
     reached_is : (round : ℕ) → reached options sheet entry.event ≡ Ok round → (round_of options.round sheet entry.event ≡ round) × (0 < round) × (round ≤ MOST_ROUNDS)
-    unfolding reached
     reached_is round e =
         let asked = round_of options.round sheet entry.event in
         let p = passed (is_reached sheet asked) asked round (NotReached asked) e in
@@ -241,7 +244,6 @@ entry_is options sheet so_far more entry e =
         (p.1, subst (λ n. 0 < n) p.1 (ltb-true 0 asked within.0), subst (λ n. n ≤ MOST_ROUNDS) p.1 (leb-true asked MOST_ROUNDS few.1))
 
     known_is : (done : Unit {0}) → are_known sheet entry ≡ Ok done → (known sheet entry.player ≡ true) × IfSome (second_of entry.event) (λ black. known sheet black ≡ true)
-    unfolding are_known
     known_is done e =
         let g = guard (not (known sheet entry.player)) (NotKnown entry.player) _ done e in
         (not-false (known sheet entry.player) g.0, second (second_of entry.event) g.1)
@@ -251,5 +253,4 @@ entry_is options sheet so_far more entry e =
         second (Some black) e = (passed (known sheet black) tt done (NotKnown black) e).0
 
     once_is : (round : ℕ) (done : Unit {0}) → are_named_once so_far round entry ≡ Ok done → is_named so_far (record { player = entry.player; round = round }) ≡ false
-    unfolding are_named_once
     once_is round done e = (guard (is_named so_far (record { player = entry.player; round = round })) (NamedTwice entry.player) _ done e).0
