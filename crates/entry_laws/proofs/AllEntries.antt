@@ -82,7 +82,7 @@ listed_free new slot x o here named none later =
     by (Some second) is free = put second is (same_slot second.slot slot) refl free
 
 -- the two parts of a slot
-slot_is : (a b : Slot) → same_slot a b ≡ true → (a.player ≡ b.player) × (a.round ≡ b.round)
+pub slot_is : (a b : Slot) → same_slot a b ≡ true → (a.player ≡ b.player) × (a.round ≡ b.round)
 slot_is a b e =
     let both = and_parts (a.player == b.player) (a.round == b.round) e in
     (eqb-true a.player b.player both.0, eqb-true a.round b.round both.1)

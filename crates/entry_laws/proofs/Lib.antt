@@ -4,3 +4,4 @@ pub mod AllEntries
 pub mod TheRest
 pub mod Answered
 pub mod AcceptedEntries
+pub mod WhatStands

@@ -61,7 +61,7 @@ game_opponent opponent score (Some colour) cell e =
     let same : cell_with opponent score colour ≡ cell = cc in
     ap opponent_in_cell (sym same) ∙ with_opponent opponent score colour
 
-coloured_opponent : (game : GameOf) (old cell : Cell) → coloured game old ≡ Ok cell → opponent_in_cell cell ≡ Some game.opponent
+pub coloured_opponent : (game : GameOf) (old cell : Cell) → coloured game old ≡ Ok cell → opponent_in_cell cell ≡ Some game.opponent
 unfolding coloured
 coloured_opponent game old cell e = by (cell_of_game game.opponent game.score (colour_in_cell old)) refl e
   where
@@ -205,6 +205,7 @@ pub record EntryIs (options : EntryOptions) (sheet : Sheet) (so_far : List NewCe
   pub second_known : IfSome (second_of entry.event) (λ black. known sheet black ≡ true)
   pub once : is_named so_far (record { player = entry.player; round = round }) ≡ false
   pub new : NewCells
+  pub cells : cells_by sheet so_far (record { player = entry.player; round = round }) entry.event ≡ Ok new
   pub put : IsPut sheet so_far (record { player = entry.player; round = round }) entry.event new
   pub more_is : more ≡ so_far ++ listed new
 
@@ -231,6 +232,7 @@ entry_is options sheet so_far more entry e =
       second_known = k.1;
       once = once_is one.0 three.0 three.1;
       new = four.0;
+      cells = four.1;
       put = cells_put sheet so_far (slot_at one.0) entry.event four.0 four.1;
       more_is = put_all options.correct sheet so_far more four.0 four.2;
     }
