@@ -3,7 +3,7 @@ use Rattle.std.specs.Prelude.{◌≡◌, Result, Ok, Err}
 use Rattle.entries.specs.declared.fault.EntryFault.{EntryFault}
 use Rattle.entries.specs.declared.fault.EntryFault.TheVariants.{OutOfMemory}
 
--- the fault that a call answers is the one that the definition gives, or memory was refused
+-- the fault that a call answers is the one that the definition gives, or memory was refused [with Gives]
 abbrev pub Fails : {Y : Type 0} → EntryFault → Result Y EntryFault → Type 0
 Fails OutOfMemory given = Unit {0}
 Fails fault given = given ≡ Err fault
