@@ -28,7 +28,7 @@ pub or_none : (a b : Bool) → (a || b) ≡ false → (a ≡ false) × (b ≡ fa
 or_none true b e = absurd (true≢false e)
 or_none false b e = (refl, e)
 
-and_true : (a b : Bool) → (a && b) ≡ false → b ≡ true → a ≡ false
+pub and_true : (a b : Bool) → (a && b) ≡ false → b ≡ true → a ≡ false
 and_true true b e is = absurd (true≢false (sym is ∙ e))
 and_true false b e is = refl
 
@@ -47,7 +47,7 @@ in_report : (options : EntryOptions) (sheet : Sheet) (so_far more : List NewCell
     → new.slot.round ≡ i.round → IsInReport new
 in_report options sheet so_far more entry i new same = (subst (λ n. 0 < n) (sym same) i.some, subst (λ n. n ≤ MOST_ROUNDS) (sym same) i.few)
 
-within_more : (options : EntryOptions) (sheet : Sheet) (so_far more : List NewCell) (entry : HandEntry) → with_entry options sheet so_far entry ≡ Ok more → AreWithin so_far → AreWithin more
+pub within_more : (options : EntryOptions) (sheet : Sheet) (so_far more : List NewCell) (entry : HandEntry) → with_entry options sheet so_far entry ≡ Ok more → AreWithin so_far → AreWithin more
 within_more options sheet so_far more entry e within =
     let i = entry_is options sheet so_far more entry e in
     subst AreWithin (sym i.more_is) (within-append so_far (listed i.new) within (by i i.new.second i.put.second))
@@ -88,7 +88,7 @@ slot_is a b e =
     (eqb-true a.player b.player both.0, eqb-true a.round b.round both.1)
 
 -- the opponent whom the player of an entry has in the report, where an entry so far does not name that player
-meets_there : (options : EntryOptions) (sheet : Sheet) (so_far more : List NewCell) (entry : HandEntry) (i : EntryIs options sheet so_far entry more) → Kept sheet so_far
+pub meets_there : (options : EntryOptions) (sheet : Sheet) (so_far more : List NewCell) (entry : HandEntry) (i : EntryIs options sheet so_far entry more) → Kept sheet so_far
     → (opponent : ℕ) → opponent_in_cell (cell_now sheet so_far (record { player = entry.player; round = i.round })) ≡ Some opponent
     → opponent_in_cell (cell_in sheet entry.player i.round) ≡ Some opponent
 meets_there options sheet so_far more entry i kept opponent meets = sym (kept.free (record { player = entry.player; round = i.round }) i.some i.once) ∙ meets
@@ -120,18 +120,12 @@ kept_more options sheet so_far more entry answered e kept =
         ]
 
 -- an entry that does not concern a slot puts nothing into it
-pub none_more : (options : EntryOptions) (sheet : Sheet) (so_far more : List NewCell) (entry : HandEntry) (slot : Slot) → with_entry options sheet so_far entry ≡ Ok more
-    → Kept sheet so_far → concerns_slot options sheet slot entry ≡ false → is_put so_far slot ≡ false → is_put more slot ≡ false
-none_more options sheet so_far more entry slot e kept other none =
-    let i = entry_is options sheet so_far more entry e in
-    let far = subst (λ r. ((r == slot.round) && ((entry.player == slot.player) || (is_player slot.player (second_of entry.event) || is_player slot.player (opponent_in_cell (cell_in sheet entry.player slot.round))))) ≡ false) i.is other in
-    subst (λ (cells : List NewCell). is_put cells slot ≡ false) (sym i.more_is)
-    (any-append (λ new. same_slot new.slot slot) so_far (listed i.new) ∙ both (is_put so_far slot) (is_put (listed i.new) slot) none
-    (by i (i.round == slot.round) refl far))
+pub listed_apart : (options : EntryOptions) (sheet : Sheet) (so_far more : List NewCell) (entry : HandEntry) (slot : Slot) (i : EntryIs options sheet so_far entry more)
+    → Kept sheet so_far → concerns_slot options sheet slot entry ≡ false → is_put (listed i.new) slot ≡ false
+listed_apart options sheet so_far more entry slot i kept other =
+    by i (i.round == slot.round) refl
+    (subst (λ r. ((r == slot.round) && ((entry.player == slot.player) || (is_player slot.player (second_of entry.event) || is_player slot.player (opponent_in_cell (cell_in sheet entry.player slot.round))))) ≡ false) i.is other)
   where
-    both : (a b : Bool) → a ≡ false → b ≡ false → (a || b) ≡ false
-    both a b ea eb = rw (ea, eb) refl
-
     apart_by_round : (a : Slot) → (a.round == slot.round) ≡ false → same_slot a slot ≡ false
     apart_by_round a e = rw e (go (a.player == slot.player))
       where
@@ -169,6 +163,17 @@ none_more options sheet so_far more entry slot e kept other none =
               named_of (opponent_in_cell (cell_in sheet entry.player slot.round)) s.slot.player two.1
               (ap (λ r. opponent_in_cell (cell_in sheet entry.player r)) (sym (eqb-true i.round slot.round e)) ∙ meets_there options sheet so_far more entry i kept s.slot.player met.0)
         ]))
+
+pub none_more : (options : EntryOptions) (sheet : Sheet) (so_far more : List NewCell) (entry : HandEntry) (slot : Slot) → with_entry options sheet so_far entry ≡ Ok more
+    → Kept sheet so_far → concerns_slot options sheet slot entry ≡ false → is_put so_far slot ≡ false → is_put more slot ≡ false
+none_more options sheet so_far more entry slot e kept other none =
+    let i = entry_is options sheet so_far more entry e in
+    subst (λ (cells : List NewCell). is_put cells slot ≡ false) (sym i.more_is)
+    (any-append (λ new. same_slot new.slot slot) so_far (listed i.new) ∙ both (is_put so_far slot) (is_put (listed i.new) slot) none
+    (listed_apart options sheet so_far more entry slot i kept other))
+  where
+    both : (a b : Bool) → a ≡ false → b ≡ false → (a || b) ≡ false
+    both a b ea eb = rw (ea, eb) refl
 
 -- ---- all entries
 

@@ -5,3 +5,4 @@ pub mod TheRest
 pub mod Answered
 pub mod AcceptedEntries
 pub mod WhatStands
+pub mod Commute

@@ -34,7 +34,7 @@ then_ok (Err fault) next y e = absurd (cc)
 pub same_ok : {A : Type 0} (x y : A) → ◌≡◌ {A = Result A EntryFault} (Ok x) (Ok y) → x ≡ y
 same_ok x y e = cc
 
-passed : {A : Type 0} (b : Bool) (x y : A) (fault : EntryFault) → cond b (Ok x) (Err fault) ≡ Ok y → (b ≡ true) × (x ≡ y)
+pub passed : {A : Type 0} (b : Bool) (x y : A) (fault : EntryFault) → cond b (Ok x) (Err fault) ≡ Ok y → (b ≡ true) × (x ≡ y)
 passed true x y fault e = (refl, same_ok x y e)
 passed false x y fault e = absurd (cc)
 
@@ -178,7 +178,7 @@ cells_put sheet so_far slot Allocated new e =
 abbrev pub listed : NewCells → List NewCell
 listed new = new.first ∷ option_map_or (λ second. second ∷ []) new.second []
 
-put_one : (correct : Bool) (sheet : Sheet) (so_far more : List NewCell) (new : NewCell) → with_new_cell correct sheet so_far new ≡ Ok more → so_far ++ new ∷ [] ≡ more
+pub put_one : (correct : Bool) (sheet : Sheet) (so_far more : List NewCell) (new : NewCell) → with_new_cell correct sheet so_far new ≡ Ok more → so_far ++ new ∷ [] ≡ more
 unfolding with_new_cell
 put_one correct sheet so_far more new e = (passed (may_be_put correct sheet so_far new) (so_far ++ new ∷ []) more (HasCell new.slot.player new.slot.round) e).1
 
@@ -205,6 +205,10 @@ pub record EntryIs (options : EntryOptions) (sheet : Sheet) (so_far : List NewCe
   pub second_known : IfSome (second_of entry.event) (λ black. known sheet black ≡ true)
   pub once : is_named so_far (record { player = entry.player; round = round }) ≡ false
   pub new : NewCells
+  pub reached_ok : reached options sheet entry.event ≡ Ok round
+  pub known_ok : are_known sheet entry ≡ Ok (tt {0})
+  pub once_ok : are_named_once so_far round entry ≡ Ok (tt {0})
+  pub put_ok : with_new_cells options.correct sheet so_far new ≡ Ok more
   pub cells : cells_by sheet so_far (record { player = entry.player; round = round }) entry.event ≡ Ok new
   pub put : IsPut sheet so_far (record { player = entry.player; round = round }) entry.event new
   pub more_is : more ≡ so_far ++ listed new
@@ -232,6 +236,10 @@ entry_is options sheet so_far more entry e =
       second_known = k.1;
       once = once_is one.0 three.0 three.1;
       new = four.0;
+      reached_ok = one.1;
+      known_ok = two.1;
+      once_ok = three.1;
+      put_ok = four.2;
       cells = four.1;
       put = cells_put sheet so_far (slot_at one.0) entry.event four.0 four.1;
       more_is = put_all options.correct sheet so_far more four.0 four.2;

@@ -23,6 +23,10 @@ concerns_slot options sheet slot entry =
 abbrev pub concerns : EntryOptions → Sheet → List HandEntry → Slot → Bool
 concerns options sheet entries slot = list_any (concerns_slot options sheet slot) entries
 
+-- two entries are for different games: no cell of a player in a round is one that both concern [own]
+abbrev pub AreApart : EntryOptions → Sheet → HandEntry → HandEntry → Type 0
+AreApart options sheet a b = (slot : Slot) → (concerns_slot options sheet slot a && concerns_slot options sheet slot b) ≡ false
+
 -- a player without the points field and the cells
 abbrev pub front_of : Entry → Entry
 front_of entry = record entry { points = None; cells = [] }
