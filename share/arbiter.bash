@@ -1,7 +1,7 @@
 # Completions of arbiter for bash.
 _arbiter() {
     local word=${COMP_WORDS[COMP_CWORD]} before=${COMP_WORDS[COMP_CWORD - 1]} words= front=
-    local commands="check format pair boards candidates explain standings help"
+    local commands="check format enter pair boards candidates explain standings help"
     COMPREPLY=()
     case $before in
         '<' | '>' | '>>') compopt -o default; return ;;
@@ -15,6 +15,7 @@ _arbiter() {
                 2,help) words=$commands ;;
                 *,check) words="--notes --bye --help" ;;
                 *,format) words="--round --points --renumber --bye --help" ;;
+                *,enter) words="--round --correct --bye --help" ;;
                 *,pair) words="--round --rounds --initial --steps --report --names --bye --help" ;;
                 *,boards) words="--round --names --bye --help" ;;
                 *,candidates) words="--bracket --from --count --round --rounds --initial --steps --bye --help" ;;

@@ -10,14 +10,15 @@ use Rattle.dutch_arrangements.specs.Prelude.{has_syntax}
 use Rattle.trf16_report.specs.declared.cell.Colour.{Colour}
 use Rattle.command_line.specs.Known.{CanBeAnswered}
 use Rattle.round_commands.specs.Known.{HasFewRounds}
-use Rattle.requests.specs.Prelude.{boards_options, bye_in, candidates_options, check_options, explain_options, flag_in, format_options, initial_in, number_in, number_of, pair_options, round_in, rounds_in, shown_by, standings_options, steps_in, AsksFor, arbiter_app, candidates_request, explain_request, pair_request, request_of, standings_request, task_by, with_bye}
+use Rattle.requests.specs.Prelude.{boards_options, bye_in, candidates_options, check_options, enter_options, enter_request, enter_request_with, explain_options, other_request_of, flag_in, format_options, initial_in, number_in, number_of, pair_options, round_in, rounds_in, shown_by, standings_options, steps_in, AsksFor, arbiter_app, candidates_request, explain_request, pair_request, request_of, standings_request, task_by, with_bye}
 use Rattle.requests.specs.Options.{◌>>=◌}
+use Rattle.requests.specs.declared.options.EnterOptions.{EnterOptions}
 use Rattle.requests.specs.declared.options.PairOptions.{PairOptions}
 use Rattle.requests.specs.declared.options.Shown.{Shown}
 use Rattle.requests.specs.declared.options.WordFault.{WordFault}
 use Rattle.requests.specs.declared.words.Task.{Task}
 use Rattle.requests.specs.declared.words.Request.{Request}
-use Rattle.requests.specs.declared.words.Request.TheVariants.{Check, Format, Pair, Boards, Candidates, Explain, Standings}
+use Rattle.requests.specs.declared.words.Request.TheVariants.{Check, Format, Enter, Pair, Boards, Candidates, Explain, Standings}
 use Rattle.trf16_report.specs.declared.limits.TheConstants.{MOST_ROUNDS}
 
 -- what a step gives that met no fault
@@ -83,10 +84,23 @@ asked_at rows request false false false false false false true e =
     asked_of (standings_options rows) (λ options. Standings options) (λ options e. tt) request (some_ok (standings_request rows) (Ok request) e)
 asked_at rows request false false false false false false false e = let bad : None ≡ Some (let made : Result Request WordFault = Ok request in made) = e in cc
 
+enter_asked : (made : Result EnterOptions WordFault) (request : Request) → enter_request_with made ≡ Ok request → CanBeAnswered request
+enter_asked (Ok options) request e = subst CanBeAnswered (same_ok (Enter options) request e) tt
+enter_asked (Err fault) request e = absurd (not_ok fault request e)
+
+other_asked : (name : Text) (rows : List Row) (request : Request) → other_request_of name rows ≡ Some (Ok request) → CanBeAnswered request
+other_asked name rows request e =
+    asked_at rows request (bytes_eq name (codes "check")) (bytes_eq name (codes "format")) (bytes_eq name (codes "pair")) (bytes_eq name (codes "boards")) (bytes_eq name (codes "candidates")) (bytes_eq name (codes "explain")) (bytes_eq name (codes "standings")) e
+
+first_asked : (name : Text) (rows : List Row) (request : Request) (enter : Bool) → cond enter (Some (enter_request rows)) (other_request_of name rows) ≡ Some (Ok request)
+    → CanBeAnswered request
+first_asked name rows request true e = enter_asked (enter_options rows) request (some_ok (enter_request rows) (Ok request) e)
+first_asked name rows request false e = other_asked name rows request e
+
 command_asked : (command : Text × List Row) (request : Request) → request_of command.0 command.1 ≡ Some (Ok request) → CanBeAnswered request
 command_asked command request e =
     let name : Text = command.0 in
-    asked_at command.1 request (bytes_eq name (codes "check")) (bytes_eq name (codes "format")) (bytes_eq name (codes "pair")) (bytes_eq name (codes "boards")) (bytes_eq name (codes "candidates")) (bytes_eq name (codes "explain")) (bytes_eq name (codes "standings")) e
+    first_asked name command.1 request (bytes_eq name (codes "enter")) e
 
 -- what a command comes to
 abbrev asks : Request → Option (Result Request WordFault)

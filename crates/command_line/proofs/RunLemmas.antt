@@ -13,7 +13,7 @@ use Rattle.report_notes.specs.declared.encoding.ByteOrder.{ByteOrder}
 use Rattle.std.specs.Option.{option_map_or}
 use Rattle.command_line.specs.Run.{IsAnswered, IsInput}
 use Rattle.requests.specs.declared.words.Request.{Request}
-use Rattle.requests.specs.declared.words.Request.TheVariants.{Check, Format, Pair, Boards, Candidates, Explain, Standings}
+use Rattle.requests.specs.declared.words.Request.TheVariants.{Check, Format, Enter, Pair, Boards, Candidates, Explain, Standings}
 use Rattle.requests.specs.declared.words.Task.{Task}
 use Rattle.trf16_report.specs.declared.limits.TheConstants.{MOST_BYTES}
 
@@ -37,6 +37,7 @@ format-long true bytes bye h = unsummed-long bytes bye h
 verdict_for-long : (request : Request) (bytes : List ℕ) (bye : ℕ) → most_read ≤ length bytes → verdict_for request bytes bye ≡ Err (TooMany Bytes)
 verdict_for-long (Check options) bytes bye h = verdict-long bytes bye h
 verdict_for-long (Format options) bytes bye h = format-long options.points bytes bye h
+verdict_for-long (Enter options) bytes bye h = unsummed-long bytes bye h
 verdict_for-long (Pair options) bytes bye h = verdict-long bytes bye h
 verdict_for-long (Boards options) bytes bye h = verdict-long bytes bye h
 verdict_for-long (Candidates options) bytes bye h = verdict-long bytes bye h
@@ -61,6 +62,7 @@ refused_alike : (request : Request) (input rest : List ℕ) (bye : ℕ) (answer 
     → AnswersReport request input bye (Err (TooMany Bytes)) answer → AnswersReport request (input ++ rest) bye (Err (TooMany Bytes)) answer
 refused_alike (Check options) input rest bye answer long h = h ∙ check_alike options.notes input rest bye long
 refused_alike (Format options) input rest bye answer long h = h
+refused_alike (Enter options) input rest bye answer long h = h
 refused_alike (Pair options) input rest bye answer long h = h
 refused_alike (Boards options) input rest bye answer long h = h
 refused_alike (Candidates options) input rest bye answer long h = h

@@ -1,19 +1,22 @@
 // A run of the program: from its words and the bytes of its input to the text that it writes.
-ghost use Rattle.std.specs.Prelude.{◌≡◌, ◌≤◌, ◌+◌, IfOk, map};
+ghost use Rattle.std.specs.Prelude.{◌≡◌, ◌⊎◌, ◌≤◌, ◌+◌, IfOk, map};
 ghost use Rattle.command_line.specs.Commands.{Answers};
 ghost use Rattle.command_line.specs.Known.{CanBeAnswered};
 ghost use Rattle.replies.specs.Prelude.{out_of_memory, read_fault, reading_of, most_read, answer_of};
 ghost use Rattle.trf16_report.specs.Prelude.{use_of};
+ghost use Rattle.replies.specs.Prelude.{words_refusal};
 ghost use Rattle.command_line.specs.Run.{IsAnswer, IsReplyTo, IsRun};
 ghost use Rattle.requests.specs.Prelude.{meant};
 
 use crate::explain::explain;
 use dutch_choice::finder::Finder;
 use replies::check::check;
+use replies::enter::enter;
 use replies::format::format;
+use replies::refusal::words_refused;
 use replies::standings::standings;
-use replies::{InputFault, Reply, Status, read_input, texts};
-use requests::{Meaning, Request, Task, meant, read_words};
+use replies::{InputFault, Reply, Status, read_input};
+use requests::{Meaning, Request, Task, WordFault, meant, read_words};
 use round_commands::boards::boards;
 use round_commands::candidates::candidates;
 use round_commands::pair::pair;
@@ -65,7 +68,17 @@ fn reply_to<'a, F: Finder, R: Source>(alloc: Global, words: &'a [&'a str], reade
         Ok(Meaning::Command(task)) => reply_to_task::<F, R>(alloc, task, reader),
         Ok(Meaning::Help(text)) => Reply::made(Status::Done, text),
         Ok(Meaning::Mistake(text)) => Reply::made(Status::BadWords, text),
-        Ok(Meaning::Refused(fault)) => Reply::fixed(Status::BadWords, texts::bad_words(fault)),
+        Ok(Meaning::Refused(fault)) => reply_to_fault(alloc, fault),
+        Err(AllocError) => out_of_memory(),
+    }
+}
+
+// What is answered where an option says what clap lets pass.
+fn reply_to_fault(alloc: Global, fault: WordFault) -> Reply
+    ensures { (answer_of result ≡ words_refusal fault) ⊎ (answer_of result ≡ out_of_memory) }
+{
+    match words_refused(alloc, fault) {
+        Ok(reply) => reply,
         Err(AllocError) => out_of_memory(),
     }
 }
@@ -99,6 +112,7 @@ fn answer<F: Finder>(alloc: Global, task: Task<'_>, input: &[u8]) -> Result<Repl
     match request {
         Request::Check(options) => check(alloc, options, input, bye),
         Request::Format(options) => format(alloc, options, input, bye),
+        Request::Enter(options) => enter(alloc, &options, input, bye),
         Request::Boards(options) => boards(alloc, options, input, bye),
         Request::Candidates(options) => candidates::<F>(alloc, &options, input, bye),
         Request::Explain(options) => explain::<F>(alloc, options, input, bye),

@@ -15,5 +15,6 @@ pub mod Tables
 pub mod GameTexts
 pub mod WallTexts
 pub mod StandingsAnswers
+pub mod EnterAnswers
 pub mod Prelude
 pub mod Views

@@ -4,7 +4,7 @@ pub use Rattle.replies.specs.Input.{IsRead, ReadsInput, most_read}
 pub use Rattle.replies.specs.RefusalTexts.{excess_text, fault_text, field_text, line_text, memory_text, round_text, tie_text, unread_text}
 pub use Rattle.replies.specs.Texts.{accepted_text, not_of_bracket_text, not_reached_text, question_text, read_text, round_not_reached_text, word_text, write_text}
 pub use Rattle.replies.specs.Questions.{instead_fault, question_fault}
-pub use Rattle.replies.specs.Statuses.{Answer, behind, code_of, done, field_refusal, is_output, no_pairing, not_of_bracket, not_reached, out_of_memory, plain, question_refusal, read_fault, refusal, round_not_reached, tie_refusal, undecided, unread_refusal}
+pub use Rattle.replies.specs.Statuses.{Answer, behind, code_of, done, field_refusal, is_output, no_pairing, not_of_bracket, not_reached, out_of_memory, plain, question_refusal, read_fault, refusal, round_not_reached, tie_refusal, undecided, unread_refusal, words_refusal}
 pub use Rattle.replies.specs.Replies.{answer_of, note_of, text_of}
 pub use Rattle.replies.specs.WrittenAnswers.{HasInTurn, HasTextOrPart, IsCut, IsNoteCut, IsNoted, IsOnStandardError, IsPrinted, IsToldWith, IsWritten, IsWrittenTo}
 pub use Rattle.replies.specs.NoteTexts.{kind_named, kind_text, line_front, note_text, notes_text, round_front}
@@ -19,4 +19,5 @@ pub use Rattle.replies.specs.GameTexts.{game_text, games_labels, games_text}
 pub use Rattle.replies.specs.WallTexts.{boards_labels, marks_labels, named_boards_text, named_rows_text, opponent_labels, paired_labels, played_boards_text, played_labels, result_labels, result_mark, rows_labels, values_labels}
 unfoldable pub use Rattle.replies.specs.WallTexts.{board_labels, player_labels, row_labels}
 pub use Rattle.replies.specs.StandingsAnswers.{lines_text, rounds_shown, standings_answer, table_answer}
+pub use Rattle.replies.specs.EnterAnswers.{enter_answer, entered_answer, entry_options, entry_refusal, entry_text, player_words, round_words}
 pub use Rattle.replies.specs.Views.{seen_before, unseen_answer}

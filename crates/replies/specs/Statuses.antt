@@ -7,8 +7,9 @@ use Rattle.tables.specs.declared.fault.TieFault.TheVariants.{OutOfMemory as TieM
 use Rattle.trf16_report.specs.declared.fault.Fault.{Fault}
 use Rattle.trf16_report.specs.declared.fault.Fault.TheVariants.{OutOfMemory}
 use Rattle.replies.specs.RefusalTexts.{fault_text, field_text, memory_text, tie_text, unread_text}
-use Rattle.replies.specs.Texts.{not_of_bracket_text, not_reached_text, question_text, read_text, round_not_reached_text}
+use Rattle.replies.specs.Texts.{not_of_bracket_text, not_reached_text, question_text, read_text, round_not_reached_text, word_text}
 use Rattle.common_texts.specs.Texts.{undecided_text}
+use Rattle.requests.specs.declared.options.WordFault.{WordFault}
 use Rattle.replies.specs.declared.question.QuestionFault.{QuestionFault}
 use Rattle.replies.specs.declared.reply.Status.{Status}
 use Rattle.replies.specs.declared.reply.Status.TheVariants.{Done, Refused, BadWords, NoPairing, Undecided, Trouble}
@@ -74,6 +75,10 @@ field_refusal fault = plain Refused (field_text fault)
 -- the players whom a question names are refused [with refusal]
 abbrev pub question_refusal : QuestionFault → Answer
 question_refusal fault = plain BadWords (question_text fault)
+
+-- words that clap lets pass are refused for what an option says [with refusal]
+abbrev pub words_refusal : WordFault → Answer
+words_refusal fault = plain BadWords (word_text fault)
 
 -- no pairing meets the absolute criteria [with refusal]
 abbrev pub no_pairing : Answer

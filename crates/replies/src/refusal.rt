@@ -2,7 +2,7 @@
 // first.
 ghost use Rattle.std.specs.Prelude.{◌≡◌, IfOk};
 ghost use Rattle.replies.specs.Statuses.{field_refusal, no_pairing, question_refusal, refusal, round_not_reached};
-ghost use Rattle.replies.specs.Statuses.{unread_refusal};
+ghost use Rattle.replies.specs.Statuses.{unread_refusal, words_refusal};
 ghost use Rattle.replies.specs.Statuses.{tie_refusal, undecided};
 ghost use Rattle.replies.specs.Replies.{answer_of};
 
@@ -10,6 +10,7 @@ use crate::question::QuestionFault;
 use crate::reply::{Reply, Status};
 use crate::{refusal_texts, texts};
 use dutch_player::FieldFault;
+use requests::WordFault;
 use std::alloc::{AllocError, Global};
 use tables::TieFault;
 use trf16_report::Fault;
@@ -63,6 +64,13 @@ pub fn cannot_be_asked(alloc: Global, fault: QuestionFault) -> Result<Reply, All
     ensures { IfOk result (λ reply. answer_of reply ≡ question_refusal fault) }
 {
     Ok(Reply::made(Status::BadWords, texts::bad_question(alloc, fault)?))
+}
+
+/// What is wrong with words that clap lets pass.
+pub fn words_refused(alloc: Global, fault: WordFault) -> Result<Reply, AllocError>
+    ensures { IfOk result (λ reply. answer_of reply ≡ words_refusal fault) }
+{
+    Ok(Reply::made(Status::BadWords, texts::bad_words(alloc, fault)?))
 }
 
 /// The report does not reach a round.

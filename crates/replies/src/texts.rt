@@ -9,15 +9,18 @@ use requests::WordFault;
 use std::alloc::{AllocError, Global};
 
 /// What is wrong with words that clap lets pass.
-pub fn bad_words(fault: WordFault) -> &'static str
-    ensures { result.now ≡ word_text fault }
+pub fn bad_words(alloc: Global, fault: WordFault) -> Result<String, AllocError>
+    ensures { IfOk result (λ text. string_bytes text ≡ word_text fault) }
 {
     match fault {
-        WordFault::BadColour => "words: bad colour\n",
-        WordFault::BadKeys => "words: bad keys\n",
-        WordFault::BadCursor => "words: bad cursor\n",
-        WordFault::NamesAndReport => "words: names or report, not both\n",
-        WordFault::InsteadAlone => "words: instead wants a player\n",
+        WordFault::BadColour => String::from_str(alloc, "words: bad colour\n"),
+        WordFault::BadKeys => String::from_str(alloc, "words: bad keys\n"),
+        WordFault::BadCursor => String::from_str(alloc, "words: bad cursor\n"),
+        WordFault::NamesAndReport => {
+            String::from_str(alloc, "words: names or report, not both\n")
+        }
+        WordFault::InsteadAlone => String::from_str(alloc, "words: instead wants a player\n"),
+        WordFault::BadEntry { place } => format!(in alloc; "words: bad entry {place}\n"),
     }
 }
 

@@ -4,3 +4,4 @@ pub mod KeyRule
 pub mod OptionLemmas
 pub mod HelpLemmas
 pub mod RequestLemmas
+pub mod EntryWordLemmas

@@ -89,7 +89,7 @@ task_made app words named required enabled accepted none = go (entered (built ap
 commands_named : AreNamed (built arbiter_app).subs
 unfolding commands_on_literals
 commands_named =
-    (inl (λ rows. refl), (inl (λ rows. refl), (inl (λ rows. refl), (inl (λ rows. refl), (inl (λ rows. refl), (inl (λ rows. refl), (inl (λ rows. refl), (inr refl, tt))))))))
+    (inl (λ rows. refl), (inl (λ rows. refl), (inl (λ rows. refl), (inl (λ rows. refl), (inl (λ rows. refl), (inl (λ rows. refl), (inl (λ rows. refl), (inl (λ rows. refl), (inr refl, tt)))))))))
 
 -- no words that clap's rules accept make no task
 pub no_words_without : (app : App) (words : List Text) (made : Option (Text × List Row)) → app ≡ arbiter_app → fault_of app words ≡ []

@@ -1,15 +1,16 @@
 -- The commands with options, and their options, as clap's rules see them.
 use Rattle.std.specs.Prelude.{◌≡◌, List, pos, true, Some, codes}
 use Rattle.std.specs.List.{fold}
+use Rattle.clap.specs.Lexer.{usize_max}
 use Rattle.clap.specs.Words.{App, Rule, Text, new_app, new_rule, with_rule}
 use Rattle.clap.specs.declared.Command.{Command, out-Command}
 use Rattle.clap.specs.declared.builder.action.ArgAction.TheVariants.{SetTrue}
 use Rattle.clap.specs.declared.builder.value_parser.ValueParser.{ValueParser}
 use Rattle.clap.specs.declared.builder.value_parser.ValueParser.TheVariants.{Signed, Unsigned}
 use Rattle.requests.specs.declared.arguments.OptionName.{OptionName}
-use Rattle.requests.specs.declared.arguments.OptionName.TheVariants.{Bracket, From, Count, Player, Instead, Round, PlayedRound, Rounds, Initial, Steps, Report, Notes, Points, Renumber, BoardNames, PlayedNames, PlayerNames, Games, Words, By, Bye}
+use Rattle.requests.specs.declared.arguments.OptionName.TheVariants.{Bracket, From, Count, Player, Instead, Round, PlayedRound, Rounds, Initial, Steps, Report, Notes, Points, Renumber, BoardNames, PlayedNames, PlayerNames, Games, Words, By, Bye, Entries, EnteredRound, Correct}
 use Rattle.requests.specs.declared.commands.CommandName.{CommandName}
-use Rattle.requests.specs.declared.commands.CommandName.TheVariants.{Check as CheckName, Format as FormatName, Pair as PairName, Boards as BoardsName, Candidates as CandidatesName, Explain as ExplainName, Standings as StandingsName}
+use Rattle.requests.specs.declared.commands.CommandName.TheVariants.{Check as CheckName, Format as FormatName, Enter as EnterName, Pair as PairName, Boards as BoardsName, Candidates as CandidatesName, Explain as ExplainName, Standings as StandingsName}
 use Rattle.trf16_report.specs.declared.limits.TheConstants.{MOST_ROUNDS}
 
 -- ---- options
@@ -102,6 +103,22 @@ by_rule = option_rule (codes "by")
 unfoldable pub bye_rule : Rule
 bye_rule = number_rule (codes "bye") (Signed (pos 0) (pos 2))
 
+-- a word that no option is in front of, of which help says the name
+abbrev pub word_rule : Text → Rule
+word_rule name = record (new_rule name) { value_names = 1 }
+
+-- one such word or more
+abbrev pub words_rule_of : Text → Rule
+words_rule_of name = record (word_rule name) { range = Some (record { start_inclusive = 1; end_inclusive = usize_max }); required = true }
+
+-- the entries of `enter`, whatever they say: whether they are entries is asked of what clap reads
+unfoldable pub entries_rule : Rule
+entries_rule = words_rule_of (codes "entry")
+
+-- `--correct`
+unfoldable pub correct_rule : Rule
+correct_rule = flag_rule (codes "correct")
+
 -- the rule of each option
 abbrev pub rule_for : OptionName → Rule
 rule_for Bracket = bracket_rule
@@ -125,6 +142,9 @@ rule_for Games = games_rule
 rule_for Words = words_rule
 rule_for By = by_rule
 rule_for Bye = bye_rule
+rule_for Entries = entries_rule
+rule_for EnteredRound = round_rule
+rule_for Correct = correct_rule
 
 -- ---- commands
 
@@ -160,6 +180,10 @@ check_app = with_option (with_option (new_app (codes "check")) notes_rule) bye_r
 unfoldable pub format_app : App
 format_app = with_option (with_option (with_option (with_option (new_app (codes "format")) points_rule) renumber_rule) round_rule) bye_rule
 
+-- `enter`
+unfoldable pub enter_app : App
+enter_app = with_option (with_option (with_option (with_option (new_app (codes "enter")) entries_rule) round_rule) correct_rule) bye_rule
+
 -- `pair`
 unfoldable pub pair_app : App
 pair_app = with_option (with_option (with_option (with_round_rules (new_app (codes "pair"))) names_rule) report_rule) bye_rule
@@ -184,6 +208,7 @@ standings_app = with_option (with_table_rules (new_app (codes "standings"))) bye
 abbrev pub app_for : CommandName → App
 app_for CheckName = check_app
 app_for FormatName = format_app
+app_for EnterName = enter_app
 app_for PairName = pair_app
 app_for BoardsName = boards_app
 app_for CandidatesName = candidates_app

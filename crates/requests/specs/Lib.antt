@@ -4,4 +4,5 @@ pub mod Words
 pub mod Keys
 pub mod KeySteps
 pub mod Options
+pub mod EntryWords
 pub mod Prelude

@@ -9,10 +9,12 @@ use Rattle.clap.specs.declared.error.kind.ErrorKind.TheVariants.{DisplayHelp, Di
 use Rattle.dutch_arrangements.specs.Prelude.{has_syntax}
 use Rattle.requests.specs.declared.words.Task.{Task}
 use Rattle.requests.specs.declared.words.Request.{Request}
-use Rattle.requests.specs.declared.words.Request.TheVariants.{Check, Format, Pair, Boards, Candidates, Explain, Standings}
+use Rattle.requests.specs.declared.words.Request.TheVariants.{Check, Format, Enter, Pair, Boards, Candidates, Explain, Standings}
 use Rattle.requests.specs.declared.commands.CommandName.{CommandName}
-use Rattle.requests.specs.CommandLine.{app_for, boards_app, candidates_app, check_app, explain_app, format_app, pair_app, standings_app}
+use Rattle.requests.specs.CommandLine.{app_for, boards_app, candidates_app, check_app, enter_app, explain_app, format_app, pair_app, standings_app}
 use Rattle.requests.specs.Options.{◌>>=◌, boards_options, bye_in, candidates_options, check_options, explain_options, format_options, pair_options, standings_options}
+use Rattle.requests.specs.EntryWords.{enter_options}
+use Rattle.requests.specs.declared.options.EnterOptions.{EnterOptions}
 use Rattle.requests.specs.declared.words.Meaning.{Meaning}
 use Rattle.requests.specs.declared.words.Meaning.TheVariants.{Command, Help, Mistake, Refused}
 use Rattle.requests.specs.declared.options.WordFault.{WordFault}
@@ -46,7 +48,16 @@ with_engine app =
 
 -- the command line as clap is told of it: a version, and one of the commands, which must be given [own]
 unfoldable pub arbiter_app : App
-arbiter_app = with_engine (with_command (with_command (settled (versioned (new_app (codes "arbiter")))) check_app) format_app)
+arbiter_app = with_engine (with_command (with_command (with_command (settled (versioned (new_app (codes "arbiter")))) check_app) format_app) enter_app)
+
+-- the request of `enter`, whose options are these
+abbrev pub enter_request_with : Result EnterOptions WordFault → Result Request WordFault
+enter_request_with (Ok options) = Ok (Enter options)
+enter_request_with (Err fault) = Err fault
+
+-- the request of `enter`
+abbrev pub enter_request : List Row → Result Request WordFault
+enter_request rows = enter_request_with (enter_options rows)
 
 -- the request of `pair`
 unfoldable pub pair_request : List Row → Result Request WordFault
@@ -72,9 +83,9 @@ standings_request rows = do
   options ← standings_options rows
   Ok (Standings options)
 
--- the request that a command and its options make, or what is wrong with them; none where there is no such command
-abbrev pub request_of : Text → List Row → Option (Result Request WordFault)
-request_of name rows =
+-- the request that a command other than `enter` and its options make, or what is wrong with them; none where there is no such command
+abbrev pub other_request_of : Text → List Row → Option (Result Request WordFault)
+other_request_of name rows =
     if bytes_eq name (codes "check") then Some (Ok (Check (check_options rows)))
     else (if bytes_eq name (codes "format") then Some (Ok (Format (format_options rows)))
     else (if bytes_eq name (codes "pair") then Some (pair_request rows)
@@ -82,6 +93,10 @@ request_of name rows =
     else (if bytes_eq name (codes "candidates") then Some (candidates_request rows)
     else (if bytes_eq name (codes "explain") then Some (explain_request rows)
     else (if bytes_eq name (codes "standings") then Some (standings_request rows) else None))))))
+
+-- the request that a command and its options make, or what is wrong with them; none where there is no such command
+abbrev pub request_of : Text → List Row → Option (Result Request WordFault)
+request_of name rows = if bytes_eq name (codes "enter") then Some (enter_request rows) else other_request_of name rows
 
 -- a request over a report in which the pairing-allocated bye gives so many half points, or what is wrong with its options
 abbrev pub with_bye : ℕ → Result Request WordFault → Result Task WordFault

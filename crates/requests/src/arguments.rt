@@ -3,7 +3,7 @@ ghost use Rattle.std.specs.Prelude.{◌≡◌, false, pos};
 ghost use Rattle.clap.specs.Words.{rule_of};
 ghost use Rattle.clap.specs.declared.builder.value_parser.ValueParser.TheVariants.{Signed, Unsigned};
 ghost use Rattle.requests.specs.CommandLine.{bracket_rule, few_rounds_rule, flag_rule, number_rule, option_rule};
-ghost use Rattle.requests.specs.CommandLine.{rule_for};
+ghost use Rattle.requests.specs.CommandLine.{rule_for, word_rule, words_rule_of};
 
 use clap::builder::ValueParser;
 use clap::{Arg, ArgAction, value_parser};
@@ -55,6 +55,12 @@ pub enum OptionName {
     By,
     /// `--bye N`.
     Bye,
+    /// The entries of `enter`: one word or more.
+    Entries,
+    /// `--round N` of `enter`.
+    EnteredRound,
+    /// `--correct`.
+    Correct,
 }
 
 // How help and complaints call an option and its value, and what help says of it.
@@ -166,6 +172,20 @@ const BYE: Labels<'static> = Labels {
     help: "Half points that the pairing-allocated bye gives, 0 to 2 [default: 2]",
 };
 
+const ENTRIES: Labels<'static> = Labels {
+    name: "entry",
+    value: "ENTRY",
+    help: "P:R, the result R of player P, one of 1 = 0 W D L + and -; P: for none yet; P:H, P:F or P:Z for a bye that P asked for; W-B or W-B:R, who met whom; W-0 for the pairing-allocated bye",
+};
+
+const ENTERED_ROUND: Labels<'static> = Labels {
+    name: "round",
+    value: "N",
+    help: "The round of all entries, 1 to 64 [default: the last that was paired, and for H, F and Z the next one]",
+};
+
+const CORRECT_HELP: &str = "Replaces cells that say something else";
+
 /// An option, as clap is told of it.
 pub fn option_for<'a>(alloc: Global, which: OptionName) -> Arg<'a>
     ensures rule { rule_of result ≡ rule_for which }
@@ -193,6 +213,9 @@ pub fn option_for<'a>(alloc: Global, which: OptionName) -> Arg<'a>
         OptionName::Words => flag(alloc, "words", WORDS_HELP),
         OptionName::By => option(alloc, BY),
         OptionName::Bye => number(alloc, BYE, half_points()),
+        OptionName::Entries => some_words(alloc, ENTRIES),
+        OptionName::EnteredRound => few_rounds(alloc, ENTERED_ROUND),
+        OptionName::Correct => flag(alloc, "correct", CORRECT_HELP),
     }
 }
 
@@ -265,6 +288,24 @@ fn option<'a>(alloc: Global, labels: Labels<'a>) -> Arg<'a>
 {
     Arg::new(alloc, labels.name)
         .long(labels.name)
+        .value_name(labels.value)
+        .help(labels.help)
+}
+
+// One word or more that no option is in front of.
+fn some_words<'a>(alloc: Global, labels: Labels<'a>) -> Arg<'a>
+    ensures rule { rule_of result ≡ words_rule_of labels.entry.name.now }
+    ensures local { result.global ≡ false }
+{
+    word(alloc, labels).num_args(1..).required(true)
+}
+
+// A word that no option is in front of.
+fn word<'a>(alloc: Global, labels: Labels<'a>) -> Arg<'a>
+    ensures rule { rule_of result ≡ word_rule labels.entry.name.now }
+    ensures local { result.global ≡ false }
+{
+    Arg::new(alloc, labels.name)
         .value_name(labels.value)
         .help(labels.help)
 }

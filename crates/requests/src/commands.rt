@@ -18,6 +18,7 @@ pub type CommandResult<'a> = Result<Command<'a>, AllocError>;
 pub enum CommandName {
     Check,
     Format,
+    Enter,
     Pair,
     Boards,
     Candidates,
@@ -26,9 +27,10 @@ pub enum CommandName {
 }
 
 /// The commands, in the order in which help lists them.
-pub const COMMANDS: [CommandName; 7] = [
+pub const COMMANDS: [CommandName; 8] = [
     CommandName::Check,
     CommandName::Format,
+    CommandName::Enter,
     CommandName::Pair,
     CommandName::Boards,
     CommandName::Candidates,
@@ -68,6 +70,20 @@ const FORMAT_TEXTS: HelpTexts<'static> = HelpTexts {
     about: "Writes the report in canonical columns, or tells why it is refused",
     usage: "arbiter format [OPTIONS] < REPORT",
     after_help: "The report is read from standard input. Printed is each player's line in TRF16's columns, and each other line as it stands.\n\nExample: arbiter format < report.trf > canonical.trf",
+};
+
+// `enter`: its options, and the texts of its help.
+const ENTER: [OptionName; 4] = [
+    OptionName::Entries,
+    OptionName::EnteredRound,
+    OptionName::Correct,
+    OptionName::Bye,
+];
+
+const ENTER_TEXTS: HelpTexts<'static> = HelpTexts {
+    about: "Enters results and byes, and writes the report with them",
+    usage: "arbiter enter [OPTIONS] <ENTRY>... < REPORT",
+    after_help: "The report is read from standard input. Printed is the report in canonical columns with the entries in it; each points field that is not blank is summed, and nothing else is changed. The opponent gets the other side of a result, unless an entry in front names him: 12:0 7:0 is a game that both lost. A cell that says something else is replaced with --correct alone.\n\nExamples:\n  arbiter enter 12:1 7:= 3:+ 21:H < round-4.trf > results.trf\n  arbiter enter --correct 12:0 < results.trf\n  arbiter enter --round 1 1-5 6-2 3-0 < players.trf",
 };
 
 // `pair`: its options, and the texts of its help.
@@ -160,6 +176,7 @@ pub fn command_for<'a>(alloc: Global, which: CommandName) -> CommandResult<'a>
     match which {
         CommandName::Check => optioned(alloc, "check", texts, &CHECK),
         CommandName::Format => optioned(alloc, "format", texts, &FORMAT),
+        CommandName::Enter => optioned(alloc, "enter", texts, &ENTER),
         CommandName::Pair => optioned(alloc, "pair", texts, &PAIR),
         CommandName::Boards => optioned(alloc, "boards", texts, &BOARDS),
         CommandName::Candidates => optioned(alloc, "candidates", texts, &CANDIDATES),
@@ -173,6 +190,7 @@ fn texts_of(which: CommandName) -> HelpTexts<'static> {
     match which {
         CommandName::Check => CHECK_TEXTS,
         CommandName::Format => FORMAT_TEXTS,
+        CommandName::Enter => ENTER_TEXTS,
         CommandName::Pair => PAIR_TEXTS,
         CommandName::Boards => BOARDS_TEXTS,
         CommandName::Candidates => CANDIDATES_TEXTS,

@@ -11,13 +11,15 @@
 
 mod arguments;
 mod commands;
+mod entries_in;
 mod keys;
 mod options;
 mod words;
 
+pub use entries_in::Entries;
 pub use keys::Keys;
 pub use options::{
-    BoardsOptions, CandidatesOptions, CheckOptions, ExplainOptions, FormatOptions, GivenCursor,
-    PairOptions, Question, Shown, StandingsOptions, WordFault, Wording,
+    BoardsOptions, CandidatesOptions, CheckOptions, EnterOptions, ExplainOptions, FormatOptions,
+    GivenCursor, PairOptions, Question, Shown, StandingsOptions, WordFault, Wording,
 };
 pub use words::{Meaning, Request, Task, meant, read_words};

@@ -7,6 +7,7 @@ ghost use Rattle.requests.specs.Options.{keys_by, number_in, pair_options, quest
 ghost use Rattle.requests.specs.Options.{shown_by, standings_options, steps_in, u16_max, wording_by};
 ghost use Rattle.trf16_report.specs.declared.limits.TheConstants.{MOST_ROUNDS};
 
+use crate::entries_in::Entries;
 use crate::keys::{Keys, keys_in};
 use clap::ArgMatches;
 use std::marker::Model;
@@ -25,6 +26,8 @@ pub enum WordFault {
     NamesAndReport,
     /// `--instead` is there without `--player`.
     InsteadAlone,
+    /// An entry of `enter` is of no form; its place among them, from 1.
+    BadEntry { place: usize },
 }
 
 /// What is asked of `check`.
@@ -127,6 +130,17 @@ pub struct StandingsOptions {
     pub games: bool,
     /// The round before which the report is taken as it stood, where the words name one: at most `MOST_ROUNDS`.
     pub round: Option<u8>,
+}
+
+/// What is asked of `enter`.
+#[derive(Drop)]
+pub struct EnterOptions {
+    /// The entries, in the order of their words.
+    pub entries: Entries,
+    /// The round of all entries, where the words name one: at most `MOST_ROUNDS`.
+    pub round: Option<u8>,
+    /// If set, cells that say something else are replaced.
+    pub correct: bool,
 }
 
 /// What is asked of `candidates`.
@@ -377,7 +391,7 @@ fn count_in(matches: &ArgMatches<'_>) -> usize
 
 // `--round`, the round that is asked for, or `--rounds`, the number of rounds of the tournament. No words with a
 // greater one come here.
-fn few_rounds_in(matches: &ArgMatches<'_>, name: &str) -> Option<u8>
+pub(crate) fn few_rounds_in(matches: &ArgMatches<'_>, name: &str) -> Option<u8>
     ensures { result ≡ number_in MOST_ROUNDS name.now (rows_in matches.now) }
 {
     matches
@@ -392,7 +406,7 @@ fn steps_in(matches: &ArgMatches<'_>) -> u64
     matches.get_one::<u64>("steps").unwrap_or(10_000_000)
 }
 
-fn flag_in(matches: &ArgMatches<'_>, name: &str) -> bool
+pub(crate) fn flag_in(matches: &ArgMatches<'_>, name: &str) -> bool
     ensures { result ≡ flag_in name.now (rows_in matches.now) }
 {
     matches!(text_in(matches, name), Some("true"))

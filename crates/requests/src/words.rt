@@ -5,16 +5,19 @@ ghost use Rattle.clap.specs.Words.{app_of, kind_of, new_app, subcommand_rows_of}
 ghost use Rattle.dutch_arrangements.specs.Prelude.{has_syntax};
 ghost use Rattle.requests.specs.CommandLine.{HasSameGlobals, app_for};
 ghost use Rattle.requests.specs.Options.{rows_in};
-ghost use Rattle.requests.specs.Words.{ComesTo, FitsKind, asked_by, candidates_request, explain_request, meant};
+ghost use Rattle.requests.specs.Words.{ComesTo, FitsKind, asked_by, candidates_request, enter_request, explain_request, meant};
+ghost use Rattle.requests.specs.Words.{other_request_of};
 ghost use Rattle.requests.specs.Words.{pair_request, request_of, standings_request, task_by, task_of, with_bye};
 ghost use Rattle.requests.specs.Words.{arbiter_app, settled, versioned, with_command};
 ghost use Rattle.requests.specs.Words.{with_commands, without_help};
 
 use crate::commands::{COMMANDS, CommandName, CommandResult, HelpTexts, command_for, described};
+use crate::entries_in::enter_options;
 use crate::options::{
-    BoardsOptions, CandidatesOptions, CheckOptions, CursorSyntax, ExplainOptions, FormatOptions,
-    PairOptions, StandingsOptions, WordFault, boards_options, bye_in, candidates_options,
-    check_options, explain_options, format_options, pair_options, standings_options,
+    BoardsOptions, CandidatesOptions, CheckOptions, CursorSyntax, EnterOptions, ExplainOptions,
+    FormatOptions, PairOptions, StandingsOptions, WordFault, boards_options, bye_in,
+    candidates_options, check_options, explain_options, format_options, pair_options,
+    standings_options,
 };
 use clap::error::ErrorKind;
 use clap::{ArgMatches, Command, Error};
@@ -28,6 +31,8 @@ pub enum Request<'a> {
     Check(CheckOptions),
     /// Writes a report in canonical columns.
     Format(FormatOptions),
+    /// Enters results and byes.
+    Enter(EnterOptions),
     /// Pairs the next round.
     Pair(PairOptions),
     /// Lists the boards of a round that was paired.
@@ -109,7 +114,7 @@ pub fn read_words<'a>(alloc: Global, words: &'a [&'a str]) -> Result<Meaning<'a>
 {
     match arbiter_command(alloc)?.try_get_matches_from(words) {
         Ok(matches) => {
-            let Some(task) = task_in(&matches) else {
+            let Some(task) = task_in(alloc, &matches)? else {
                 unreachable!();
             };
             Ok(asked_by(task))
@@ -119,22 +124,29 @@ pub fn read_words<'a>(alloc: Global, words: &'a [&'a str]) -> Result<Meaning<'a>
 }
 
 // The task that clap's matches make, or what is wrong with its options.
-fn task_in<'a>(matches: &ArgMatches<'a>) -> Option<Result<Task<'a>, WordFault>>
-    ensures { result ≡ task_by (subcommand_rows_of matches.now) }
+fn task_in<'a>(
+    alloc: Global,
+    matches: &ArgMatches<'a>,
+) -> Result<Option<Result<Task<'a>, WordFault>>, AllocError>
+    ensures { IfOk result (λ made. made ≡ task_by (subcommand_rows_of matches.now)) }
 {
     match matches.subcommand() {
-        Some((name, options)) => task_of(name, options),
-        None => None,
+        Some((name, options)) => task_of(alloc, name, options),
+        None => Ok(None),
     }
 }
 
 // The task that a command and its options make, or what is wrong with them; none if there is no such command.
-fn task_of<'a>(name: &str, options: &ArgMatches<'a>) -> Option<Result<Task<'a>, WordFault>>
-    ensures { result ≡ task_of name.now (rows_in options.now) }
+fn task_of<'a>(
+    alloc: Global,
+    name: &str,
+    options: &ArgMatches<'a>,
+) -> Result<Option<Result<Task<'a>, WordFault>>, AllocError>
+    ensures { IfOk result (λ made. made ≡ task_of name.now (rows_in options.now)) }
 {
-    match request_of(name, options) {
-        Some(request) => Some(with_bye(bye_in(options), request)),
-        None => None,
+    match request_of(alloc, name, options)? {
+        Some(request) => Ok(Some(with_bye(bye_in(options), request))),
+        None => Ok(None),
     }
 }
 
@@ -150,8 +162,25 @@ fn with_bye<'a>(bye: u16, request: Result<Request<'a>, WordFault>) -> Result<Tas
 }
 
 // The request that a command and its options make, or what is wrong with them; none if there is no such command.
-fn request_of<'a>(name: &str, options: &ArgMatches<'a>) -> Option<Result<Request<'a>, WordFault>>
-    ensures { result ≡ request_of name.now (rows_in options.now) }
+fn request_of<'a>(
+    alloc: Global,
+    name: &str,
+    options: &ArgMatches<'a>,
+) -> Result<Option<Result<Request<'a>, WordFault>>, AllocError>
+    ensures { IfOk result (λ made. made ≡ request_of name.now (rows_in options.now)) }
+{
+    match name {
+        "enter" => Ok(Some(enter_request(alloc, options)?)),
+        _ => Ok(other_request_of(name, options)),
+    }
+}
+
+// The request that a command other than `enter` makes.
+fn other_request_of<'a>(
+    name: &str,
+    options: &ArgMatches<'a>,
+) -> Option<Result<Request<'a>, WordFault>>
+    ensures { result ≡ other_request_of name.now (rows_in options.now) }
 {
     match name {
         "check" => Some(Ok(Request::Check(check_options(options)))),
@@ -162,6 +191,19 @@ fn request_of<'a>(name: &str, options: &ArgMatches<'a>) -> Option<Result<Request
         "explain" => Some(explain_request(options)),
         "standings" => Some(standings_request(options)),
         _ => None,
+    }
+}
+
+// The request of `enter`.
+fn enter_request<'a>(
+    alloc: Global,
+    options: &ArgMatches<'a>,
+) -> Result<Result<Request<'a>, WordFault>, AllocError>
+    ensures { IfOk result (λ made. made ≡ enter_request (rows_in options.now)) }
+{
+    match enter_options(alloc, options)? {
+        Ok(options) => Ok(Ok(Request::Enter(options))),
+        Err(fault) => Ok(Err(fault)),
     }
 }
 

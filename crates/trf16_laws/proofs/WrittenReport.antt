@@ -313,11 +313,11 @@ unfolding verdict laid_out
 verdict_from bytes bye report few same r fit = rw (le-ltb MOST_BYTES (length bytes) few, same, r.read, r.size, fit) refl
 
 -- what a report that is laid out is: its players, and what the pairing-allocated bye gives in it
-record IsLaid (bye : ℕ) (report : Sheet) : Type 0 where
-  sound : are_all_sound report.utf8 report.players
-  bye_is : report.bye ≡ bye
+pub record IsLaid (bye : ℕ) (report : Sheet) : Type 0 where
+  pub sound : are_all_sound report.utf8 report.players
+  pub bye_is : report.bye ≡ bye
 
-laid_is : (bytes : List ℕ) (bye : ℕ) (report : Sheet) → IsLaidOutOf bytes bye report → IsLaid bye report
+pub laid_is : (bytes : List ℕ) (bye : ℕ) (report : Sheet) → IsLaidOutOf bytes bye report → IsLaid bye report
 laid_is bytes bye report r =
     let body = without_marks bytes in
     let utf8 = is_utf8 body in

@@ -153,8 +153,12 @@ pub(crate) fn players_fit(report: &Report<'_>) -> Result<(), Fault>
     Ok(())
 }
 
-/// The rounds of all players, in the order of their lines, whatever their points fields say.
-pub(crate) fn all_cells_fit(report: &Report<'_>) -> Result<(), Fault>
+/// Looks at the rounds of all players, whatever their points fields say: whoever names an opponent in a round is
+/// answered by that opponent.
+///
+/// # Errors
+/// The first cell that is not answered, by the order of the players' lines and then by round.
+pub fn all_cells_fit(report: &Report<'_>) -> Result<(), Fault>
     ensures { Gives (λ x. x) result (all_cells_fit report.now report.now.players) }
 {
     for player in report.players() {

@@ -9,7 +9,7 @@ use Rattle.trf16_report.specs.declared.fault.Fault.TheVariants.{Points}
 
 -- ---- the verdict without its last rule
 
--- the rounds of all players, in the order of their lines, whatever their points fields say
+-- the rounds of all players, in the order of their lines, whatever their points fields say [with verdict_unsummed]
 unfoldable pub all_cells_fit : Sheet → List Entry → Result (Unit {0}) Fault
 all_cells_fit sheet [] = Ok tt
 all_cells_fit sheet (entry ∷ rest) = do

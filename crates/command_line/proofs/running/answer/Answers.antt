@@ -10,6 +10,9 @@ returns-in-Check g c = rw c.in-Check.is c.check.ensures
 pub returns-in-Format : goal.returns-in-Format
 returns-in-Format g c = rw c.in-Format.is c.format.ensures
 
+pub returns-in-Enter : goal.returns-in-Enter
+returns-in-Enter g c = rw c.in-Enter.is c.enter.ensures
+
 pub returns-in-Boards : goal.returns-in-Boards
 returns-in-Boards g c = rw c.in-Boards.is c.boards.ensures
 

@@ -44,12 +44,15 @@ returns-in-Ok-Mistake-clause-answers g c = inr (inr (inl (record {
 })))
 
 pub returns-in-Ok-Refused-clause-answers : goal.returns-in-Ok-Refused-clause-answers
-returns-in-Ok-Refused-clause-answers g c = inr (inr (inr (inl (record {
-  fault = c.in-Ok-Refused.fault;
-  asked = rw c.in-Ok-Refused.field-0-is at c.in-Ok-Refused.ensures;
-  unread = record { calls = refl; kept = record { kept = kept _; sound = refl } };
-  tells = rw c.bad_words.ensures at c.fixed.ensures;
-}))))
+returns-in-Ok-Refused-clause-answers g c = elim c.reply_to_fault.ensures [
+  | inl tells ↦ inr (inr (inr (inl (record {
+    fault = c.in-Ok-Refused.fault;
+    asked = rw c.in-Ok-Refused.field-0-is at c.in-Ok-Refused.ensures;
+    unread = record { calls = refl; kept = record { kept = kept _; sound = refl } };
+    tells = tells;
+  }))))
+  | inr memory ↦ inr (inr (inr (inr (record { sound = refl; tells = memory }))))
+]
 
 pub returns-in-Err-clause-answers : goal.returns-in-Err-clause-answers
 returns-in-Err-clause-answers g c = inr (inr (inr (inr (record { sound = refl; tells = c.out_of_memory.ensures }))))

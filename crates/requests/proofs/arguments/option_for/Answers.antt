@@ -1,5 +1,5 @@
 use Rattle.std.proofs.Common.{◌∙◌, ap, codes}
-use Rattle.requests.specs.Prelude.{number_rule, by_rule, bye_rule, count_rule, from_rule, games_rule, initial_rule, instead_rule, names_rule, notes_rule, player_rule, points_rule, renumber_rule, report_rule, round_rule, rounds_rule, steps_rule, words_rule}
+use Rattle.requests.specs.Prelude.{number_rule, by_rule, bye_rule, correct_rule, count_rule, entries_rule, from_rule, games_rule, initial_rule, instead_rule, names_rule, notes_rule, player_rule, points_rule, renumber_rule, report_rule, round_rule, rounds_rule, steps_rule, words_rule}
 use Rattle.requests.proofs.arguments.option_for.Goals as goal
 
 pub returns-in-Bracket-clause-rule : goal.returns-in-Bracket-clause-rule
@@ -84,3 +84,15 @@ returns-in-By-clause-rule c = rw c.in-By.is c.option-in-By.ensures.rule
 pub returns-in-Bye-clause-rule : goal.returns-in-Bye-clause-rule
 unfolding bye_rule
 returns-in-Bye-clause-rule c = rw c.in-Bye.is (c.number-in-Bye.ensures.rule ∙ ap (number_rule (codes "bye")) c.half_points.ensures)
+
+pub returns-in-Entries-clause-rule : goal.returns-in-Entries-clause-rule
+unfolding entries_rule
+returns-in-Entries-clause-rule c = rw c.in-Entries.is c.some_words.ensures.rule
+
+pub returns-in-EnteredRound-clause-rule : goal.returns-in-EnteredRound-clause-rule
+unfolding round_rule
+returns-in-EnteredRound-clause-rule c = rw c.in-EnteredRound.is c.few_rounds-in-EnteredRound.ensures.rule
+
+pub returns-in-Correct-clause-rule : goal.returns-in-Correct-clause-rule
+unfolding correct_rule
+returns-in-Correct-clause-rule c = rw c.in-Correct.is c.flag-in-Correct.ensures.rule

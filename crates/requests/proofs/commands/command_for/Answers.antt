@@ -1,6 +1,6 @@
 use Rattle.std.proofs.Common.{◌≡◌, IfOk, subst, sym}
 use Rattle.clap.specs.Words.{app_of}
-use Rattle.requests.specs.Prelude.{app_for, boards_app, candidates_app, check_app, explain_app, format_app, pair_app, standings_app, with_bracket_rules, with_round_rules, with_table_rules}
+use Rattle.requests.specs.Prelude.{app_for, boards_app, candidates_app, check_app, enter_app, explain_app, format_app, pair_app, standings_app, with_bracket_rules, with_round_rules, with_table_rules}
 use Rattle.requests.specs.declared.commands.CommandName.{CommandName}
 use Rattle.requests.proofs.commands.command_for.Goals as goal
 
@@ -15,6 +15,12 @@ unfolding format_app
 returns-in-Format-clause-app c =
     subst (λ (which : CommandName). IfOk c.optioned-in-Format.result (λ command. app_of command ≡ app_for which)) (sym c.in-Format.is)
     c.optioned-in-Format.ensures.app
+
+pub returns-in-Enter-clause-app : goal.returns-in-Enter-clause-app
+unfolding enter_app
+returns-in-Enter-clause-app c =
+    subst (λ (which : CommandName). IfOk c.optioned-in-Enter.result (λ command. app_of command ≡ app_for which)) (sym c.in-Enter.is)
+    c.optioned-in-Enter.ensures.app
 
 pub returns-in-Pair-clause-app : goal.returns-in-Pair-clause-app
 unfolding pair_app with_round_rules

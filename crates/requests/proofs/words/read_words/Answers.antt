@@ -13,7 +13,7 @@ unreachable-requires c =
     let app = c.in_ok-arbiter_command.ensures.app in
     let free = ap is_simple_and_free app ∙ simple_and_free in
     let rows = c.in-Ok.ensures.matches (both _ _ free).0 in
-    no_words_without _ words _ app (c.in-Ok.ensures.kinds free) rows.1 (sym c.in_default.is ∙ c.task_in.ensures)
+    no_words_without _ words _ app (c.in-Ok.ensures.kinds free) rows.1 (sym c.in_default.is ∙ c.in_ok-task-in-Ok.ensures)
 
 pub returns-in-Some : goal.returns-in-Some
 returns-in-Some c =
@@ -21,7 +21,7 @@ returns-in-Some c =
     let app = c.in_ok-arbiter_command.ensures.app in
     let free = ap is_simple_and_free app ∙ simple_and_free in
     let rows = c.in-Ok.ensures.matches (both _ _ free).0 in
-    subst (ComesTo words) (sym c.asked_by.ensures) (accepted_words _ words _ c.in-Some.task app (c.in-Ok.ensures.kinds free) rows.1 c.in-Some.ensures)
+    subst (ComesTo words) (sym c.asked_by.ensures) (accepted_words _ words _ c.in-Some.task app (c.in-Ok.ensures.kinds free) rows.1 (sym c.in-Some.is ∙ c.in_ok-task-in-Ok.ensures))
 
 pub returns-in-Err : goal.returns-in-Err
 returns-in-Err c =

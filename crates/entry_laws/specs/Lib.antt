@@ -1,0 +1,3 @@
+-- What the laws on entries name.
+pub mod Concerned
+pub mod Standing
