@@ -70,6 +70,37 @@ coloured_opponent game old cell e = by (cell_of_game game.opponent game.score (c
     by None is e = absurd (cc)
     by (Some found) is e = game_opponent game.opponent game.score (colour_in_cell old) cell (is ∙ ap (λ (c : Cell). Some c) (same_ok found cell e))
 
+without_colour : (opponent : ℕ) (score : Option GameResult) (cell : Cell) → cell_without opponent score ≡ Some cell → colour_in_cell cell ≡ None
+without_colour opponent None cell e = absurd (cc)
+without_colour opponent (Some (Played rated got)) cell e = absurd (cc)
+without_colour opponent (Some (Forfeited won)) cell e = let same : Forfeit opponent None won ≡ cell = cc in ap colour_in_cell (sym same)
+
+with_colour : (opponent : ℕ) (score : Option GameResult) (colour : Colour) → colour_in_cell (cell_with opponent score colour) ≡ Some colour
+with_colour opponent None colour = refl
+with_colour opponent (Some (Played rated got)) colour = refl
+with_colour opponent (Some (Forfeited won)) colour = refl
+
+game_colour : (opponent : ℕ) (score : Option GameResult) (colour : Option Colour) (cell : Cell) → cell_of_game opponent score colour ≡ Some cell → colour_in_cell cell ≡ colour
+game_colour opponent score None cell e = without_colour opponent score cell e
+game_colour opponent score (Some colour) cell e =
+    let same : cell_with opponent score colour ≡ cell = cc in
+    ap colour_in_cell (sym same) ∙ with_colour opponent score colour
+
+-- the colour is that of the cell that stood there
+pub coloured_colour : (game : GameOf) (old cell : Cell) → coloured game old ≡ Ok cell → colour_in_cell cell ≡ colour_in_cell old
+unfolding coloured
+coloured_colour game old cell e = by (cell_of_game game.opponent game.score (colour_in_cell old)) refl e
+  where
+    by : (o : Option Cell) → cell_of_game game.opponent game.score (colour_in_cell old) ≡ o → ok_or o (NoColour game.slot.player game.slot.round) ≡ Ok cell
+        → colour_in_cell cell ≡ colour_in_cell old
+    by None is e = absurd (cc)
+    by (Some found) is e = game_colour game.opponent game.score (colour_in_cell old) cell (is ∙ ap (λ (c : Cell). Some c) (same_ok found cell e))
+
+-- of the cell that stood there the colour alone is used
+pub coloured_alike : (game : GameOf) (old other : Cell) → colour_in_cell old ≡ colour_in_cell other → coloured game old ≡ coloured game other
+unfolding coloured
+coloured_alike game old other e = ap (λ c. ok_or (cell_of_game game.opponent game.score c) (NoColour game.slot.player game.slot.round)) e
+
 -- ---- what an entry puts
 
 -- the second cell: of the other player whom the entry names, or of the opponent, whose opponent the first one stays

@@ -23,11 +23,12 @@ pub fn cells_stay_that_no_entry_concerns()
         → concerns options sheet entries slot ≡ false → cell_in_slot new slot ≡ cell_in_slot sheet slot }
 {}
 
-/// If each entry says a result that stands there already, no cell is changed; and so nothing is but the points.
+/// If each entry says a result that stands there already, no cell is changed; and so nothing is but the points. Where
+/// the results of the two players are not each other's other side, as after a double forfeit, both are entered.
 pub fn what_stands_there_is_not_changed()
     ensures { (options : EntryOptions) (entries : List HandEntry) (sheet new : Sheet) (slot : Slot)
         → entered options entries sheet ≡ Ok new → 0 < slot.round
-        → AllByRecursion (SaysWhatStands options sheet) entries → cell_in_slot new slot ≡ cell_in_slot sheet slot }
+        → AllByRecursion (SaysWhatStands options sheet entries) entries → cell_in_slot new slot ≡ cell_in_slot sheet slot }
 {}
 
 /// Two entries for different games commute: if one after the other is not refused, the other order gives the same
