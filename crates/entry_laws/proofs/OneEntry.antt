@@ -134,9 +134,10 @@ game_put sheet so_far game event new meets e =
           first = refl;
           named = refl;
           second = (refl, inr (meets, back));
-          opponents = λ Q player second there.
-              (if_some (opponent_in_cell mine) game.opponent Q names (of_some (opponent_in_cell (cell_now sheet so_far game.slot)) game.opponent Q meets there),
-              if_some (opponent_in_cell two.0) game.slot.player Q back player);
+          opponents = λ Q player second there. (
+            if_some (opponent_in_cell mine) game.opponent Q names (of_some (opponent_in_cell (cell_now sheet so_far game.slot)) game.opponent Q meets there),
+            if_some (opponent_in_cell two.0) game.slot.player Q back player,
+          );
         })
 
 own_put : (sheet : Sheet) (so_far : List NewCell) (slot : Slot) (score : Option GameResult) (otherwise : Result NewCells EntryFault) (event : Event) (new : NewCells)
@@ -165,9 +166,10 @@ cells_put sheet so_far slot (Meets black score) new e =
       first = refl;
       named = refl;
       second = (refl, inl (refl, refl));
-      opponents = λ Q player second there.
-          (if_some (opponent_in_cell (cell_with black score White)) black Q (with_opponent black score White) second,
-          if_some (opponent_in_cell (cell_with slot.player (other_game game).score Black)) slot.player Q (with_opponent slot.player (other_game game).score Black) player);
+      opponents = λ Q player second there. (
+        if_some (opponent_in_cell (cell_with black score White)) black Q (with_opponent black score White) second,
+        if_some (opponent_in_cell (cell_with slot.player (other_game game).score Black)) slot.player Q (with_opponent slot.player (other_game game).score Black) player,
+      );
     })
 cells_put sheet so_far slot Allocated new e =
     alone_put sheet so_far slot Allocated (Bye AllocatedBye) new (λ Q there. tt) (same_ok (named_alone slot (Bye AllocatedBye)) new e)

@@ -81,7 +81,9 @@ fn entry_text(alloc: Global, fault: EntryFault) -> Result<String, AllocError>
             round_words(alloc, player, " has no colour in round ", round)
         }
         EntryFault::HasCell { player, round } => {
-            format!(in alloc; "words: player {player} has a cell in round {round}, which --correct replaces\n")
+            format!(in alloc;
+                "words: player {player} has a cell in round {round}, which --correct replaces\n"
+            )
         }
         EntryFault::Refused(fault) => refusal_texts::refused(alloc, fault),
         EntryFault::OutOfMemory => String::from_str(alloc, "memory: refused\n"),
