@@ -1,16 +1,13 @@
 -- Entries that say what stands in the report put what stands there.
-use Rattle.std.proofs.Common.{◌≡◌, ℕ, ◌<◌, Bool, true, false, cond, List, [], ◌∷◌, ◌++◌, Option, Some, None, Result, Ok, Err, refl, sym, ap, ◌∙◌, subst}
+use Rattle.std.proofs.Common.{◌≡◌, ℕ, ◌<◌, Bool, true, false, cond, List, [], ◌∷◌, ◌++◌, Option, Some, Result, Ok, Err, refl, sym, ap, ◌∙◌, subst}
 use Rattle.std.specs.List.{AllByRecursion}
 use Rattle.std.specs.Option.{option_map_or}
 use Rattle.trf16_report.specs.Outcomes.{◌>>=◌}
-use Rattle.trf16_report.specs.Prelude.{Sheet, cell_at, cells_of, known, opponent_in_cell}
+use Rattle.trf16_report.specs.Prelude.{Sheet, cell_at, known, opponent_in_cell}
 use Rattle.trf16_report.specs.declared.cell.Cell.{Cell}
-use Rattle.entries.specs.Prelude.{AreWithin, cell_after, cell_in_slot, cell_now, cells_by, coloured, entered, game_cells, is_named, named_alone, named_cell, other_game, own_cells, round_of, same_slot, with_entries, with_entry, with_new}
+use Rattle.entries.specs.Prelude.{AreWithin, cell_after, cell_in_slot, cell_now, cells_by, coloured, entered, game_cells, is_named, named_alone, named_cell, other_game, own_cells, same_slot, with_entries, with_entry, with_new}
 use Rattle.entries.specs.declared.entry.EntryOptions.{EntryOptions}
-use Rattle.entries.specs.declared.entry.Event.{Event}
-use Rattle.entries.specs.declared.entry.Event.TheVariants.{Scores}
 use Rattle.entries.specs.declared.entry.GameOf.{GameOf}
-use Rattle.entries.specs.declared.entry.GameResult.{GameResult}
 use Rattle.entries.specs.declared.entry.HandEntry.{HandEntry}
 use Rattle.entries.specs.declared.entry.NewCell.{NewCell}
 use Rattle.entries.specs.declared.entry.NewCells.{NewCells}
@@ -20,7 +17,7 @@ use Rattle.entries.specs.declared.fault.EntryFault.TheVariants.{NoGame}
 use Rattle.entry_laws.specs.Standing.{SaysWhatStands, Stands}
 use Rattle.entry_laws.proofs.AllEntries.{all_within, entered_is, resummed-cell, slot_is}
 use Rattle.entry_laws.proofs.CellsPut.{none-after, players-after}
-use Rattle.entry_laws.proofs.OneEntry.{EntryIs, coloured_opponent, entry_is, listed, same_ok, then_ok}
+use Rattle.entry_laws.proofs.OneEntry.{coloured_opponent, entry_is, listed, same_ok, then_ok}
 
 -- each new cell is the one that stands there
 abbrev AreStanding : Sheet → List NewCell → Type 0
