@@ -1,5 +1,5 @@
 -- The cells that entries put into a report, one after the other.
-use Rattle.std.specs.Prelude.{ℕ, Bool, ◌&&◌, ◌==◌, if◌then◌else◌, List, [], ◌∷◌}
+use Rattle.std.specs.Prelude.{Bool, ◌&&◌, ◌==◌, if◌then◌else◌, List, [], ◌∷◌}
 use Rattle.std.specs.List.{list_any}
 use Rattle.trf16_report.specs.Prelude.{Sheet, cell_in}
 use Rattle.trf16_report.specs.declared.cell.Cell.{Cell}

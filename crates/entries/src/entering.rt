@@ -5,7 +5,7 @@ ghost use Rattle.entries.specs.Outcomes.{Gives};
 ghost use Rattle.entries.specs.Entered.{cells_with_new, entered, judged, player_resummed, player_with_new, resummed};
 ghost use Rattle.entries.specs.Entered.{with_new};
 ghost use Rattle.entries.specs.Steps.{AreWithin, IsWithin, player_changed};
-ghost use Rattle.trf16_report.specs.Prelude.{entry_of, half_points, is_blank_cell, rounds_played, with_cell, without_last};
+ghost use Rattle.trf16_report.specs.Prelude.{entry_of, half_points, rounds_played, with_cell};
 ghost use Rattle.trf16_report.specs.declared.limits.TheConstants.{MOST_ROUNDS};
 
 use crate::all_entries::cells_of_all;

@@ -3,7 +3,7 @@
 -- Putting entries is a change of players as the round trip allows it (`Turns`): the new cells name players of the report, or the opponent who
 -- stands there, in rounds that a report may have. The rules on two players are looked at again where entries are put, so what is left are
 -- the points.
-use Rattle.std.proofs.Common.{◌≡◌, ◌⊎◌, inl, inr, ℕ, zero, suc, ◌+◌, ◌-◌, ◌*◌, ◌<◌, ◌≤◌, Bool, true, false, cond, ◌&&◌, ◌||◌, nat_eq, nat_lt, max, List, [], ◌∷◌, ◌++◌, length, get_or, map, take, Option, Some, None, Result, Ok, Err, refl, sym, ap, ◌∙◌, subst, arith}
+use Rattle.std.proofs.Common.{◌≡◌, ℕ, zero, suc, ◌-◌, ◌<◌, ◌≤◌, Bool, true, false, cond, ◌&&◌, ◌||◌, nat_lt, max, List, [], ◌∷◌, ◌++◌, length, get_or, map, take, Option, Some, None, Result, Ok, Err, refl, sym, ap, ◌∙◌, subst, arith}
 use Rattle.std.specs.Prelude.{IfSome, ◌==◌, option_map, sum_by}
 use Rattle.std.specs.List.{AllByRecursion, list_all, list_any}
 use Rattle.std.specs.Option.{option_map_or}
@@ -14,7 +14,6 @@ use Rattle.trf16_report.specs.Prelude.{Entry, Sheet, all_cells_fit, cell_at, cel
 use Rattle.trf16_report.specs.declared.cell.Cell.{Cell}
 use Rattle.trf16_report.specs.declared.cell.Cell.TheVariants.{Blank}
 use Rattle.trf16_report.specs.declared.fault.Fault.{Fault}
-use Rattle.trf16_report.specs.declared.fault.Fault.TheVariants.{Points}
 use Rattle.trf16_report.specs.declared.limits.TheConstants.{MOST_BYTES, MOST_ROUNDS}
 use Rattle.trf16_report.proofs.LineSteps.{turned}
 use Rattle.trf16_writer.proofs.AcceptedReport.{IsLaidOutOf, accepted, rule_met}
@@ -24,14 +23,14 @@ use Rattle.trf16_laws.proofs.WrittenCells.{is_sound}
 use Rattle.trf16_laws.proofs.WrittenFields.{all_cut, are_small, length_cut, without_last-twice}
 use Rattle.trf16_laws.proofs.WrittenPlayers.{IsSoundEntry}
 use Rattle.trf16_laws.proofs.WrittenReport.{Turns, all_small, are_all_small, are_all_sound, laid_again, laid_is}
-use Rattle.entries.specs.Prelude.{AreWithin, IsInReport, cell_after, cell_in_slot, cell_now, cells_with_new, entered, player_resummed, player_with_new, resummed, same_slot, second_of, with_entries, with_entry, with_new}
+use Rattle.entries.specs.Prelude.{AreWithin, cell_after, cell_in_slot, cell_now, cells_with_new, entered, player_resummed, player_with_new, resummed, same_slot, second_of, with_entries, with_entry, with_new}
 use Rattle.entries.specs.declared.entry.EntryOptions.{EntryOptions}
 use Rattle.entries.specs.declared.entry.HandEntry.{HandEntry}
 use Rattle.entries.specs.declared.entry.NewCell.{NewCell}
 use Rattle.entries.specs.declared.entry.NewCells.{NewCells}
 use Rattle.entries.specs.declared.entry.Slot.{Slot}
-use Rattle.entry_laws.proofs.AllEntries.{IsEntered, all_within, entered_is}
-use Rattle.entry_laws.proofs.OneEntry.{EntryIs, OpponentsAre, entry_is, listed, same_ok, then_ok}
+use Rattle.entry_laws.proofs.AllEntries.{all_within, entered_is}
+use Rattle.entry_laws.proofs.OneEntry.{entry_is, listed, same_ok, then_ok}
 
 abbrev fits : Result (Unit {0}) Fault
 fits = Ok (tt {0})

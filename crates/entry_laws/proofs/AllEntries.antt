@@ -2,27 +2,23 @@
 --
 -- Of a player whom no entry so far names the opponent is the one of the report: an entry that puts a cell of somebody whom it does not name
 -- puts it for the opponent of the player whom it names, who answers that player in the report.
-use Rattle.std.proofs.Common.{◌≡◌, ◌⊎◌, inl, inr, ℕ, ◌+◌, ◌<◌, ◌≤◌, Bool, true, false, cond, ◌&&◌, ◌||◌, nat_eq, List, [], ◌∷◌, ◌++◌, map, Option, Some, None, Result, Ok, Err, refl, sym, ap, ◌∙◌, subst, arith}
-use Rattle.std.specs.Prelude.{IfSome, ◌==◌}
-use Rattle.std.specs.List.{list_any}
+use Rattle.std.proofs.Common.{◌≡◌, inl, inr, ℕ, ◌<◌, ◌≤◌, Bool, true, false, cond, ◌&&◌, ◌||◌, List, [], ◌∷◌, ◌++◌, map, Option, Some, None, Result, Ok, Err, refl, sym, ap, ◌∙◌, subst}
+use Rattle.std.specs.Prelude.{◌==◌}
 use Rattle.std.specs.Option.{option_map_or}
 use Rattle.std.proofs.lemmas.Bool.{and_parts, eqb-true, true≢false}
-use Rattle.trf16_report.specs.Outcomes.{◌>>=◌}
-use Rattle.trf16_report.specs.Prelude.{AnswerEachOther, Entry, Sheet, all_cells_fit, cell_at, cell_in, cells_of, has_other_points, known, opponent_in_cell, rounds_played}
+use Rattle.trf16_report.specs.Prelude.{AnswerEachOther, Sheet, all_cells_fit, cell_at, cell_in, has_other_points, known, opponent_in_cell, rounds_played}
 use Rattle.trf16_report.specs.declared.cell.Cell.{Cell}
 use Rattle.trf16_report.specs.declared.fault.Fault.{Fault}
 use Rattle.trf16_report.specs.declared.limits.TheConstants.{MOST_ROUNDS}
-use Rattle.entries.specs.Prelude.{AreWithin, IsInReport, cell_after, cell_in_slot, cell_now, entered, is_named, is_put, judged, judged_by, player_resummed, resummed, round_of, same_slot, second_of, with_entries, with_entry, with_new}
+use Rattle.entries.specs.Prelude.{AreWithin, IsInReport, cell_after, cell_in_slot, cell_now, entered, is_named, is_put, judged, judged_by, player_resummed, resummed, same_slot, second_of, with_entries, with_entry, with_new}
 use Rattle.entries.specs.declared.entry.EntryOptions.{EntryOptions}
 use Rattle.entries.specs.declared.entry.HandEntry.{HandEntry}
 use Rattle.entries.specs.declared.entry.NewCell.{NewCell}
 use Rattle.entries.specs.declared.entry.NewCells.{NewCells}
 use Rattle.entries.specs.declared.entry.Slot.{Slot}
-use Rattle.entries.specs.declared.fault.EntryFault.{EntryFault}
-use Rattle.entries.specs.declared.fault.EntryFault.TheVariants.{Refused}
 use Rattle.entry_laws.specs.Concerned.{concerns, concerns_slot, is_player}
 use Rattle.entry_laws.proofs.CellsPut.{after-append, after-none, any-append, none-after, players-after, resummed-cells}
-use Rattle.entry_laws.proofs.OneEntry.{EntryIs, IsPut, IsSecond, entry_is, listed, same_ok, then_ok}
+use Rattle.entry_laws.proofs.OneEntry.{EntryIs, IsSecond, entry_is, listed, same_ok, then_ok}
 
 pub or_none : (a b : Bool) → (a || b) ≡ false → (a ≡ false) × (b ≡ false)
 or_none true b e = absurd (true≢false e)

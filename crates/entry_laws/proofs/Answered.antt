@@ -1,5 +1,5 @@
 -- In a report that is read without a look at its points fields, whoever names an opponent is answered by that opponent.
-use Rattle.std.proofs.Common.{◌≡◌, inl, inr, ℕ, ◌+◌, ◌-◌, ◌<◌, ◌≤◌, Bool, true, false, cond, nat_eq, List, [], ◌∷◌, length, Some, Ok, refl, subst, arith}
+use Rattle.std.proofs.Common.{◌≡◌, inl, inr, ℕ, ◌+◌, ◌-◌, ◌<◌, Bool, true, false, cond, nat_eq, List, [], ◌∷◌, length, Some, Ok, refl, subst, arith}
 use Rattle.std.proofs.lemmas.Bool.{cases_lt, eqb-true}
 use Rattle.std.proofs.lemmas.List.{get_or_past}
 use Rattle.trf16_report.specs.Prelude.{AnswerEachOther, Entry, Sheet, all_cells_fit, cell_fits, cell_in, cells_fit, cells_of, opponent_in_cell, verdict_unsummed}

@@ -1,14 +1,14 @@
 -- What stands in a slot once some cells are put, one after the other.
-use Rattle.std.proofs.Common.{◌≡◌, ◌⊎◌, inl, inr, ℕ, zero, suc, ◌+◌, ◌-◌, ◌<◌, ◌≤◌, Bool, true, false, cond, ◌&&◌, ◌||◌, nat_eq, List, [], ◌∷◌, ◌++◌, get_or, length, map, refl, sym, ap, ◌∙◌, arith}
+use Rattle.std.proofs.Common.{◌≡◌, ℕ, zero, suc, ◌-◌, ◌<◌, Bool, true, false, cond, ◌&&◌, ◌||◌, List, [], ◌∷◌, ◌++◌, get_or, map, refl, sym, ap, ◌∙◌, arith}
 use Rattle.std.specs.Prelude.{◌==◌}
 use Rattle.std.specs.List.{list_all, list_any}
 use Rattle.std.proofs.lemmas.Bool.{and_parts, eqb-true, eqb-false, true≢false}
 use Rattle.std.proofs.lemmas.List.{get_or_past}
-use Rattle.trf16_report.specs.Prelude.{Entry, Sheet, cell_at, cells_of, is_blank_cell, known, with_cell, without_last}
+use Rattle.trf16_report.specs.Prelude.{Entry, cell_at, cells_of, is_blank_cell, with_cell, without_last}
 use Rattle.trf16_report.specs.declared.cell.Cell.{Cell}
 use Rattle.trf16_report.specs.declared.cell.Cell.TheVariants.{Blank, Bye, Game, Forfeit, Unfinished}
 use Rattle.trf16_laws.proofs.PairedRound.{with_cell-here, with_cell-there}
-use Rattle.entries.specs.Prelude.{AreWithin, IsInReport, cell_after, cell_in_slot, cell_now, cells_with_new, is_named, is_put, player_resummed, player_with_new, same_slot, with_new}
+use Rattle.entries.specs.Prelude.{AreWithin, IsInReport, cell_after, cells_with_new, is_put, player_resummed, player_with_new, same_slot}
 use Rattle.entries.specs.declared.entry.NewCell.{NewCell}
 use Rattle.entries.specs.declared.entry.Slot.{Slot}
 

@@ -2,18 +2,18 @@
 --
 -- What an entry puts depends on the slots alone that it concerns: on what stands there, whether an entry so far names the player, and whether
 -- one has put the cell. An entry for another game puts nothing there.
-use Rattle.std.proofs.Common.{◌≡◌, inl, inr, ℕ, suc, zero, ◌+◌, ◌-◌, ◌<◌, Bool, true, false, cond, ◌&&◌, ◌||◌, List, [], ◌∷◌, ◌++◌, get_or, map, Option, Some, None, Result, Ok, Err, refl, sym, ap, ◌∙◌, subst, arith, append_assoc}
+use Rattle.std.proofs.Common.{◌≡◌, inl, inr, ℕ, suc, ◌+◌, ◌-◌, ◌<◌, Bool, true, false, cond, ◌&&◌, ◌||◌, List, [], ◌∷◌, ◌++◌, get_or, map, Option, Some, None, Result, Ok, Err, refl, sym, ap, ◌∙◌, subst, arith, append_assoc}
 use Rattle.std.specs.Prelude.{◌==◌}
-use Rattle.std.specs.List.{list_all, list_any}
+use Rattle.std.specs.List.{list_all}
 use Rattle.std.specs.Option.{option_map_or}
-use Rattle.std.proofs.lemmas.Bool.{and_parts, true≢false}
+use Rattle.std.proofs.lemmas.Bool.{true≢false}
 use Rattle.std.proofs.lemmas.List.{get_or_past}
 use Rattle.trf16_report.specs.Outcomes.{◌>>=◌}
 use Rattle.trf16_report.specs.Prelude.{AnswerEachOther, Entry, Sheet, cell_at, cell_in, is_blank_cell, is_unfinished, opponent_in_cell, without_last}
 use Rattle.trf16_report.specs.declared.cell.Cell.{Cell}
-use Rattle.trf16_report.specs.declared.cell.Cell.TheVariants.{Blank, Bye, Game, Forfeit, Unfinished}
+use Rattle.trf16_report.specs.declared.cell.Cell.TheVariants.{Blank}
 use Rattle.trf16_writer.proofs.BoardLemmas.{eq-self}
-use Rattle.entries.specs.Prelude.{AreWithin, are_known, are_named_once, asked_cells, cell_after, cell_in_slot, cell_now, cells_by, cells_with_new, coloured, entered, game_cells, is_named, is_put, judged, may_be_put, named_alone, named_cell, other_game, own_cells, player_with_new, reached, resummed, round_of, same_cell, same_slot, second_of, with_entries, with_entry, with_new, with_new_cell, with_new_cells}
+use Rattle.entries.specs.Prelude.{AreWithin, are_named_once, asked_cells, cell_after, cell_in_slot, cell_now, cells_by, cells_with_new, coloured, entered, game_cells, is_named, is_put, judged, may_be_put, named_alone, named_cell, other_game, own_cells, player_with_new, resummed, same_cell, same_slot, second_of, with_entries, with_entry, with_new, with_new_cell, with_new_cells}
 use Rattle.entries.specs.declared.entry.EntryOptions.{EntryOptions}
 use Rattle.entries.specs.declared.entry.Event.{Event}
 use Rattle.entries.specs.declared.entry.Event.TheVariants.{Scores, NoResult, Asked, Meets, Allocated}

@@ -1,6 +1,6 @@
 -- What one entry puts, where it is not refused.
-use Rattle.std.proofs.Common.{◌≡◌, ◌⊎◌, inl, inr, ℕ, ◌+◌, ◌<◌, ◌≤◌, Bool, true, false, not, cond, ◌&&◌, ◌||◌, nat_le, nat_lt, List, [], ◌∷◌, ◌++◌, Option, Some, None, Result, Ok, Err, refl, sym, ap, ◌∙◌, subst, arith, append_assoc}
-use Rattle.std.specs.Prelude.{IfSome, ◌==◌}
+use Rattle.std.proofs.Common.{◌≡◌, ◌⊎◌, inl, inr, ℕ, ◌+◌, ◌<◌, ◌≤◌, Bool, true, false, not, cond, ◌&&◌, nat_le, nat_lt, List, [], ◌∷◌, ◌++◌, Option, Some, None, Result, Ok, Err, refl, sym, ap, ◌∙◌, subst, append_assoc}
+use Rattle.std.specs.Prelude.{IfSome}
 use Rattle.std.specs.Option.{option_map_or, ok_or}
 use Rattle.std.proofs.lemmas.Bool.{and_parts, leb-true, ltb-true, not-false}
 use Rattle.trf16_report.specs.Outcomes.{◌>>=◌}
@@ -9,7 +9,7 @@ use Rattle.trf16_report.specs.declared.cell.Colour.{Colour}
 use Rattle.trf16_report.specs.declared.cell.Colour.TheVariants.{White, Black}
 use Rattle.trf16_report.specs.declared.cell.Bye.TheVariants.{Allocated as AllocatedBye}
 use Rattle.trf16_report.specs.declared.cell.Cell.{Cell}
-use Rattle.trf16_report.specs.declared.cell.Cell.TheVariants.{Blank, Bye, Game, Forfeit, Unfinished}
+use Rattle.trf16_report.specs.declared.cell.Cell.TheVariants.{Blank, Bye, Forfeit}
 use Rattle.trf16_report.specs.declared.limits.TheConstants.{MOST_ROUNDS}
 use Rattle.entries.specs.Prelude.{are_known, are_named_once, asked_cells, cell_now, cell_of_game, cell_with, cell_without, cells_by, coloured, game_cells, is_named, is_reached, may_be_put, meeting_cells, named_alone, named_cell, other_game, own_cells, reached, round_of, second_of, with_entry, with_new_cell, with_new_cells}
 use Rattle.entries.specs.declared.entry.EntryOptions.{EntryOptions}
@@ -23,7 +23,7 @@ use Rattle.entries.specs.declared.entry.NewCell.{NewCell}
 use Rattle.entries.specs.declared.entry.NewCells.{NewCells}
 use Rattle.entries.specs.declared.entry.Slot.{Slot}
 use Rattle.entries.specs.declared.fault.EntryFault.{EntryFault}
-use Rattle.entries.specs.declared.fault.EntryFault.TheVariants.{NotReached, NotKnown, NamedTwice, HasGame, NoGame, NoColour, HasCell}
+use Rattle.entries.specs.declared.fault.EntryFault.TheVariants.{NotReached, NotKnown, NamedTwice, NoGame, NoColour, HasCell}
 
 -- ---- steps
 

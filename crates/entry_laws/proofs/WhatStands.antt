@@ -8,14 +8,11 @@ use Rattle.std.specs.List.{AllByRecursion}
 use Rattle.std.specs.Option.{option_map_or}
 use Rattle.std.proofs.lemmas.Bool.{eq-eqb, eqb-true, true≢false}
 use Rattle.trf16_report.specs.Outcomes.{◌>>=◌}
-use Rattle.trf16_report.specs.Prelude.{Sheet, cell_at, cells_of, colour_in_cell, known, opponent_in_cell}
+use Rattle.trf16_report.specs.Prelude.{Sheet, cell_at, colour_in_cell, known, opponent_in_cell}
 use Rattle.trf16_report.specs.declared.cell.Cell.{Cell}
-use Rattle.entries.specs.Prelude.{AreWithin, cell_after, cell_in_slot, cell_now, cells_by, coloured, entered, game_cells, is_named, named_alone, named_cell, other_game, own_cells, round_of, same_slot, with_entries, with_entry, with_new}
+use Rattle.entries.specs.Prelude.{AreWithin, cell_in_slot, cell_now, cells_by, coloured, entered, game_cells, is_named, named_alone, named_cell, other_game, own_cells, same_slot, with_entries, with_entry, with_new}
 use Rattle.entries.specs.declared.entry.EntryOptions.{EntryOptions}
-use Rattle.entries.specs.declared.entry.Event.{Event}
-use Rattle.entries.specs.declared.entry.Event.TheVariants.{Scores}
 use Rattle.entries.specs.declared.entry.GameOf.{GameOf}
-use Rattle.entries.specs.declared.entry.GameResult.{GameResult}
 use Rattle.entries.specs.declared.entry.HandEntry.{HandEntry}
 use Rattle.entries.specs.declared.entry.NewCell.{NewCell}
 use Rattle.entries.specs.declared.entry.NewCells.{NewCells}
@@ -23,9 +20,9 @@ use Rattle.entries.specs.declared.entry.Slot.{Slot}
 use Rattle.entries.specs.declared.fault.EntryFault.{EntryFault}
 use Rattle.entries.specs.declared.fault.EntryFault.TheVariants.{NoGame}
 use Rattle.entry_laws.specs.Standing.{HasOwnEntry, SaysWhatStands, Stands, has_entry, slot_of}
-use Rattle.entry_laws.proofs.AllEntries.{all_within, entered_is, or_none, resummed-cell, slot_is}
+use Rattle.entry_laws.proofs.AllEntries.{all_within, entered_is, resummed-cell, slot_is}
 use Rattle.entry_laws.proofs.CellsPut.{after-append, any-append, none-after, players-after}
-use Rattle.entry_laws.proofs.OneEntry.{EntryIs, coloured_alike, coloured_colour, coloured_opponent, entry_is, listed, same_ok, then_ok}
+use Rattle.entry_laws.proofs.OneEntry.{coloured_alike, coloured_colour, coloured_opponent, entry_is, listed, same_ok, then_ok}
 
 -- what holds of a slot holds of one that is the same
 moved : (P : Slot → Type 0) (a b : Slot) → same_slot a b ≡ true → P a → P b
