@@ -83,7 +83,7 @@ const ENTER: [OptionName; 4] = [
 const ENTER_TEXTS: HelpTexts<'static> = HelpTexts {
     about: "Enters results and byes, and writes the report with them",
     usage: "arbiter enter [OPTIONS] <ENTRY>... < REPORT",
-    after_help: "The report is read from standard input. Printed is the report in canonical columns with the entries in it; each points field that is not blank is summed, and nothing else is changed. The opponent gets the other side of a result, unless an entry in front names him: 12:0 7:0 is a game that both lost. A cell that says something else is replaced with --correct alone.\n\nExamples:\n  arbiter enter 12:1 7:= 3:+ 21:H < round-4.trf > results.trf\n  arbiter enter --correct 12:0 < results.trf\n  arbiter enter --round 1 1-5 6-2 3-0 < players.trf",
+    after_help: "The report is read from standard input. Printed is the report in canonical columns with the entries in it; each points field that is not blank is summed, and nothing else is changed. The opponent gets the other side of a result, unless an entry in front names them: 12:0 7:0 is a game that both lost. A cell that says something else is replaced with --correct alone.\n\nExamples:\n  arbiter enter 12:1 7:= 3:+ 21:H < round-4.trf > results.trf\n  arbiter enter --correct 12:0 < results.trf\n  arbiter enter --round 1 1-5 6-2 3-0 < players.trf",
 };
 
 // `pair`: its options, and the texts of its help.
