@@ -1,4 +1,4 @@
-// The cells of two players of whom only the first names the other.
+// The cells of two players who do not fit together.
 ghost use Rattle.std.specs.Prelude.{◌≡◌, ◌≤◌, IfOk, string_bytes};
 ghost use Rattle.trf16_report.specs.declared.limits.TheConstants.{MOST_ROUNDS};
 ghost use Rattle.replies.specs.RefusalNoteTexts.{cells_note, cells_text, front_of_answer, front_of_cell};

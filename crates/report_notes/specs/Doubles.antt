@@ -7,7 +7,7 @@ use Rattle.report_notes.specs.declared.doubles.Identity.{Identity}
 use Rattle.report_notes.specs.declared.doubles.Identity.TheVariants.{Name, FideNumber}
 
 -- what a player's line says of it, without the blanks at its ends: the name in columns 15 to 47, or the FIDE number in columns 58 to 68; what
--- is carried of the line begins with column 9, so these are its columns 50 to 60 [with same_before]
+-- is carried of the line begins with column 9, so these are its columns 50 to 60
 abbrev pub identity_of : Identity → Bool → Entry → List ℕ
 identity_of Name utf8 entry = name_of utf8 entry
 identity_of FideNumber utf8 entry = without_blanks (text (columns utf8 entry.left) 50 60)
