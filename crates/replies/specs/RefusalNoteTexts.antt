@@ -128,7 +128,8 @@ extension_note input line = option_map_or (extension_text line) (extension_at in
 -- ---- a refusal
 
 -- of a points field its sums and the first game without a result, or why the report would be refused next; of an extension what it wants;
--- of what an earlier line says the line; of a missing player, of two cells or of a line what they hold [with refusal_note]
+-- of a start rank or number of rounds that stands twice its first line; of a missing player, of two cells or of a line what they hold [with
+-- refusal_note]
 abbrev pub found : Fault → List ℕ → ℕ → List ℕ
 found (Points player) input bye = points_note player (verdict_unsummed input bye)
 found (BadExtension line) input bye = extension_note input line

@@ -1,6 +1,6 @@
 //! What of an accepted report looks like a mistake, though it is none of the format: numbers that no player has, lines
-//! of unknown kinds, lines that begin with a blank, games without a result, and rounds that nobody asks for. Specified
-//! by the list of these, line by line.
+//! of unknown kinds, lines that begin with a blank, players who look alike, games without a result, and rounds that
+//! nobody asks for. Specified by the list of these, line by line.
 //!
 //! `Place::first` is the place in front of a report's lines, and `next_note` gives the next note behind a place, with
 //! the place behind it. So notes come one by one, each once and in the order of the lines.
