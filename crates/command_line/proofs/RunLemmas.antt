@@ -61,9 +61,9 @@ check_alike false input rest bye long = refl
 check_alike true input rest bye long =
     let refused = refusal (TooMany Bytes) in
     ap (λ (order : Option ByteOrder). with_note refused (option_map_or order_text order (option_map_or zero_text (zero_byte input) [])))
-        (sym (order_kept input rest (omega (arith, long))))
+    (sym (order_kept input rest (omega (arith, long))))
     ∙ ap (λ (zero : Option ℕ). with_note refused (option_map_or order_text (byte_order (input ++ rest)) (option_map_or zero_text zero [])))
-        (sym (zero_kept input rest (omega (arith, long))))
+    (sym (zero_kept input rest (omega (arith, long))))
 
 -- where a report has too many bytes, an answer is one over any longer input
 refused_alike : (request : Request) (input rest : List ℕ) (bye : ℕ) (answer : Answer) → most_read ≤ length input

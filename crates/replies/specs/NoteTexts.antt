@@ -33,6 +33,16 @@ abbrev pub identity_text : Identity → List ℕ
 identity_text Name = codes "name"
 identity_text FideNumber = codes "FIDE number"
 
+-- what is told of a note that stands behind those on lines; of one on a line nothing
+unfoldable pub closing_text : Noted → List ℕ
+closing_text (NoGame round) = codes "note round " ++ (decimal round ++ codes ": no game")
+closing_text (Byes round players) = codes "note round " ++ (decimal round ++ (codes ": " ++ (decimal players ++ codes " players have the bye")))
+closing_text (NobodyPresent round) = codes "note round " ++ (decimal round ++ codes ": nobody is present")
+closing_text (StartRanks rating player other) =
+    codes "note start ranks: rating " ++ (decimal rating ++ (codes " of player " ++ (decimal player ++ (codes " is above that of player " ++ decimal other))))
+closing_text RoundsUnknown = codes "note rounds unknown"
+closing_text note = []
+
 -- what is told of a note before the kind that it names
 unfoldable pub front_text : Noted → List ℕ
 front_text (NoPlayer line number) = line_front line (codes ": no player " ++ decimal number)
@@ -49,12 +59,7 @@ front_text (RatingAbove line rating player) = line_front line (codes ": rating "
 front_text (EarlyPoints line) = line_front line (codes ": the points count a round to come")
 front_text (InRound line round what) = round_front line round (round_note_text what)
 front_text (BehindColumn line column) = line_front line (codes ": behind column " ++ (decimal column ++ codes " nothing is read"))
-front_text (NoGame round) = codes "note round " ++ (decimal round ++ codes ": no game")
-front_text (Byes round players) = codes "note round " ++ (decimal round ++ (codes ": " ++ (decimal players ++ codes " players have the bye")))
-front_text (NobodyPresent round) = codes "note round " ++ (decimal round ++ codes ": nobody is present")
-front_text (StartRanks rating player other) =
-    codes "note start ranks: rating " ++ (decimal rating ++ (codes " of player " ++ (decimal player ++ (codes " is above that of player " ++ decimal other))))
-front_text RoundsUnknown = codes "note rounds unknown"
+front_text note = closing_text note
 
 -- the kind that a note names, or nothing
 abbrev pub kind_named : Noted → List ℕ

@@ -1,8 +1,9 @@
 -- The lines of `check --notes` beside a refusal: what was found.
-use Rattle.std.specs.Prelude.{ℕ, nat_le, if◌then◌else◌, List, [], ◌++◌, codes, Option, Some, None, option_and_then, Result, Ok, Err}
+use Rattle.std.specs.Prelude.{ℕ, ◌-◌, Bool, nat_le, if◌then◌else◌, List, [], ◌++◌, length, codes, Option, Some, None, option_and_then, Result, Ok, Err}
 use Rattle.std.specs.Option.{option_map_or}
 use Rattle.std.specs.Fmt.{decimal}
-use Rattle.trf16_report.specs.Prelude.{Sheet, unfinished, verdict_unsummed}
+use Rattle.std.specs.Str.{is_utf8}
+use Rattle.trf16_report.specs.Prelude.{Sheet, blanks, columns, unfinished, verdict_unsummed, without_marks}
 use Rattle.trf16_report.specs.declared.fault.Excess.TheVariants.{Players, Rounds}
 use Rattle.trf16_report.specs.declared.fault.Fault.{Fault}
 use Rattle.trf16_report.specs.declared.fault.Fault.TheVariants.{BadExtension, Colours, Duplicate, TooMany, NoPlayers, NoSuchOpponent, NotMutual, Points, Results}
@@ -99,12 +100,17 @@ front_of_cell player round = codes "note player " ++ (decimal player ++ (codes "
 unfoldable pub front_of_answer : ℕ → List ℕ
 front_of_answer opponent = codes "\", player " ++ (decimal opponent ++ codes ": \"")
 
+-- a cell as a line holds it, without its control characters; where the line ends before the cell's eight columns, blanks stand in them
+abbrev pub cell_shown : Bool → List ℕ → List ℕ
+cell_shown utf8 cell = without_controls cell ++ blanks (8 - length (columns utf8 cell))
+
 -- what the lines of two players hold of a round, of whom the second is named by the first
 abbrev pub cells_text : List ℕ → ℕ → ℕ → List ℕ
 cells_text input player round =
+    let utf8 = is_utf8 (without_marks input) in
     let opponent = opponent_held input player round in
-    front_of_cell player round ++ (without_controls (cell_held input player round) ++ (front_of_answer opponent
-    ++ (without_controls (cell_held input opponent round) ++ codes "\"\n")))
+    front_of_cell player round ++ (cell_shown utf8 (cell_held input player round) ++ (front_of_answer opponent
+    ++ (cell_shown utf8 (cell_held input opponent round) ++ codes "\"\n")))
 
 -- the same, where there can be such a round
 abbrev pub cells_note : List ℕ → ℕ → ℕ → List ℕ

@@ -2,7 +2,7 @@
 ghost use Rattle.std.specs.Prelude.{◌≡◌, ◌++◌, IfOk, OnOk, Some, string_bytes};
 ghost use Rattle.report_notes.specs.Notes.{notes_of};
 ghost use Rattle.report_notes.specs.NoteOf.{noted};
-ghost use Rattle.replies.specs.NoteTexts.{front_text, identity_text, kind_named, kind_text, line_front};
+ghost use Rattle.replies.specs.NoteTexts.{closing_text, front_text, identity_text, kind_named, kind_text, line_front};
 ghost use Rattle.replies.specs.NoteTexts.{note_text, notes_text};
 ghost use Rattle.replies.specs.NoteTexts.{round_note_text};
 
@@ -79,6 +79,16 @@ fn front(alloc: Global, note: Note<'_>) -> Result<String, AllocError>
         Note::BehindColumn { line, column } => {
             format!(in alloc; "note line {line}: behind column {column} nothing is read")
         }
+        _ => closing(alloc, note),
+    }
+}
+
+// What is told of a note that stands behind those on lines, and of one on a line nothing.
+#[tactic(auto, unfolding(crate::specs::NoteTexts::closing_text))]
+fn closing(alloc: Global, note: Note<'_>) -> Result<String, AllocError>
+    ensures { IfOk result (λ text. string_bytes text ≡ closing_text (noted note.entry)) }
+{
+    match note {
         Note::NoGame { round } => format!(in alloc; "note round {round}: no game"),
         Note::Byes { round, players } => {
             format!(in alloc; "note round {round}: {players} players have the bye")
@@ -94,6 +104,7 @@ fn front(alloc: Global, note: Note<'_>) -> Result<String, AllocError>
             "note start ranks: rating {rating} of player {player} is above that of player {other}"
         ),
         Note::RoundsUnknown => String::from_str(alloc, "note rounds unknown"),
+        _ => Ok(String::new(alloc)),
     }
 }
 
