@@ -7,8 +7,8 @@ use Rattle.trf16_report.specs.Prelude.{laid_out, verdict, verdict_unsummed}
 use Rattle.trf16_report.specs.declared.fault.Excess.TheVariants.{Bytes}
 use Rattle.trf16_report.specs.declared.fault.Fault.TheVariants.{TooMany}
 use Rattle.command_line.specs.Commands.{Answers, AnswersReport, verdict_for}
-use Rattle.replies.specs.Prelude.{check_answer, format_verdict, order_text, refusal, with_note, Answer, Reading, IsRead, most_read}
-use Rattle.report_notes.specs.RefusalNotes.{byte_order}
+use Rattle.replies.specs.Prelude.{check_answer, format_verdict, order_text, refusal, with_note, zero_text, Answer, Reading, IsRead, most_read}
+use Rattle.report_notes.specs.RefusalNotes.{byte_order, zero_byte}
 use Rattle.report_notes.specs.declared.encoding.ByteOrder.{ByteOrder}
 use Rattle.std.specs.Option.{option_map_or}
 use Rattle.command_line.specs.Run.{IsAnswered, IsInput}
@@ -50,12 +50,21 @@ order_kept [] rest two = absurd (omega (arith, two))
 order_kept (a ∷ []) rest two = absurd (omega (arith, two))
 order_kept (a ∷ b ∷ more) rest two = refl
 
+zero_kept : (input rest : List ℕ) → 2 ≤ length input → zero_byte (input ++ rest) ≡ zero_byte input
+zero_kept [] rest two = absurd (omega (arith, two))
+zero_kept (a ∷ []) rest two = absurd (omega (arith, two))
+zero_kept (a ∷ b ∷ more) rest two = refl
+
 -- where a report has too many bytes, nothing is found behind it but what its first bytes say
 check_alike : (noting : Bool) (input rest : List ℕ) (bye : ℕ) → most_read ≤ length input
     → check_answer (Err (TooMany Bytes)) noting input bye ≡ check_answer (Err (TooMany Bytes)) noting (input ++ rest) bye
 check_alike false input rest bye long = refl
 check_alike true input rest bye long =
-    ap (λ (order : Option ByteOrder). with_note (refusal (TooMany Bytes)) (option_map_or order_text order [])) (sym (order_kept input rest (omega (arith, long))))
+    let refused = refusal (TooMany Bytes) in
+    ap (λ (order : Option ByteOrder). with_note refused (option_map_or order_text order (option_map_or zero_text (zero_byte input) [])))
+    (sym (order_kept input rest (omega (arith, long))))
+    ∙ ap (λ (zero : Option ℕ). with_note refused (option_map_or order_text (byte_order (input ++ rest)) (option_map_or zero_text zero [])))
+    (sym (zero_kept input rest (omega (arith, long))))
 
 -- where a report has too many bytes, an answer is one over any longer input
 refused_alike : (request : Request) (input rest : List ℕ) (bye : ℕ) (answer : Answer) → most_read ≤ length input

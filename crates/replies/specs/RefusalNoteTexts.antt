@@ -1,20 +1,23 @@
 -- The lines of `check --notes` beside a refusal: what was found.
-use Rattle.std.specs.Prelude.{ℕ, nat_le, if◌then◌else◌, List, [], ◌++◌, codes, Option, Some, None, option_and_then, Result, Ok, Err}
+use Rattle.std.specs.Prelude.{ℕ, ◌-◌, Bool, nat_le, if◌then◌else◌, List, [], ◌++◌, length, codes, Option, Some, None, option_and_then, Result, Ok, Err}
 use Rattle.std.specs.Option.{option_map_or}
 use Rattle.std.specs.Fmt.{decimal}
-use Rattle.trf16_report.specs.Prelude.{Sheet, unfinished, verdict_unsummed}
+use Rattle.std.specs.Str.{is_utf8}
+use Rattle.trf16_report.specs.Prelude.{Sheet, blanks, columns, unfinished, verdict_unsummed, without_marks}
 use Rattle.trf16_report.specs.declared.fault.Excess.TheVariants.{Players, Rounds}
 use Rattle.trf16_report.specs.declared.fault.Fault.{Fault}
-use Rattle.trf16_report.specs.declared.fault.Fault.TheVariants.{BadExtension, TooMany, NoPlayers, NoSuchOpponent, NotMutual, Points}
+use Rattle.trf16_report.specs.declared.fault.Fault.TheVariants.{BadExtension, Colours, Duplicate, TooMany, NoPlayers, NoSuchOpponent, NotMutual, Points, Results}
 use Rattle.trf16_report.specs.declared.limits.TheConstants.{MOST_ROUNDS}
-use Rattle.report_notes.specs.RefusalNotes.{byte_order, cell_held, columns_of, extension_at, first_kind_note, fits_in_bytes, held, line_of}
-use Rattle.report_notes.specs.RefusalNotes.{opponent_held, sums_among}
+use Rattle.report_notes.specs.RefusalNotes.{byte_order, cell_held, columns_of, extension_at, first_kind_note, first_saying, fits_in_bytes, held, line_of}
+use Rattle.report_notes.specs.RefusalNotes.{opponent_held, repeated_at, sums_among, zero_byte}
 use Rattle.report_notes.specs.declared.encoding.ByteOrder.{ByteOrder}
 use Rattle.report_notes.specs.declared.encoding.ByteOrder.TheVariants.{Little, Big}
 use Rattle.report_notes.specs.declared.extension.Extension.{Extension}
 use Rattle.report_notes.specs.declared.extension.Extension.TheVariants.{Xxr, Xxc, Xxz, Xxp}
 use Rattle.report_notes.specs.declared.refusal.Columns.{Columns}
 use Rattle.report_notes.specs.declared.refusal.Sums.{Sums}
+use Rattle.report_notes.specs.declared.repeated.Repeated.{Repeated}
+use Rattle.report_notes.specs.declared.repeated.Repeated.TheVariants.{StartRank, Rounds as TheRounds}
 use Rattle.replies.specs.RefusalTexts.{fault_text}
 use Rattle.common_texts.specs.Controls.{without_controls}
 use Rattle.replies.specs.NoteTexts.{note_text}
@@ -70,6 +73,21 @@ abbrev pub order_text : ByteOrder → List ℕ
 order_text Little = codes "note bytes 1 and 2 are FF FE: this is UTF-16, save it as UTF-8\n"
 order_text Big = codes "note bytes 1 and 2 are FE FF: this is UTF-16, save it as UTF-8\n"
 
+-- a text one of whose first two bytes is 00
+unfoldable pub zero_text : ℕ → List ℕ
+zero_text place = codes "note byte " ++ (decimal place ++ codes " is 00: if this is UTF-16, save it as UTF-8\n")
+
+-- a line says a start rank, or the number of rounds, that an earlier line says
+unfoldable pub repeated_text : ℕ → Repeated → ℕ → List ℕ
+repeated_text line (StartRank start) first = codes "note line " ++ (decimal line ++ (codes ": start rank " ++ (decimal start ++ (codes " stands in line " ++ (decimal first ++ codes " too\n")))))
+repeated_text line TheRounds first = codes "note line " ++ (decimal line ++ (codes ": the number of rounds stands in line " ++ (decimal first ++ codes " too\n")))
+
+-- what a line of a text says that an earlier line says, and the first line that says it
+abbrev pub repeated_note : List ℕ → ℕ → List ℕ
+repeated_note input line =
+    let repeated = repeated_at input line in
+    option_map_or (repeated_text line repeated) (first_saying input repeated) []
+
 -- the first line of a text that is not read for its kind, or else something else
 abbrev pub kind_or : List ℕ → List ℕ → List ℕ
 kind_or input other = option_map_or note_text (first_kind_note input) other
@@ -82,12 +100,17 @@ front_of_cell player round = codes "note player " ++ (decimal player ++ (codes "
 unfoldable pub front_of_answer : ℕ → List ℕ
 front_of_answer opponent = codes "\", player " ++ (decimal opponent ++ codes ": \"")
 
+-- a cell as a line holds it, without its control characters; where the line ends before the cell's eight columns, blanks stand in them
+abbrev pub cell_shown : Bool → List ℕ → List ℕ
+cell_shown utf8 cell = without_controls cell ++ blanks (8 - length (columns utf8 cell))
+
 -- what the lines of two players hold of a round, of whom the second is named by the first
 abbrev pub cells_text : List ℕ → ℕ → ℕ → List ℕ
 cells_text input player round =
+    let utf8 = is_utf8 (without_marks input) in
     let opponent = opponent_held input player round in
-    front_of_cell player round ++ (without_controls (cell_held input player round) ++ (front_of_answer opponent
-    ++ (without_controls (cell_held input opponent round) ++ codes "\"\n")))
+    front_of_cell player round ++ (cell_shown utf8 (cell_held input player round) ++ (front_of_answer opponent
+    ++ (cell_shown utf8 (cell_held input opponent round) ++ codes "\"\n")))
 
 -- the same, where there can be such a round
 abbrev pub cells_note : List ℕ → ℕ → ℕ → List ℕ
@@ -111,10 +134,14 @@ extension_note input line = option_map_or (extension_text line) (extension_at in
 -- ---- a refusal
 
 -- of a points field its sums and the first game without a result, or why the report would be refused next; of an extension what it wants;
--- of a missing player, of two cells or of a line what they hold [with refusal_note]
+-- of a start rank or number of rounds that stands twice its first line; of a missing player, of two cells or of a line what they hold [with
+-- refusal_note]
 abbrev pub found : Fault → List ℕ → ℕ → List ℕ
 found (Points player) input bye = points_note player (verdict_unsummed input bye)
 found (BadExtension line) input bye = extension_note input line
+found (Duplicate line) input bye = repeated_note input line
+found (Colours player round) input bye = cells_note input player round
+found (Results player round) input bye = cells_note input player round
 found (NotMutual player round) input bye = kind_or input (cells_note input player round)
 found (NoSuchOpponent player round) input bye = kind_or input []
 found (TooMany Players) input bye = kind_or input []
@@ -122,9 +149,13 @@ found (TooMany Rounds) input bye = kind_or input []
 found NoPlayers input bye = kind_or input []
 found fault input bye = line_note fault input bye
 
--- the note of a refusal, or nothing: that the text is UTF-16; else what was `found` [own]
+-- the same, or that the text may be UTF-16 without a mark in front
+abbrev pub unmarked_note : Fault → List ℕ → ℕ → List ℕ
+unmarked_note fault input bye = option_map_or zero_text (zero_byte input) (found fault input bye)
+
+-- the note of a refusal, or nothing: that the text is UTF-16, or may be; else what was `found` [own]
 abbrev pub refusal_note : Fault → List ℕ → ℕ → List ℕ
-refusal_note fault input bye = option_map_or order_text (byte_order input) (found fault input bye)
+refusal_note fault input bye = option_map_or order_text (byte_order input) (unmarked_note fault input bye)
 
 -- an answer with a note
 abbrev pub with_note : Answer → List ℕ → Answer

@@ -1,12 +1,13 @@
-// The cells of two players of whom only the first names the other.
-ghost use Rattle.std.specs.Prelude.{◌≡◌, ◌≤◌, IfOk, string_bytes};
+// The cells of two players who do not fit together.
+ghost use Rattle.std.specs.Prelude.{◌≡◌, ◌≤◌, ◌++◌, IfOk, OnOk, string_bytes};
 ghost use Rattle.trf16_report.specs.declared.limits.TheConstants.{MOST_ROUNDS};
-ghost use Rattle.replies.specs.RefusalNoteTexts.{cells_note, cells_text, front_of_answer, front_of_cell};
+ghost use Rattle.replies.specs.RefusalNoteTexts.{cell_shown, cells_note, cells_text, front_of_answer, front_of_cell};
 
+use crate::table::put_blanks;
 use common_texts::put_without_controls;
-use report_notes::{cell_held, opponent_held};
+use report_notes::{cell_held, has_characters, opponent_held};
 use std::alloc::{AllocError, Global};
-use trf16_report::MOST_ROUNDS;
+use trf16_report::{MOST_ROUNDS, column_count};
 
 /// What a player's line holds of a round, and that of the opponent whom it names; nothing if there can be no such
 /// round.
@@ -29,13 +30,22 @@ fn cells_text(alloc: Global, bytes: &[u8], player: u16, round: usize) -> Result<
     requires { round ≤ MOST_ROUNDS }
     ensures { IfOk result (λ note. note.items ≡ cells_text bytes.now player round) }
 {
+    let utf8 = has_characters(bytes);
     let opponent = opponent_held(bytes, player, round);
     let mut text = front_of_cell(alloc, player, round)?.into_bytes();
-    put_without_controls(alloc, &mut text, cell_held(bytes, player, round))?;
+    put_cell(alloc, &mut text, cell_held(bytes, player, round), utf8)?;
     text.extend_from_slice(front_of_answer(alloc, opponent)?.as_bytes())?;
-    put_without_controls(alloc, &mut text, cell_held(bytes, opponent, round))?;
+    put_cell(alloc, &mut text, cell_held(bytes, opponent, round), utf8)?;
     text.extend_from_slice(b"\"\n")?;
     Ok(text)
+}
+
+// Puts a cell as a line holds it, with blanks where the line ends before the cell's eight columns.
+fn put_cell(alloc: Global, text: &mut Vec<u8>, cell: &[u8], utf8: bool) -> Result<(), AllocError>
+    ensures { OnOk result (text.new.items ≡ text.old.items ++ cell_shown utf8 cell.now) }
+{
+    put_without_controls(alloc, text, cell)?;
+    put_blanks(text, 8_usize.saturating_sub(column_count(cell, utf8)))
 }
 
 #[tactic(auto, unfolding(crate::specs::RefusalNoteTexts::front_of_cell))]

@@ -23,6 +23,7 @@ mod question;
 pub mod refusal;
 mod refusal_notes;
 mod refusal_texts;
+mod repeated_note;
 mod reply;
 pub mod standings;
 mod table;

@@ -2,11 +2,12 @@
 ghost use Rattle.std.specs.Prelude.{◌≡◌, ◌++◌, IfOk, OnOk, Some, string_bytes};
 ghost use Rattle.report_notes.specs.Notes.{notes_of};
 ghost use Rattle.report_notes.specs.NoteOf.{noted};
-ghost use Rattle.replies.specs.NoteTexts.{front_text, kind_named, kind_text, line_front, note_text, notes_text};
+ghost use Rattle.replies.specs.NoteTexts.{closing_text, front_text, identity_text, kind_named, kind_text, line_front};
+ghost use Rattle.replies.specs.NoteTexts.{note_text, notes_text};
 ghost use Rattle.replies.specs.NoteTexts.{round_note_text};
 
 use common_texts::put_without_controls;
-use report_notes::{Note, Place, RoundNote, next_note};
+use report_notes::{Identity, Note, Place, RoundNote, next_note};
 use std::alloc::{AllocError, Global};
 use std::fmt;
 use trf16_report::Report;
@@ -52,7 +53,16 @@ fn front(alloc: Global, note: Note<'_>) -> Result<String, AllocError>
         Note::BlankBefore { line, .. } => of_line(alloc, line, ": blank before "),
         Note::OnePlayer { line } => of_line(alloc, line, ": names one player"),
         Note::ManyRounds { line } => of_line(alloc, line, ": more rounds than opponents"),
+        Note::OtherCount {
+            line,
+            said,
+            players,
+        } => format!(in alloc; "note line {line}: 062 says {said}, players {players}"),
         Note::BeforeName { line } => of_line(alloc, line, ": column 14 is not blank"),
+        Note::SameAs { line, what, player } => {
+            let what = identity_text(what);
+            format!(in alloc; "note line {line}: same {what} as player {player}")
+        }
         Note::LongName { line } => of_line(alloc, line, ": the name runs into column 48"),
         Note::RatingAbove {
             line,
@@ -69,11 +79,42 @@ fn front(alloc: Global, note: Note<'_>) -> Result<String, AllocError>
         Note::BehindColumn { line, column } => {
             format!(in alloc; "note line {line}: behind column {column} nothing is read")
         }
+        _ => closing(alloc, note),
+    }
+}
+
+// What is told of a note that stands behind those on lines, and of one on a line nothing.
+#[tactic(auto, unfolding(crate::specs::NoteTexts::closing_text))]
+fn closing(alloc: Global, note: Note<'_>) -> Result<String, AllocError>
+    ensures { IfOk result (λ text. string_bytes text ≡ closing_text (noted note.entry)) }
+{
+    match note {
         Note::NoGame { round } => format!(in alloc; "note round {round}: no game"),
         Note::Byes { round, players } => {
             format!(in alloc; "note round {round}: {players} players have the bye")
         }
+        Note::NobodyPresent { round } => {
+            format!(in alloc; "note round {round}: nobody is present")
+        }
+        Note::StartRanks {
+            rating,
+            player,
+            other,
+        } => format!(in alloc;
+            "note start ranks: rating {rating} of player {player} is above that of player {other}"
+        ),
         Note::RoundsUnknown => String::from_str(alloc, "note rounds unknown"),
+        _ => Ok(String::new(alloc)),
+    }
+}
+
+// What two players share.
+fn identity_text(what: Identity) -> &'static str
+    ensures { result.now ≡ identity_text what }
+{
+    match what {
+        Identity::Name => "name",
+        Identity::FideNumber => "FIDE number",
     }
 }
 

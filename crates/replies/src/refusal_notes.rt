@@ -5,7 +5,7 @@ ghost use Rattle.trf16_report.specs.Prelude.{verdict_unsummed};
 ghost use Rattle.report_notes.specs.RefusalNotes.{are_lines_read, fits_in_bytes};
 ghost use Rattle.replies.specs.RefusalNoteTexts.{columns_text, held_text, line_in_bytes, line_note};
 ghost use Rattle.replies.specs.RefusalNoteTexts.{found, kind_or, order_text, points_note, refusal_note, sums_text};
-ghost use Rattle.replies.specs.RefusalNoteTexts.{unfinished_text, with_note};
+ghost use Rattle.replies.specs.RefusalNoteTexts.{unfinished_text, unmarked_note, with_note, zero_text};
 ghost use Rattle.replies.specs.Replies.{answer_of};
 ghost use Rattle.replies.specs.Statuses.{refusal};
 ghost use Rattle.replies.specs.RefusalTexts.{fault_text};
@@ -14,11 +14,12 @@ use crate::cells_note::cells_note;
 use crate::extension_note::extension_note;
 use crate::notes::put_note;
 use crate::refusal_texts;
+use crate::repeated_note::repeated_note;
 use crate::reply::{Reply, Status, Text};
 use common_texts::{HalfPoints, put_without_controls};
 use report_notes::{
     ByteOrder, Columns, Sums, are_lines_read, byte_order, columns_of, first_kind_note,
-    has_characters, held, line_in, line_of, sums_of,
+    has_characters, held, line_in, line_of, sums_of, zero_byte,
 };
 use std::alloc::{AllocError, Global};
 use trf16_report::{Excess, Fault, Report};
@@ -49,8 +50,26 @@ fn refusal_note(alloc: Global, fault: Fault, bytes: &[u8], bye: u16) -> Result<V
 {
     match byte_order(bytes) {
         Some(order) => Vec::from_slice(alloc, order_text(order).as_bytes()),
+        None => unmarked_note(alloc, fault, bytes, bye),
+    }
+}
+
+// The same of a text without the mark of UTF-16.
+fn unmarked_note(alloc: Global, fault: Fault, bytes: &[u8], bye: u16) -> Result<Vec<u8>, AllocError>
+    requires { bye ≤ 2 }
+    ensures { IfOk result (λ note. note.items ≡ unmarked_note fault bytes.now bye) }
+{
+    match zero_byte(bytes) {
+        Some(place) => Ok(zero_text(alloc, place)?.into_bytes()),
         None => found(alloc, fault, bytes, bye),
     }
+}
+
+#[tactic(auto, unfolding(crate::specs::RefusalNoteTexts::zero_text))]
+fn zero_text(alloc: Global, place: usize) -> Result<String, AllocError>
+    ensures { IfOk result (λ text. string_bytes text ≡ zero_text place) }
+{
+    format!(in alloc; "note byte {place} is 00: if this is UTF-16, save it as UTF-8\n")
 }
 
 // The text is UTF-16.
@@ -71,6 +90,10 @@ fn found(alloc: Global, fault: Fault, bytes: &[u8], bye: u16) -> Result<Vec<u8>,
     match fault {
         Fault::Points { player } => points_note(alloc, player, bytes, bye),
         Fault::BadExtension { line } => extension_note(alloc, bytes, line),
+        Fault::Duplicate { line } => repeated_note(alloc, bytes, line),
+        Fault::Colours { player, round } | Fault::Results { player, round } => {
+            cells_note(alloc, bytes, player, round)
+        }
         Fault::NotMutual { player, round } => {
             let cells = cells_note(alloc, bytes, player, round)?;
             kind_or(alloc, bytes, cells)

@@ -123,7 +123,7 @@ impl TableLine {
     }
 }
 
-fn put_blanks(text: &mut Vec<u8>, count: usize) -> Result<(), AllocError>
+pub(crate) fn put_blanks(text: &mut Vec<u8>, count: usize) -> Result<(), AllocError>
     ensures { OnOk result (text.new.items ≡ text.old.items ++ blanks count) }
 {
     for _ in 0..count {

@@ -17,11 +17,14 @@ use Rattle.trf16_laws.proofs.WrittenPlayers.{player_is}
 use Rattle.trf16_report.specs.declared.cell.Cell.{Cell}
 use Rattle.trf16_report.specs.declared.cell.Cell.TheVariants.{Blank, Bye, Game, Forfeit, Unfinished}
 use Rattle.report_notes.specs.Games.{start_in, played_last}
-use Rattle.report_notes.specs.Noted.{Noted, NoPlayer, PlayedLast, UnknownKind, BlankBefore, OnePlayer, ManyRounds, BeforeName, LongName, EarlyPoints, InRound, BehindColumn, NoGame, Byes, RoundsUnknown}
-use Rattle.report_notes.specs.Notes.{absent_notes, begins_blank, carried_notes, extension_notes, goes_on_behind, has_many_rounds, is_known, kind_in, last_column, line_notes, name_notes, name_runs_on, names_one, note_if, notes_from, notes_of, number_notes, player_notes, points_come_early, rating_notes, rounds_notes, stands_before_name, strangers}
+use Rattle.report_notes.specs.Noted.{Noted, NoPlayer, PlayedLast, UnknownKind, BlankBefore, OnePlayer, ManyRounds, BeforeName, LongName, EarlyPoints, InRound, BehindColumn, NoGame, Byes, NobodyPresent, StartRanks, RoundsUnknown}
+use Rattle.report_notes.specs.Notes.{absent_notes, begins_blank, carried_notes, closing_notes, count_notes, extension_notes, goes_on_behind, has_many_rounds, is_known, kind_in, last_column, line_notes, name_notes, name_runs_on, names_one, note_if, notes_from, notes_of, number_notes, other_count, person_notes, player_notes, points_come_early, rating_notes, rounds_notes, same_notes, stands_before_name, strangers}
 use Rattle.report_notes.specs.PlayerRounds.{bars_bye, bye_note, cell_note, cells_before, few_points, is_allocated, is_filled, is_game_against, meeting_note, of_rounds, opponent_of_game, points_note, round_notes}
-use Rattle.report_notes.specs.Rounds.{has_no_game, report_round_notes, report_rounds_notes, several_byes, total_notes}
-use Rattle.report_notes.specs.Ratings.{rated_above}
+use Rattle.report_notes.specs.Rounds.{are_all_absent, can_be_played, has_no_game, nobody_notes, report_round_notes, report_rounds_notes, several_byes, total_notes}
+use Rattle.report_notes.specs.Ratings.{first_above, late_above, rated_above, start_ranks_notes}
+use Rattle.report_notes.specs.Doubles.{same_before}
+use Rattle.report_notes.specs.declared.doubles.Identity.{Identity}
+use Rattle.report_notes.specs.declared.doubles.Identity.TheVariants.{Name, FideNumber}
 use Rattle.report_laws.specs.Notes.{lacks_result, tells_no_result}
 use Rattle.report_notes.specs.declared.note.RoundNote.{RoundNote}
 use Rattle.report_notes.specs.declared.note.RoundNote.TheVariants.{NoResult, MeetsAgain, AnotherBye, HalfPoint, NoPoint, NoCell}
@@ -245,6 +248,23 @@ module _ (line round : ℕ) where
   no_rating n None = refl
   no_rating n (Some above) = refl
 
+  no_same : (n : ℕ) (what : Identity) (player : Option ℕ) → tells (same_notes n what player) ≡ false
+  no_same n what None = refl
+  no_same n what (Some player) = refl
+
+  no_person : (sheet : Sheet) (n : ℕ) (columns : List (List ℕ)) (entry : Option Entry) → tells (person_notes sheet n columns entry) ≡ false
+  no_person sheet n columns entry =
+      let number = same_notes n FideNumber (option_and_then (same_before sheet FideNumber) entry) in
+      let rating = rating_notes n (option_and_then (late_above sheet) entry) in
+      let long = note_if (name_runs_on columns) (LongName n) in
+      let name = same_notes n Name (option_and_then (same_before sheet Name) entry) in
+      let front = note_if (stands_before_name columns) (BeforeName n) in
+      none_first front (name ++ (long ++ (rating ++ number))) (none_if (stands_before_name columns) (BeforeName n) refl)
+      ∙ none_first name (long ++ (rating ++ number)) (no_same n Name (option_and_then (same_before sheet Name) entry))
+      ∙ none_first long (rating ++ number) (none_if (name_runs_on columns) (LongName n) refl)
+      ∙ none_first rating number (no_rating n (option_and_then (late_above sheet) entry))
+      ∙ no_same n FideNumber (option_and_then (same_before sheet FideNumber) entry)
+
   in_player : (sheet : Sheet) (n : ℕ) (columns : List (List ℕ)) → 0 < round
       → tells (player_notes sheet n columns) ≡ ((n == line) && is_unfinished (cell_in sheet (start_in columns) round))
   in_player sheet n columns positive =
@@ -252,12 +272,8 @@ module _ (line round : ℕ) where
       let behind = note_if (goes_on_behind sheet columns) (BehindColumn n (last_column sheet)) in
       let cells = rounds ++ behind in
       let early = note_if (points_come_early sheet columns) (EarlyPoints n) in
-      let rating = rating_notes n (option_and_then (rated_above sheet) (player_of sheet.players (start_in columns))) in
-      let long = note_if (name_runs_on columns) (LongName n) in
-      let front = note_if (stands_before_name columns) (BeforeName n) in
-      none_first front (long ++ (rating ++ (early ++ cells))) (none_if (stands_before_name columns) (BeforeName n) refl)
-      ∙ none_first long (rating ++ (early ++ cells)) (none_if (name_runs_on columns) (LongName n) refl)
-      ∙ none_first rating (early ++ cells) (no_rating n (option_and_then (rated_above sheet) (player_of sheet.players (start_in columns))))
+      let entry = player_of sheet.players (start_in columns) in
+      none_first (person_notes sheet n columns entry) (early ++ cells) (no_person sheet n columns entry)
       ∙ none_first early cells (none_if (points_come_early sheet columns) (EarlyPoints n) refl)
       ∙ none_behind rounds behind (none_if (goes_on_behind sheet columns) (BehindColumn n (last_column sheet)) refl)
       ∙ player_rounds sheet n (start_in columns) positive
@@ -283,15 +299,20 @@ module _ (line round : ℕ) where
   no_names sheet n all true = none_first (map (NoPlayer n) (strangers sheet all)) (OnePlayer n ∷ []) (no_strangers n (strangers sheet all))
   no_names sheet n all false = none_first (map (NoPlayer n) (strangers sheet all)) [] (no_strangers n (strangers sheet all))
 
+  no_count : (sheet : Sheet) (n : ℕ) (said : Option ℕ) → tells (count_notes sheet n said) ≡ false
+  no_count sheet n None = refl
+  no_count sheet n (Some said) = refl
+
   no_extension : (sheet : Sheet) (n : ℕ) (columns : List (List ℕ)) → tells (extension_notes sheet n columns) ≡ false
-  no_extension sheet n columns = by (is_kind (codes "XXZ") columns) (is_kind (codes "XXP") columns) (is_kind (codes "XXR") columns)
+  no_extension sheet n columns = by (is_kind (codes "XXZ") columns) (is_kind (codes "XXP") columns) (is_kind (codes "XXR") columns) (is_kind (codes "062") columns)
     where
-      by : (z p r : Bool) → tells (cond z (absent_notes sheet n (words_of columns)) (cond p (name_notes sheet n (words_of columns) (names_one (words_of columns)))
-          (cond r (note_if (has_many_rounds sheet) (ManyRounds n)) []))) ≡ false
-      by true p r = no_absent sheet n (words_of columns)
-      by false true r = no_names sheet n (words_of columns) (names_one (words_of columns))
-      by false false true = none_if (has_many_rounds sheet) (ManyRounds n) refl
-      by false false false = refl
+      by : (z p r c : Bool) → tells (cond z (absent_notes sheet n (words_of columns)) (cond p (name_notes sheet n (words_of columns) (names_one (words_of columns)))
+          (cond r (note_if (has_many_rounds sheet) (ManyRounds n)) (cond c (count_notes sheet n (other_count sheet (words_of columns))) [])))) ≡ false
+      by true p r c = no_absent sheet n (words_of columns)
+      by false true r c = no_names sheet n (words_of columns) (names_one (words_of columns))
+      by false false true c = none_if (has_many_rounds sheet) (ManyRounds n) refl
+      by false false false true = no_count sheet n (other_count sheet (words_of columns))
+      by false false false false = refl
 
   no_carried : (sheet : Sheet) (n : ℕ) (bytes : List ℕ) → tells (carried_notes sheet n bytes) ≡ false
   no_carried sheet n bytes = by (is_blank bytes) (not (is_known (kind_in sheet.utf8 bytes))) (begins_blank bytes)
@@ -327,9 +348,36 @@ module _ (line round : ℕ) where
       by true = refl
       by false = refl
 
-  no_closing : (sheet : Sheet) → tells (report_rounds_notes sheet 0 ++ total_notes sheet) ≡ false
+  no_nobody : (sheet : Sheet) → tells (nobody_notes sheet) ≡ false
+  no_nobody sheet = by (can_be_played sheet (rounds_played sheet + 1) && are_all_absent sheet)
+    where
+      by : (nobody : Bool) → tells (cons_option (then_some nobody (NobodyPresent (rounds_played sheet + 1))) []) ≡ false
+      by true = refl
+      by false = refl
+
+  no_first_above : (sheet : Sheet) (entries : List Entry) → tells (first_above sheet entries) ≡ false
+  no_first_above sheet [] = refl
+  no_first_above sheet (entry ∷ rest) = by (rated_above sheet entry) (no_first_above sheet rest)
+    where
+      by : (above : Option RatedAbove) → tells (first_above sheet rest) ≡ false
+          → tells (option_map_or (λ (above : RatedAbove). StartRanks above.rating entry.start above.player ∷ []) above (first_above sheet rest)) ≡ false
+      by None others = others
+      by (Some above) others = refl
+
+  no_start_ranks : (sheet : Sheet) → tells (start_ranks_notes sheet) ≡ false
+  no_start_ranks sheet = by (rounds_played sheet == 0)
+    where
+      by : (first : Bool) → tells (cond first (first_above sheet sheet.players) []) ≡ false
+      by true = no_first_above sheet sheet.players
+      by false = refl
+
+  no_closing : (sheet : Sheet) → tells (closing_notes sheet) ≡ false
   no_closing sheet =
-      none_first (report_rounds_notes sheet 0) (total_notes sheet) (no_report_rounds sheet 0 (rounds_played sheet - 0)) ∙ no_total sheet
+      let behind = start_ranks_notes sheet ++ total_notes sheet in
+      none_first (report_rounds_notes sheet 0) (nobody_notes sheet ++ behind) (no_report_rounds sheet 0 (rounds_played sheet - 0))
+      ∙ none_first (nobody_notes sheet) behind (no_nobody sheet)
+      ∙ none_first (start_ranks_notes sheet) (total_notes sheet) (no_start_ranks sheet)
+      ∙ no_total sheet
 
   -- ---- all lines
 
@@ -413,5 +461,5 @@ each_is_noted bytes bye sheet e line round positive =
     let utf8 = is_utf8 (without_marks bytes) in
     let all = lines (without_marks bytes) in
     let r = (accepted bytes bye sheet e).0 in
-    none_behind line round (notes_from sheet 1 all) (report_rounds_notes sheet 0 ++ total_notes sheet) (no_closing line round sheet)
+    none_behind line round (notes_from sheet 1 all) (closing_notes sheet) (no_closing line round sheet)
     ∙ sym (of_lines line round (without_players utf8 all bye) sheet 1 all positive (grows (without_players utf8 all bye) sheet 1 all r.read).utf8 r.read)

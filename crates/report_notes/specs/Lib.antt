@@ -1,4 +1,5 @@
 -- What the contracts of report_notes name: what looks like a mistake, and the places in front of it; and what stands where a report is refused.
+pub mod Doubles
 pub mod Games
 pub mod Noted
 pub mod PlayerRounds

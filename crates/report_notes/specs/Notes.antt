@@ -1,14 +1,18 @@
 -- What of an accepted report looks like a mistake: line by line, and then round by round.
 use Rattle.std.specs.Prelude.{ℕ, ◌+◌, ◌*◌, Bool, true, false, not, ◌==◌, nat_le, if◌then◌else◌, List, [], ◌∷◌, ◌++◌, map, drop, length, codes, Option, Some, None, option_and_then}
+use Rattle.std.specs.Bool.{then_some}
 use Rattle.std.specs.List.{list_all, list_any}
 use Rattle.std.specs.Option.{option_map_or}
 use Rattle.std.specs.Str.{byte}
-use Rattle.trf16_report.specs.Prelude.{without_marks, lines, columns, joined, text, is_blank, words, number_of, without_blanks, is_kind, is_word, words_of, Sheet, known, rounds_played, is_player, player_of}
+use Rattle.trf16_report.specs.Prelude.{without_marks, lines, columns, joined, text, is_blank, words, number_in, number_of, without_blanks, is_kind, is_word, words_of, Entry, Sheet, known, rounds_played, is_player, player_of}
+use Rattle.report_notes.specs.Doubles.{same_before}
 use Rattle.report_notes.specs.Games.{start_in, played_last, counts_to_come}
-use Rattle.report_notes.specs.Noted.{Noted, NoPlayer, PlayedLast, UnknownKind, BlankBefore, OnePlayer, ManyRounds, BeforeName, LongName, RatingAbove, EarlyPoints, InRound, BehindColumn}
+use Rattle.report_notes.specs.Noted.{Noted, NoPlayer, PlayedLast, UnknownKind, BlankBefore, OnePlayer, ManyRounds, OtherCount, BeforeName, SameAs, LongName, RatingAbove, EarlyPoints, InRound, BehindColumn}
 use Rattle.report_notes.specs.PlayerRounds.{of_rounds_behind, round_notes}
-use Rattle.report_notes.specs.Ratings.{rated_above}
-use Rattle.report_notes.specs.Rounds.{report_rounds_notes, total_notes}
+use Rattle.report_notes.specs.Ratings.{late_above, start_ranks_notes}
+use Rattle.report_notes.specs.Rounds.{nobody_notes, report_rounds_notes, total_notes}
+use Rattle.report_notes.specs.declared.doubles.Identity.{Identity}
+use Rattle.report_notes.specs.declared.doubles.Identity.TheVariants.{Name, FideNumber}
 use Rattle.report_notes.specs.declared.ratings.RatedAbove.{RatedAbove}
 
 -- a kind is known: it is read, it refuses a command, or it is one of TRF16's that are carried
@@ -68,15 +72,25 @@ note_if true note = note ∷ []
 abbrev pub has_many_rounds : Sheet → Bool
 has_many_rounds sheet = option_map_or (λ total. nat_le (length sheet.players) total) sheet.total false
 
+-- the number of players that a line 062 names, if it is another [with carried_notes]
+abbrev pub other_count : Sheet → List (List ℕ) → Option ℕ
+other_count sheet all = option_and_then (λ said. then_some (not (said == length sheet.players)) said) (number_in all)
+
+-- that it is another, if it is
+abbrev pub count_notes : Sheet → ℕ → Option ℕ → List Noted
+count_notes sheet n None = []
+count_notes sheet n (Some said) = OtherCount n said (length sheet.players) ∷ []
+
 -- line n, of a kind that is known
 abbrev pub extension_notes : Sheet → ℕ → List (List ℕ) → List Noted
 extension_notes sheet n line =
     if is_kind (codes "XXZ") line then absent_notes sheet n (words_of line)
     else (if is_kind (codes "XXP") line then name_notes sheet n (words_of line) (names_one (words_of line))
-    else (if is_kind (codes "XXR") line then note_if (has_many_rounds sheet) (ManyRounds n) else []))
+    else (if is_kind (codes "XXR") line then note_if (has_many_rounds sheet) (ManyRounds n)
+    else (if is_kind (codes "062") line then count_notes sheet n (other_count sheet (words_of line)) else [])))
 
 -- of line n, which is carried: nothing where it is blank; else that its kind is not known; else that blanks stand before the kind; else
--- what `absent_notes`, `name_notes` and `has_many_rounds` say of XXZ, XXP and XXR [own]
+-- what `absent_notes`, `name_notes`, `has_many_rounds` and `other_count` say of XXZ, XXP, XXR and 062 [own]
 abbrev pub carried_notes : Sheet → ℕ → List ℕ → List Noted
 carried_notes sheet n line =
     if is_blank line then []
@@ -112,18 +126,30 @@ cells_notes sheet n line = rounds_notes sheet n (start_in line) 0 ++ note_if (go
 abbrev pub points_come_early : Sheet → List (List ℕ) → Bool
 points_come_early sheet line = option_map_or (counts_to_come sheet) (player_of sheet.players (start_in line)) false
 
+-- that a player has a name or FIDE number of another player, if it is so
+abbrev pub same_notes : ℕ → Identity → Option ℕ → List Noted
+same_notes n what None = []
+same_notes n what (Some player) = SameAs n what player ∷ []
+
 -- that a late entry's rating is above that of another player, if it is
 abbrev pub rating_notes : ℕ → Option RatedAbove → List Noted
 rating_notes n None = []
 rating_notes n (Some above) = RatingAbove n above.rating above.player ∷ []
 
--- of line n, a player's, in the order of its columns: column 14, that its name runs on, a late entry's rating, that its points come early,
--- what of its rounds, and that it goes on behind the next round [own]
+-- who a player's line says that it is, line n, in the order of its columns: column 14, a name that an earlier player has, that the name runs
+-- on, a late entry's rating, and a FIDE number that an earlier player has [with player_notes]
+abbrev pub person_notes : Sheet → ℕ → List (List ℕ) → Option Entry → List Noted
+person_notes sheet n line entry =
+    note_if (stands_before_name line) (BeforeName n) ++ (same_notes n Name (option_and_then (same_before sheet Name) entry)
+    ++ (note_if (name_runs_on line) (LongName n) ++ (rating_notes n (option_and_then (late_above sheet) entry)
+    ++ same_notes n FideNumber (option_and_then (same_before sheet FideNumber) entry))))
+
+-- of line n, a player's, in the order of its columns: what `person_notes` says, that its points come early, what of its rounds, and that it
+-- goes on behind the next round [own]
 abbrev pub player_notes : Sheet → ℕ → List (List ℕ) → List Noted
 player_notes sheet n line =
-    note_if (stands_before_name line) (BeforeName n) ++ (note_if (name_runs_on line) (LongName n)
-    ++ (rating_notes n (option_and_then (rated_above sheet) (player_of sheet.players (start_in line)))
-    ++ (note_if (points_come_early sheet line) (EarlyPoints n) ++ cells_notes sheet n line)))
+    person_notes sheet n line (player_of sheet.players (start_in line))
+    ++ (note_if (points_come_early sheet line) (EarlyPoints n) ++ cells_notes sheet n line)
 
 -- line n
 abbrev pub line_notes : Sheet → ℕ → List ℕ → List Noted
@@ -134,6 +160,10 @@ abbrev pub notes_from : Sheet → ℕ → List (List ℕ) → List Noted
 notes_from sheet n [] = []
 notes_from sheet n (line ∷ rest) = line_notes sheet n line ++ notes_from sheet (n + 1) rest
 
--- all that looks like a mistake in the bytes of a report: line by line, then round by round, and then the number of rounds [own]
+-- behind the lines: round by round, the round that comes next, the order of the start ranks, and the number of rounds [with notes_of]
+abbrev pub closing_notes : Sheet → List Noted
+closing_notes sheet = report_rounds_notes sheet 0 ++ (nobody_notes sheet ++ (start_ranks_notes sheet ++ total_notes sheet))
+
+-- all that looks like a mistake in the bytes of a report: line by line, and then behind the lines [own]
 abbrev pub notes_of : Sheet → List ℕ → List Noted
-notes_of sheet bytes = notes_from sheet 1 (lines (without_marks bytes)) ++ (report_rounds_notes sheet 0 ++ total_notes sheet)
+notes_of sheet bytes = notes_from sheet 1 (lines (without_marks bytes)) ++ closing_notes sheet

@@ -1,5 +1,6 @@
 -- What stands where a report is refused: what the columns hold that a refusal is about, whether they were counted in bytes, the sums that a
--- points field was compared with, how the text is encoded, lines whose kinds are not read, and the cells of two who do not name each other.
+-- points field was compared with, how the text is encoded, what an earlier line says already, lines whose kinds are not read, and the cells
+-- of two who do not fit together.
 use Rattle.std.specs.Prelude.{ℕ, ◌+◌, ◌-◌, ◌*◌, ◌/◌, Bool, true, false, not, ◌&&◌, ◌||◌, ◌==◌, nat_le, nat_lt, if◌then◌else◌, List, [], ◌∷◌, ◌++◌, codes, sum_by, take, slice_index_or, Option, Some, None, option_map, option_and_then, Result, Err}
 use Rattle.std.specs.Option.{option_map_or}
 use Rattle.std.specs.Str.{byte, is_utf8}
@@ -17,6 +18,8 @@ use Rattle.report_notes.specs.declared.extension.Extension.{Extension}
 use Rattle.report_notes.specs.declared.extension.Extension.TheVariants.{Xxr, Xxc, Xxz, Xxp}
 use Rattle.report_notes.specs.declared.refusal.Columns.{Columns}
 use Rattle.report_notes.specs.declared.refusal.Sums.{Sums}
+use Rattle.report_notes.specs.declared.repeated.Repeated.{Repeated}
+use Rattle.report_notes.specs.declared.repeated.Repeated.TheVariants.{StartRank, Rounds}
 
 -- ---- columns
 
@@ -106,6 +109,37 @@ abbrev pub byte_order : List ℕ → Option ByteOrder
 byte_order (a ∷ b ∷ rest) =
     if (a == 0xFF) && (b == 0xFE) then Some Little else (if (a == 0xFE) && (b == 0xFF) then Some Big else None)
 byte_order _ = None
+
+-- which of the first two bytes of a text is 00, as in UTF-16, from 1 [with first_kind_note]
+abbrev pub zero_byte : List ℕ → Option ℕ
+zero_byte [] = None
+zero_byte (a ∷ []) = if a == 0 then Some 1 else None
+zero_byte (a ∷ b ∷ rest) = if a == 0 then Some 1 else (if b == 0 then Some 2 else None)
+
+-- ---- what stands twice
+
+-- what a line repeats that an earlier one says: a player's its start rank, another one the number of rounds [with first_saying]
+abbrev pub repeated_in : List (List ℕ) → Repeated
+repeated_in line = if is_player line then StartRank (start_in line) else Rounds
+
+-- a line says it
+abbrev pub says : Repeated → List (List ℕ) → Bool
+says (StartRank start) line = is_player line && (start_in line == start)
+says Rounds line = is_kind (codes "XXR") line
+
+-- the first of some lines that says it, where the first of them is line n
+abbrev pub first_saying_from : Repeated → Bool → ℕ → List (List ℕ) → Option ℕ
+first_saying_from repeated utf8 n [] = None
+first_saying_from repeated utf8 n (line ∷ rest) =
+    if says repeated (columns utf8 line) then Some n else first_saying_from repeated utf8 (n + 1) rest
+
+-- what line n of a text repeats [with first_saying]
+abbrev pub repeated_at : List ℕ → ℕ → Repeated
+repeated_at bytes n = repeated_in (columns_in bytes n)
+
+-- the number of the first line of a text that says a start rank, or the number of rounds [own]
+abbrev pub first_saying : List ℕ → Repeated → Option ℕ
+first_saying bytes repeated = first_saying_from repeated (is_utf8 (without_marks bytes)) 1 (lines (without_marks bytes))
 
 -- ---- kinds
 

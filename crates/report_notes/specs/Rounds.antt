@@ -1,9 +1,11 @@
 -- What of the rounds of a report looks like a mistake, whoever plays in them.
-use Rattle.std.specs.Prelude.{ℕ, Bool, not, nat_lt, List, [], ◌∷◌, filter, length, Option, option_map, is_some}
+use Rattle.std.specs.Prelude.{ℕ, ◌+◌, Bool, true, not, ◌&&◌, nat_le, nat_lt, List, [], ◌∷◌, filter, length, Option, option_map, is_some}
 use Rattle.std.specs.Bool.{then_some}
-use Rattle.std.specs.List.{list_any}
-use Rattle.trf16_report.specs.Prelude.{Entry, Sheet, cell_at, opponent_in_cell}
-use Rattle.report_notes.specs.Noted.{Noted, NoGame, Byes, RoundsUnknown}
+use Rattle.std.specs.List.{list_all, list_any}
+use Rattle.std.specs.Option.{option_map_or}
+use Rattle.trf16_report.specs.Prelude.{Entry, Sheet, absent, cell_at, opponent_in_cell, rounds_played}
+use Rattle.trf16_report.specs.declared.limits.TheConstants.{MOST_ROUNDS}
+use Rattle.report_notes.specs.Noted.{Noted, NoGame, Byes, NobodyPresent, RoundsUnknown}
 use Rattle.report_notes.specs.PlayerRounds.{is_allocated, of_rounds_behind, told}
 
 -- a player has an opponent in a round
@@ -29,6 +31,22 @@ several_byes sheet round = then_some (nat_lt 1 (byes_in sheet round)) (byes_in s
 -- of a round: that nobody has an opponent in it; how many have the pairing-allocated bye, if several do [own]
 abbrev pub report_round_notes : Sheet → ℕ → List Noted
 report_round_notes sheet round = told (then_some (has_no_game sheet round) (NoGame round) ∷ option_map (Byes round) (several_byes sheet round) ∷ [])
+
+-- a round can be played: a report has so many rounds at most, and no line XXR names fewer
+abbrev pub can_be_played : Sheet → ℕ → Bool
+can_be_played sheet round = nat_le round MOST_ROUNDS && option_map_or (nat_le round) sheet.total true
+
+-- every player is absent from the round that comes next
+abbrev pub are_all_absent : Sheet → Bool
+are_all_absent sheet = list_all (λ entry. absent sheet entry.start) sheet.players
+
+-- of a round, which comes next: that it can be played, and every player is absent from it
+abbrev pub absence_notes : Sheet → ℕ → List Noted
+absence_notes sheet round = told (then_some (can_be_played sheet round && are_all_absent sheet) (NobodyPresent round) ∷ [])
+
+-- that nobody is present in the round that comes next [with notes_of]
+abbrev pub nobody_notes : Sheet → List Noted
+nobody_notes sheet = absence_notes sheet (rounds_played sheet + 1)
 
 -- no line XXR says how many rounds there are
 abbrev pub total_notes : Sheet → List Noted

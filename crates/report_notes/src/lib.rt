@@ -1,6 +1,6 @@
 //! What of an accepted report looks like a mistake, though it is none of the format: numbers that no player has, lines
-//! of unknown kinds, lines that begin with a blank, games without a result, and rounds that nobody asks for. Specified
-//! by the list of these, line by line.
+//! of unknown kinds, lines that begin with a blank, players who look alike, games without a result, and rounds that
+//! nobody asks for. Specified by the list of these, line by line.
 //!
 //! `Place::first` is the place in front of a report's lines, and `next_note` gives the next note behind a place, with
 //! the place behind it. So notes come one by one, each once and in the order of the lines.
@@ -13,6 +13,7 @@
 #![tactic(auto)]
 
 mod closing;
+mod doubles;
 mod encoding;
 mod extension;
 mod fields;
@@ -22,6 +23,7 @@ mod kinds;
 mod line;
 mod names;
 mod note;
+mod person;
 mod place;
 mod player_line;
 mod player_round;
@@ -29,11 +31,13 @@ mod player_rounds;
 mod points;
 mod ratings;
 mod refusal;
+mod repeated;
 mod rounds;
 mod two_cells;
 mod walk;
 
-pub use encoding::{ByteOrder, byte_order};
+pub use doubles::Identity;
+pub use encoding::{ByteOrder, byte_order, zero_byte};
 pub use extension::{Extension, extension_at};
 pub use first_kind::first_kind_note;
 pub use note::{Note, RoundNote};
@@ -41,5 +45,6 @@ pub use place::Place;
 pub use refusal::{
     Columns, Sums, are_lines_read, columns_of, has_characters, held, line_in, line_of, sums_of,
 };
+pub use repeated::{Repeated, first_saying, repeated_at};
 pub use two_cells::{cell_held, opponent_held};
 pub use walk::next_note;

@@ -1,9 +1,12 @@
 // What of one line looks like a mistake.
 ghost use Rattle.std.specs.Prelude.{◌≡◌, ◌∷◌, [], MatchOption};
-ghost use Rattle.trf16_report.specs.Prelude.{columns};
-ghost use Rattle.report_notes.specs.Notes.{carried_notes, extension_notes, has_many_rounds, line_notes};
+ghost use Rattle.trf16_report.specs.Prelude.{columns, words};
+ghost use Rattle.report_notes.specs.Notes.{carried_notes, count_notes, extension_notes, has_many_rounds, line_notes, note_if};
+ghost use Rattle.report_notes.specs.Notes.{other_count};
+ghost use Rattle.report_notes.specs.Noted.{ManyRounds};
 ghost use Rattle.report_notes.specs.NoteOf.{left_notes, noted};
 
+use crate::fields::number_in;
 use crate::kinds::{begins_blank, is_known, kind_in};
 use crate::names::{names_one, next_absent, next_stranger};
 use crate::note::Note;
@@ -102,7 +105,7 @@ fn carried_left<'a>(report: &Report<'_>, n: usize, line: &'a [u8]) -> Left<'a>
     }
 }
 
-// The same of a line of a known kind: what `XXZ` and `XXP` name, and how many rounds `XXR`.
+// The same of a line of a known kind: what `XXZ` and `XXP` name, how many rounds `XXR`, and how many players `062`.
 fn extension_left<'a>(report: &Report<'_>, n: usize, line: &'a [u8]) -> Left<'a>
     ensures { left_notes report.now n result ≡ extension_notes report.now n (columns report.now.utf8 line.now) }
 {
@@ -112,10 +115,38 @@ fn extension_left<'a>(report: &Report<'_>, n: usize, line: &'a [u8]) -> Left<'a>
     } else if is_word(kind, b"XXP") {
         let alone = names_one(names);
         Left::Names { names, alone }
-    } else if is_word(kind, b"XXR") && has_many_rounds(report) {
+    } else if is_word(kind, b"XXR") {
+        rounds_left(report, n)
+    } else if is_word(kind, b"062") {
+        count_left(report, n, names)
+    } else {
+        Left::Nothing
+    }
+}
+
+// The same of a line `XXR`.
+fn rounds_left<'a>(report: &Report<'_>, n: usize) -> Left<'a>
+    ensures { left_notes report.now n result ≡ note_if (has_many_rounds report.now) (ManyRounds n) }
+{
+    if has_many_rounds(report) {
         Left::One(Note::ManyRounds { line: n })
     } else {
         Left::Nothing
+    }
+}
+
+// The same of a line `062`, by what stands behind its kind: a number of players that is not that of the report.
+fn count_left<'a>(report: &Report<'_>, n: usize, count: &[u8]) -> Left<'a>
+    ensures { left_notes report.now n result ≡ count_notes report.now n (other_count report.now (words count.now)) }
+{
+    let players = report.players().len();
+    match number_in(count) {
+        Some(said) if usize::from(said) != players => Left::One(Note::OtherCount {
+            line: n,
+            said,
+            players,
+        }),
+        _ => Left::Nothing,
     }
 }
 

@@ -1,5 +1,7 @@
 // What looks like a mistake.
 
+use crate::doubles::Identity;
+
 /// What of a round of a player looks like a mistake.
 #[derive(Clone, Copy)]
 pub enum RoundNote {
@@ -50,9 +52,21 @@ pub enum Note<'a> {
     ManyRounds {
         line: usize,
     },
+    /// A line `062` names another number of players than there are.
+    OtherCount {
+        line: usize,
+        said: u16,
+        players: usize,
+    },
     /// Column 14 of a player's line, between title and name, is not blank.
     BeforeName {
         line: usize,
+    },
+    /// A player in an earlier line has the same name, or the same FIDE number. This is the first of them.
+    SameAs {
+        line: usize,
+        what: Identity,
+        player: u16,
     },
     /// Column 48 of a player's line, between name and rating, is not blank.
     LongName {
@@ -89,6 +103,18 @@ pub enum Note<'a> {
     Byes {
         round: u8,
         players: usize,
+    },
+    /// Every player is absent from the round that comes next, which can be played: it is not behind the last one of a
+    /// line `XXR`, nor of a report.
+    NobodyPresent {
+        round: u8,
+    },
+    /// No round is paired, and the rating of a player, the first by line, is above that of another with a smaller start
+    /// rank, of whom this is the first by start rank.
+    StartRanks {
+        rating: u16,
+        player: u16,
+        other: u16,
     },
     /// No line `XXR` says how many rounds there are.
     RoundsUnknown,

@@ -6,21 +6,15 @@ ghost use Rattle.report_notes.specs.NoteOf.{cells_left_notes, noted, player_left
 
 use crate::fields::start_in;
 use crate::note::Note;
+use crate::person::{PersonLeft, next_of_person, person_left};
 use crate::player_rounds::{PlayerRoundsLeft, next_of_player_rounds};
 use crate::points::counts_to_come;
-use crate::ratings::{RatedAbove, rated_above};
-use crate::refusal::columns_in;
 use trf16_report::{Report, is_blank, split_columns};
 
 /// What is left to tell of a player's line, in the order of its columns.
 #[derive(Clone, Copy)]
 pub(crate) struct PlayerLeft {
-    // whether it is that something stands in front of the name, in column 14
-    pub(crate) before_name: bool,
-    // whether it is that the name runs into column 48
-    pub(crate) long_name: bool,
-    // a late entry's rating above that of another player
-    pub(crate) rating: Option<RatedAbove>,
+    pub(crate) person: PersonLeft,
     // whether it is that the points count a round to come
     pub(crate) early: bool,
     pub(crate) cells: CellsLeft,
@@ -43,33 +37,8 @@ pub(crate) fn next_of_player<'a>(
     ensures { MatchOption result (player_left_notes report.now n left ≡ [])
         (λ x. player_left_notes report.now n left ≡ noted x.0 ∷ player_left_notes report.now n x.1) }
 {
-    if left.before_name {
-        let after = PlayerLeft {
-            before_name: false,
-            ..left
-        };
-        return Some((Note::BeforeName { line: n }, after));
-    }
-    if left.long_name {
-        let after = PlayerLeft {
-            long_name: false,
-            ..left
-        };
-        return Some((Note::LongName { line: n }, after));
-    }
-    if let Some(RatedAbove { rating, player }) = left.rating {
-        let after = PlayerLeft {
-            rating: None,
-            ..left
-        };
-        return Some((
-            Note::RatingAbove {
-                line: n,
-                rating,
-                player,
-            },
-            after,
-        ));
+    if let Some((note, person)) = next_of_person(n, left.person) {
+        return Some((note, PlayerLeft { person, ..left }));
     }
     if left.early {
         let after = PlayerLeft {
@@ -114,12 +83,7 @@ pub(crate) fn player_left(report: &Report<'_>, line: &[u8]) -> PlayerLeft
     let start = start_in(line, utf8);
     let (_, rest) = split_columns(line, utf8, last_column(report));
     PlayerLeft {
-        before_name: !is_blank(columns_in(line, utf8, 14, 14)),
-        long_name: !is_blank(columns_in(line, utf8, 48, 48)),
-        rating: match report.player(start) {
-            Some(player) => rated_above(report, player),
-            None => None,
-        },
+        person: person_left(report, line, start),
         early: counts_to_come(report, start),
         cells: CellsLeft {
             rounds: PlayerRoundsLeft::all(start),

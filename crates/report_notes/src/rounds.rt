@@ -3,12 +3,12 @@ ghost use Rattle.std.specs.Prelude.{◌≡◌, ◌<◌, ◌∷◌, [], false, Ma
 ghost use Rattle.trf16_report.specs.Prelude.{Sheet, rounds_played};
 ghost use Rattle.trf16_report.specs.declared.limits.TheConstants.{MOST_ROUNDS};
 ghost use Rattle.report_notes.specs.Rounds.{byes_in, has_no_game, report_rounds_notes};
-ghost use Rattle.report_notes.specs.Rounds.{several_byes};
+ghost use Rattle.report_notes.specs.Rounds.{are_all_absent, can_be_played, nobody_notes, several_byes};
 ghost use Rattle.report_notes.specs.NoteOf.{noted, rounds_left_notes};
 
 use crate::note::Note;
 use crate::player_round::is_allocated;
-use trf16_report::{Report, cell_at};
+use trf16_report::{MOST_ROUNDS, Report, cell_at};
 
 /// What is left to tell of the rounds of a report.
 #[derive(Clone, Copy)]
@@ -112,4 +112,41 @@ fn byes_in(report: &Report<'_>, round: u8) -> usize
         }
     }
     count
+}
+
+/// That nobody is present in the round that comes next, if it can be played.
+pub(crate) fn nobody_note<'a>(report: &Report<'_>) -> Option<Note<'a>>
+    ensures { MatchOption result (nobody_notes report.now ≡ []) (λ note. nobody_notes report.now ≡ noted note ∷ []) }
+{
+    let round = report.rounds_played() + 1;
+    if can_be_played(report, round) && are_all_absent(report) {
+        Some(Note::NobodyPresent { round })
+    } else {
+        None
+    }
+}
+
+// A report has so many rounds at most, and no line `XXR` names fewer.
+fn can_be_played(report: &Report<'_>, round: u8) -> bool
+    ensures { result ≡ can_be_played report.now round }
+{
+    if MOST_ROUNDS < usize::from(round) {
+        return false;
+    }
+    match report.total_rounds() {
+        Some(total) => round <= total,
+        None => true,
+    }
+}
+
+// Absent from the round that comes next.
+fn are_all_absent(report: &Report<'_>) -> bool
+    ensures { result ≡ are_all_absent report.now }
+{
+    for player in report.players() {
+        if !report.absent(player.start) {
+            return false;
+        }
+    }
+    true
 }

@@ -9,7 +9,8 @@ use crate::fields::{number_in, start_in};
 use crate::refusal::{columns_in, has_characters};
 use trf16_report::{next_line, skip_marks, split_kind};
 
-fn is_line_of(line: &[u8], utf8: bool, start: u16) -> bool
+/// Yes for the line of a player with a start rank.
+pub(crate) fn is_line_of(line: &[u8], utf8: bool, start: u16) -> bool
     ensures { result ≡ (is_player (columns utf8 line.now) && (start_in (columns utf8 line.now) == start)) }
 {
     let (kind, _) = split_kind(line, utf8);

@@ -41,11 +41,3 @@ returns-in-InRound c = rw c.in-InRound.is (search rules)
 pub returns-in-BehindColumn : goal.returns-in-BehindColumn
 unfolding front_text
 returns-in-BehindColumn c = rw c.in-BehindColumn.is (search rules)
-
-pub returns-in-NoGame : goal.returns-in-NoGame
-unfolding front_text
-returns-in-NoGame c = rw c.in-NoGame.is (search rules)
-
-pub returns-in-Byes : goal.returns-in-Byes
-unfolding front_text
-returns-in-Byes c = rw c.in-Byes.is (search rules)
