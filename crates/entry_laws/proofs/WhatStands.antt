@@ -153,8 +153,8 @@ other_between options sheet entries so_far rest new like is b = record {
 record AreOfGame (sheet : Sheet) (so_far : List NewCell) (game : GameOf) (new : NewCells) : Type 0 where
   first : new.first ≡ named_cell game.slot (cell_in_slot sheet game.slot)
   second : (new.second ≡ None) ⊎ ((his : Cell) × (is_named so_far (other_game game).slot ≡ false)
-    × (coloured (other_game game) (cell_now sheet so_far (other_game game).slot) ≡ Ok his)
-    × (new.second ≡ Some (record { slot = (other_game game).slot; cell = his; named = false })))
+      × (coloured (other_game game) (cell_now sheet so_far (other_game game).slot) ≡ Ok his)
+      × (new.second ≡ Some (record { slot = (other_game game).slot; cell = his; named = false })))
 
 of_game : (sheet : Sheet) (so_far : List NewCell) (game : GameOf) (new : NewCells) → colour_in_cell (cell_now sheet so_far game.slot) ≡ colour_in_cell (cell_in_slot sheet game.slot)
     → Stands sheet game → game_cells sheet so_far game ≡ Ok new → AreOfGame sheet so_far game new

@@ -36,4 +36,4 @@ pub record SaysWhatStands (options : EntryOptions) (sheet : Sheet) (entries : Li
   pub event : entry.event ≡ Scores score
   pub mine : Stands sheet (record { slot = slot_of options sheet entry; opponent = opponent; score = Some score })
   pub theirs : Stands sheet (other_game (record { slot = slot_of options sheet entry; opponent = opponent; score = Some score }))
-    ⊎ HasOwnEntry options sheet entries (record { slot = slot_of options sheet entry; opponent = opponent; score = Some score })
+      ⊎ HasOwnEntry options sheet entries (record { slot = slot_of options sheet entry; opponent = opponent; score = Some score })
