@@ -1,3 +1,4 @@
+pub mod PairedBoards
 pub mod ObstacleTruth
 pub mod ByeTruth
 pub mod DecidedLemmas

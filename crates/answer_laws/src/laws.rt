@@ -1,14 +1,15 @@
 // Laws on what is told to a player who asks for another opponent, or for the bye: it is asked where the two could meet,
-// and each reason is true.
+// and each reason is true. And one on what the boards of the report are compared with.
 ghost use Rattle.std.specs.Prelude.{◌≡◌, ◌<◌, ℕ, true, List, Ok, Option, Some, is_some, length, map};
 ghost use Rattle.dutch_player.specs.Prelude.{Facts, facts_of};
 ghost use Rattle.trf16_report.specs.Prelude.{HasOwnStarts, Sheet};
 ghost use Rattle.trf16_report.specs.declared.cell.Colour.{Colour};
-ghost use Rattle.dutch_rounds.specs.Prelude.{above_lower, IsStage, IsInstead, Pairing, own_pairs, round, visit};
+ghost use Rattle.dutch_rounds.specs.Prelude.{above_lower, boards, IsStage, IsInstead, Pairing, own_pairs, round, visit};
 ghost use Rattle.dutch_rounds.specs.declared.instead.Instead.TheVariants.{FewerMovedDown, NoneEligible, NoneLegal};
 ghost use Rattle.dutch_rounds.specs.declared.stage.Stage.{Stage};
 ghost use Rattle.dutch_candidates.specs.declared.wish.Wish.{Wish};
 ghost use Rattle.command_line.specs.InsteadAnswers.{decided_in, IsRival, shared_in};
+ghost use Rattle.command_line.specs.OtherBoards.{boards_paired};
 ghost use Rattle.command_line.specs.declared.instead.Rival.{Rival};
 ghost use Rattle.pairing_laws.specs.SharedBrackets.{ArePaired};
 ghost use Rattle.answer_laws.specs.InsteadLaws.{IsDecidedIn, NoneCanBeChosen, NoneWithAsManyMovedDown};
@@ -86,4 +87,12 @@ pub fn where_c5_is_told_none_has_as_many_pairs()
     ensures { (facts : Facts) (stage : Stage) (wish : Wish) (limit : ℕ) → IsStage facts stage
         → IsInstead (above_lower facts stage.reached) stage.shape wish limit NoneLegal
         → NoneWithAsManyPairs facts stage wish }
+{}
+
+/// The boards that those of the report are compared with are the boards of the round's pairing: what `pair` gives.
+#[tactic(auto, using(crate::proofs::PairedBoards::boards_are_of_pair))]
+pub fn the_report_is_compared_with_what_pair_gives()
+    ensures { (facts : Facts) (pairing : Pairing) (stages : List Stage)
+        → (round facts).pairing ≡ Some pairing → map visit stages ≡ (round facts).reached
+        → boards_paired facts stages pairing.bye ≡ boards facts pairing }
 {}

@@ -12,8 +12,8 @@ use Rattle.requests.specs.declared.words.Request.{Request}
 use Rattle.requests.specs.declared.words.Request.TheVariants.{Check, Format, Enter, Pair, Boards, Candidates, Explain, Standings}
 
 -- this is an answer to a request over an input, what the pairing-allocated bye gives, and the report that it is, or over why it is refused;
--- where a request asks for a round it is answered on the report as it stood before that round, but `boards` on the whole report [with
--- Answers]
+-- where a request asks for a round it is answered on the report as it stood before that round, but `boards` on the whole report, which
+-- `explain` looks at too [with Answers]
 abbrev pub AnswersReport : Request → List ℕ → ℕ → Result Sheet Fault → Answer → Type 0
 AnswersReport (Check options) input bye report answer = answer ≡ check_answer report options.notes input bye
 AnswersReport (Format options) input bye report answer = answer ≡ format_answer options.points options.renumber (seen_before options.round report)
@@ -21,7 +21,7 @@ AnswersReport (Enter options) input bye report answer = answer ≡ enter_answer 
 AnswersReport (Pair options) input bye report answer = AnswersPair options (seen_before options.round report) answer
 AnswersReport (Boards options) input bye report answer = answer ≡ boards_answer options report
 AnswersReport (Candidates options) input bye report answer = AnswersCandidates options (seen_before options.round report) answer
-AnswersReport (Explain options) input bye report answer = AnswersExplain options (seen_before options.round report) answer
+AnswersReport (Explain options) input bye report answer = AnswersExplain options report answer
 AnswersReport (Standings options) input bye report answer = answer ≡ standings_answer options (seen_before options.round report)
 
 -- the verdict that a request goes by: of `format` its own, of `enter` that without the points fields, of all others that of the report [with Answers]

@@ -1,29 +1,40 @@
 -- What `explain` answers: the round, bracket by bracket, or what of it one player is told.
-use Rattle.std.specs.Prelude.{◌≡◌, ℕ, IfSome, List, [], ◌++◌, Option, Some, None, Result, Ok, Err}
+use Rattle.std.specs.Prelude.{◌≡◌, ℕ, IfSome, Bool, true, false, List, [], ◌++◌, Option, Some, None, Result, Ok, Err, codes}
 use Rattle.dutch_rounds.specs.Prelude.{Barrier, Blocks, AreStages}
 use Rattle.dutch_rounds.specs.declared.round.AllStages.{AllStages}
 use Rattle.dutch_rounds.specs.declared.round.AllStages.TheVariants.{Paired, NoPairing, Undecided}
+use Rattle.dutch_rounds.specs.declared.stage.Stage.{Stage}
 use Rattle.dutch_player.specs.Prelude.{Facts, facts_of, seat_with}
 use Rattle.dutch_player.specs.declared.fault.FieldFault.{FieldFault}
 use Rattle.trf16_report.specs.Prelude.{Sheet}
+use Rattle.trf16_report.specs.declared.fault.Fault.{Fault}
 use Rattle.stage_lines.specs.BarrierTexts.{no_pairing_text, reason_text}
 use Rattle.stage_lines.specs.ExplainTexts.{stages_text}
 use Rattle.command_line.specs.InsteadAnswers.{AnswersInstead, PairedRound}
 use Rattle.command_line.specs.InsteadAnswers.{undecided_in}
+use Rattle.command_line.specs.OtherBoards.{boards_paired, has_other_boards}
 use Rattle.player_lines.specs.PlayerTexts.{absent_text, player_text}
 use Rattle.round_lines.specs.RoundTexts.{round_text}
-use Rattle.round_lines.specs.Tellings.{TellingFacts}
-use Rattle.replies.specs.Prelude.{question_fault, Answer, behind, done, field_refusal, no_pairing, plain, question_refusal, unseen_answer}
+use Rattle.round_lines.specs.Tellings.{TellingFacts, in_wording}
+use Rattle.replies.specs.Prelude.{question_fault, Answer, behind, done, field_refusal, no_pairing, plain, question_refusal, refusal, seen_before, unseen_answer}
 use Rattle.replies.specs.declared.views.Unseen.{Unseen}
 use Rattle.requests.specs.declared.options.ExplainOptions.{ExplainOptions}
 use Rattle.requests.specs.declared.options.Question.{Question}
+use Rattle.requests.specs.declared.options.Wording.{Wording}
 use Rattle.replies.specs.declared.question.QuestionFault.{QuestionFault}
 
 -- ---- a round that is paired
 
--- the line of a round
+-- that the round has other boards in the report, if it has
+abbrev pub other_boards_text : Wording → Bool → List ℕ
+other_boards_text wording false = []
+other_boards_text wording true =
+    in_wording wording (codes "report has other boards\n")
+    (codes "In the report this round has other boards: it was paired by hand, or what it stands on was corrected.\n")
+
+-- the line of a round, and behind it that the report has other boards, if it has [own]
 abbrev pub first_text : PairedRound → List ℕ
-first_text round = round_text round.telling round.bye
+first_text round = round_text round.telling round.bye ++ other_boards_text round.telling.wording round.other_boards
 
 -- what is told of a present player: their line, and the brackets in which they stand
 abbrev pub present_text : PairedRound → ℕ → List ℕ
@@ -79,32 +90,46 @@ pub record TellsWhy (telling : TellingFacts) (question : Option Question) (answe
 
 -- ---- a round
 
+-- a round that is paired, and whether it has other boards in a report [with AnswersExplain]
+abbrev pub paired_round : Sheet → Option ℕ → TellingFacts → List Stage → List ℕ → PairedRound
+paired_round whole number telling stages bye = record {
+  telling = telling;
+  stages = stages;
+  bye = bye;
+  other_boards = has_other_boards whole number (boards_paired telling.facts stages bye);
+}
+
 -- what is told of a round: as it is paired, why it has no pairing, or that it stopped [with AnswersExplain]
-abbrev pub TellsRound : ExplainOptions → TellingFacts → AllStages → Answer → Type 0
-TellsRound options telling (Paired stages bye) answer =
-    TellsPaired options.question options.steps (record { telling = telling; stages = stages.items; bye = bye.items }) answer
-TellsRound options telling NoPairing answer = TellsWhy telling options.question answer
-TellsRound options telling (Undecided number used) answer = answer ≡ undecided_in telling.wording number used
+abbrev pub TellsRound : ExplainOptions → Sheet → TellingFacts → AllStages → Answer → Type 0
+TellsRound options whole telling (Paired stages bye) answer =
+    TellsPaired options.question options.steps (paired_round whole options.round telling stages.items bye.items) answer
+TellsRound options whole telling NoPairing answer = TellsWhy telling options.question answer
+TellsRound options whole telling (Undecided number used) answer = answer ≡ undecided_in telling.wording number used
 
 -- a field is paired, and its round is told [with AnswersExplain]
-pub record IsExplained (options : ExplainOptions) (telling : TellingFacts) (answer : Answer) : Type 0 where
+pub record IsExplained (options : ExplainOptions) (whole : Sheet) (telling : TellingFacts) (answer : Answer) : Type 0 where
   pub stages : AllStages
   pub are : AreStages telling.facts options.steps stages
-  pub tells : TellsRound options telling stages answer
+  pub tells : TellsRound options whole telling stages answer
 
 -- a field is paired, and its round is told, where nothing is wrong with the question; else that is told [with AnswersExplain]
-abbrev pub ExplainsAsked : ExplainOptions → TellingFacts → Option QuestionFault → Answer → Type 0
-ExplainsAsked options telling None answer = IsExplained options telling answer
-ExplainsAsked options telling (Some fault) answer = answer ≡ question_refusal fault
+abbrev pub ExplainsAsked : ExplainOptions → Sheet → TellingFacts → Option QuestionFault → Answer → Type 0
+ExplainsAsked options whole telling None answer = IsExplained options whole telling answer
+ExplainsAsked options whole telling (Some fault) answer = answer ≡ question_refusal fault
 
 -- what is answered to a field, or why the round cannot be paired [with AnswersExplain]
-abbrev pub ExplainsField : ExplainOptions → Sheet → Result Facts FieldFault → Answer → Type 0
-ExplainsField options sheet (Ok facts) answer =
-    ExplainsAsked options (record { sheet = sheet; facts = facts; wording = options.wording }) (question_fault sheet options.question) answer
-ExplainsField options sheet (Err fault) answer = answer ≡ field_refusal fault
+abbrev pub ExplainsField : ExplainOptions → Sheet → Sheet → Result Facts FieldFault → Answer → Type 0
+ExplainsField options whole sheet (Ok facts) answer =
+    ExplainsAsked options whole (record { sheet = sheet; facts = facts; wording = options.wording }) (question_fault sheet options.question) answer
+ExplainsField options whole sheet (Err fault) answer = answer ≡ field_refusal fault
+
+-- what is answered to a report as it stood before the round that is asked for, or why there is none [with AnswersExplain]
+abbrev pub ExplainsSeen : ExplainOptions → Sheet → Result Sheet Unseen → Answer → Type 0
+ExplainsSeen options whole (Ok sheet) answer = ExplainsField options whole sheet (facts_of sheet options.rounds options.initial) answer
+ExplainsSeen options whole (Err why) answer = answer ≡ unseen_answer why
 
 -- `explain`: the round as it is paired, or of it what is asked of one player; or why there is none; what is wrong with the question is told
 -- before anything is paired [own]
-abbrev pub AnswersExplain : ExplainOptions → Result Sheet Unseen → Answer → Type 0
-AnswersExplain options (Ok sheet) answer = ExplainsField options sheet (facts_of sheet options.rounds options.initial) answer
-AnswersExplain options (Err why) answer = answer ≡ unseen_answer why
+abbrev pub AnswersExplain : ExplainOptions → Result Sheet Fault → Answer → Type 0
+AnswersExplain options (Ok whole) answer = ExplainsSeen options whole (seen_before options.round (Ok whole)) answer
+AnswersExplain options (Err fault) answer = answer ≡ refusal fault

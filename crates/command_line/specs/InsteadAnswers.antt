@@ -22,12 +22,13 @@ use Rattle.command_line.specs.declared.instead.Rival.TheVariants.{Bye, Seat}
 use Rattle.player_lines.specs.declared.obstacle.Obstacle.{Obstacle}
 use Rattle.player_lines.specs.declared.obstacle.Obstacle.TheVariants.{Absent}
 
--- a round that is paired: its report and its field, the brackets that it reached, and the seat that has the bye, if one has [with
--- AnswersInstead]
+-- a round that is paired: its report and its field, the brackets that it reached, the seat that has the bye, if one has, and whether the
+-- round has other boards in the report [with AnswersInstead]
 pub record PairedRound : Type 0 where
   pub telling : TellingFacts
   pub stages : List Stage
   pub bye : List ℕ
+  pub other_boards : Bool
 
 -- ---- the bracket in which it was decided
 

@@ -1,31 +1,32 @@
 // The command `explain`: why the next round is paired as it is, bracket by bracket or for one player.
-ghost use Rattle.std.specs.Prelude.{◌≡◌, ◌≤◌, ◌++◌, IfOk, None, Ok, OnOk};
+ghost use Rattle.std.specs.Prelude.{◌≡◌, ◌≤◌, ◌++◌, true, IfOk, None, Ok, OnOk, Some};
 ghost use Rattle.std.specs.List.{AllByRecursion};
 ghost use Rattle.dutch_rounds.specs.Prelude.{IsStage};
 ghost use Rattle.trf16_report.specs.Prelude.{verdict};
 ghost use Rattle.dutch_player.specs.Prelude.{seat_with};
-ghost use Rattle.command_line.specs.ExplainAnswers.{AnswersExplain, ExplainsAsked, IsExplained};
+ghost use Rattle.command_line.specs.ExplainAnswers.{AnswersExplain, ExplainsAsked, ExplainsSeen, IsExplained};
 ghost use Rattle.command_line.specs.ExplainAnswers.{AnswersQuestion, IsToldBehind, TellsPaired};
-ghost use Rattle.command_line.specs.ExplainAnswers.{about_text, first_text, front_text, present_text};
+ghost use Rattle.command_line.specs.ExplainAnswers.{about_text, first_text, front_text, other_boards_text, present_text};
 ghost use Rattle.stage_lines.specs.ExplainTexts.{stages_text};
 ghost use Rattle.replies.specs.Prelude.{answer_of, done, question_fault, seen_before};
 
 use crate::instead::{AskedInSteps, Paired, instead};
 use crate::not_paired::{no_pairing_because, undecided};
+use crate::other_boards::{boards_paired, has_other_boards};
 use dutch_choice::finder::Finder;
 use dutch_player::{Field, FieldFault};
 use dutch_rounds::{AllStages, stages};
 use player_lines::{put_absent, put_player};
-use replies::refusal::{cannot_be_asked, cannot_be_paired};
-use replies::views::{not_seen, read_before};
+use replies::refusal::{cannot_be_asked, cannot_be_paired, refused, round_not_reached};
 use replies::{Reply, Status, question_fault};
-use requests::{ExplainOptions, Question};
+use requests::{ExplainOptions, Question, Wording};
 use round_lines::page::Page;
-use round_lines::telling::Telling;
+use round_lines::telling::{Telling, in_wording};
 use round_lines::{Asked, put_round};
 use stage_lines::bracket_lines::put_stages;
 use std::alloc::{AllocError, Global};
-use trf16_report::Report;
+use trf16_report::{Fault, Report};
+use trf16_writer::before_round;
 
 /// What `explain` says of the bytes of a report in which the pairing-allocated bye gives `bye` half points.
 pub fn explain<F: Finder>(
@@ -35,12 +36,12 @@ pub fn explain<F: Finder>(
     bye: u16,
 ) -> Result<Reply, AllocError>
     requires { bye ≤ 2 }
-    ensures { IfOk result
-        (λ reply. AnswersExplain options (seen_before options.round (verdict bytes.now bye)) (answer_of reply)) }
+    ensures { IfOk result (λ reply. AnswersExplain options (verdict bytes.now bye) (answer_of reply)) }
 {
-    match read_before(alloc, bytes, bye, options.round)? {
+    match trf16_reader::read_with(alloc, bytes, bye) {
         Ok(report) => of_report::<F>(alloc, options, &report),
-        Err(why) => not_seen(alloc, why),
+        Err(Fault::OutOfMemory) => Err(AllocError),
+        Err(fault) => refused(alloc, fault),
     }
 }
 
@@ -52,6 +53,37 @@ fn of_report<F: Finder>(
 ) -> Result<Reply, AllocError>
     ensures { IfOk result (λ reply. AnswersExplain options (Ok report.now) (answer_of reply)) }
 {
+    match options.round {
+        Some(round) => before::<F>(alloc, options, report, round),
+        None => of_view::<F>(alloc, options, report, report),
+    }
+}
+
+// The same where a round is asked for, if the report reaches it.
+fn before<F: Finder>(
+    alloc: Global,
+    options: ExplainOptions,
+    report: &Report<'_>,
+    round: u8,
+) -> Result<Reply, AllocError>
+    ensures { IfOk result (λ reply. ExplainsSeen options report.now
+        (seen_before (Some round) (Ok report.now)) (answer_of reply)) }
+{
+    match before_round(alloc, report, round)? {
+        Some(view) => of_view::<F>(alloc, options, report, &view),
+        None => round_not_reached(alloc, round),
+    }
+}
+
+// The same of a report as it stood before the round that is asked for; the whole one may have boards of that round.
+fn of_view<'a, F: Finder>(
+    alloc: Global,
+    options: ExplainOptions,
+    whole: &Report<'a>,
+    report: &Report<'a>,
+) -> Result<Reply, AllocError>
+    ensures { IfOk result (λ reply. ExplainsSeen options whole.now (Ok report.now) (answer_of reply)) }
+{
     match Field::new(alloc, report, options.rounds, options.initial) {
         Ok(field) => {
             let telling = Telling {
@@ -59,7 +91,7 @@ fn of_report<F: Finder>(
                 field: &field,
                 wording: options.wording,
             };
-            of_field::<F>(alloc, options, &telling)
+            of_field::<F>(alloc, options, whole, &telling)
         }
         Err(FieldFault::OutOfMemory) => Err(AllocError),
         Err(fault) => cannot_be_paired(alloc, fault),
@@ -70,14 +102,15 @@ fn of_report<F: Finder>(
 fn of_field<F: Finder>(
     alloc: Global,
     options: ExplainOptions,
+    whole: &Report<'_>,
     telling: &Telling<'_>,
 ) -> Result<Reply, AllocError>
-    ensures { IfOk result (λ reply. ExplainsAsked options telling.now
+    ensures { IfOk result (λ reply. ExplainsAsked options whole.now telling.now
         (question_fault telling.now.sheet options.question) (answer_of reply)) }
 {
     match question_fault(telling.report, options.question) {
         Some(fault) => cannot_be_asked(alloc, fault),
-        None => of_round::<F>(alloc, options, telling),
+        None => of_round::<F>(alloc, options, whole, telling),
     }
 }
 
@@ -85,16 +118,19 @@ fn of_field<F: Finder>(
 fn of_round<F: Finder>(
     alloc: Global,
     options: ExplainOptions,
+    whole: &Report<'_>,
     telling: &Telling<'_>,
 ) -> Result<Reply, AllocError>
-    ensures { IfOk result (λ reply. IsExplained options telling.now (answer_of reply)) }
+    ensures { IfOk result (λ reply. IsExplained options whole.now telling.now (answer_of reply)) }
 {
     match stages::<F>(alloc, telling.field, options.steps)? {
         AllStages::Paired { stages, bye } => {
+            let boards = boards_paired(alloc, telling.field, &stages, &bye)?;
             let round = Paired {
                 telling,
                 stages: &stages,
                 bye: &bye,
+                other_boards: has_other_boards(alloc, whole, options.round, &boards)?,
             };
             tell_paired::<F>(alloc, options, &round)
         }
@@ -137,8 +173,31 @@ fn put_all(text: &mut Page, round: &Paired<'_>) -> Result<(), AllocError>
     ensures { OnOk result (text.new
         ≡ text.old ++ (first_text round.now ++ stages_text round.now.telling None round.now.stages)) }
 {
-    put_round(text, round.telling, round.bye)?;
+    put_first(text, round)?;
     put_stages(text, round.telling, round.stages, None)
+}
+
+// Puts the line of a round, and behind it that the report has other boards, if it has.
+fn put_first(text: &mut Page, round: &Paired<'_>) -> Result<(), AllocError>
+    ensures { OnOk result (text.new ≡ text.old ++ first_text round.now) }
+{
+    let telling = round.telling;
+    put_round(text, telling, round.bye)?;
+    if round.other_boards {
+        put_other_boards(text, telling.wording)?;
+    }
+    Ok(())
+}
+
+// Puts that the round has other boards in the report.
+fn put_other_boards(text: &mut Page, wording: Wording) -> Result<(), AllocError>
+    ensures { OnOk result (text.new ≡ text.old ++ other_boards_text wording true) }
+{
+    text.push_str(in_wording(
+        wording,
+        "report has other boards\n",
+        "In the report this round has other boards: it was paired by hand, or what it stands on was corrected.\n",
+    ))
 }
 
 // What is asked of a player, and of who is named instead, if one is.
@@ -193,7 +252,7 @@ fn put_front(text: &mut Page, round: &Paired<'_>, player: u16) -> Result<(), All
     requires { AllByRecursion (IsStage round.now.telling.facts) round.now.stages }
     ensures { OnOk result (text.new ≡ text.old ++ front_text round.now player) }
 {
-    put_round(text, round.telling, round.bye)?;
+    put_first(text, round)?;
     put_about(text, round, player)
 }
 

@@ -35,12 +35,14 @@ pub enum Rival {
     Seat(u16),
 }
 
-/// A round that is paired: how it is told, the brackets that it reached, and the seat that has the bye, if one has.
+/// A round that is paired: how it is told, the brackets that it reached, the seat that has the bye, if one has, and
+/// whether the round has other boards in the report.
 #[derive(Drop)]
 pub struct Paired<'a> {
     pub telling: &'a Telling<'a>,
     pub stages: &'a [Stage],
     pub bye: &'a [u16],
+    pub other_boards: bool,
 }
 
 impl<'a> Model for Paired<'a> {
@@ -48,7 +50,12 @@ impl<'a> Model for Paired<'a> {
 
     ghost Value = { PairedRound };
 
-    ghost view = { λ r. record { telling = r.telling.now; stages = r.stages.now; bye = r.bye.now } };
+    ghost view = { λ r. record {
+      telling = r.telling.now;
+      stages = r.stages.now;
+      bye = r.bye.now;
+      other_boards = r.other_boards;
+    } };
 }
 
 /// What is asked: by whom and for whom, by their start ranks, for the bye by 0; and in how many steps a candidate may

@@ -11,6 +11,7 @@
 mod explain;
 mod instead;
 mod not_paired;
+mod other_boards;
 mod running;
 
 pub use replies::Status;
