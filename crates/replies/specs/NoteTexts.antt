@@ -83,7 +83,8 @@ other_kinds =
 abbrev pub kind_text : List ℕ → List ℕ → List ℕ
 kind_text front kind = front ++ without_controls kind
 
--- what is told of an unknown kind: of one of `other_kinds`, in either case, what a line of it says; else that it is unknown
+-- of an unknown kind: if it is one of `other_kinds`, in either case, its name and what a line of it says; else that it is unknown, and the
+-- kind without its control characters [with notes_text]
 abbrev pub unknown_text : List ℕ → List ℕ
 unknown_text kind =
     option_map_or (λ other. other.0 ++ (codes " " ++ other.1)) (find (λ other. is_word kind other.0) other_kinds) (kind_text (codes "unknown kind ") kind)
@@ -98,6 +99,7 @@ told_of_kind _ = []
 abbrev pub note_text : Noted → List ℕ
 note_text note = front_text note ++ (told_of_kind note ++ codes "\n")
 
--- the lines of `check --notes`: of each note the number of its line, what was found, and what is told of a kind [own]
+-- the lines of `check --notes`: of each note the number of its line and what was found; of an unknown kind `unknown_text`, and of a known kind
+-- with blanks before it the kind [own]
 abbrev pub notes_text : List Noted → List ℕ
 notes_text notes = flat_map note_text notes
