@@ -1,2 +1,3 @@
+pub mod FoundLemmas
 pub mod InputLemmas
 pub mod TableLemmas

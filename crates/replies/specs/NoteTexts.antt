@@ -1,7 +1,9 @@
 -- The lines of `check --notes`.
-use Rattle.std.specs.Prelude.{ℕ, List, [], ◌++◌, codes}
-use Rattle.std.specs.List.{flat_map}
+use Rattle.std.specs.Prelude.{ℕ, List, [], ◌∷◌, ◌++◌, codes}
+use Rattle.std.specs.List.{find, flat_map}
+use Rattle.std.specs.Option.{option_map_or}
 use Rattle.std.specs.Fmt.{decimal}
+use Rattle.trf16_report.specs.Prelude.{is_word}
 use Rattle.report_notes.specs.Noted.{Noted, NoPlayer, PlayedLast, UnknownKind, BlankBefore, OnePlayer, ManyRounds, OtherCount, BeforeName}
 use Rattle.report_notes.specs.Noted.{SameAs, LongName, RatingAbove, EarlyPoints, InRound, BehindColumn, NoGame, Byes, NobodyPresent}
 use Rattle.report_notes.specs.Noted.{StartRanks, RoundsUnknown}
@@ -43,12 +45,12 @@ closing_text (StartRanks rating player other) =
 closing_text RoundsUnknown = codes "note rounds unknown"
 closing_text note = []
 
--- what is told of a note before the kind that it names
+-- the line of a note up to what is told of a kind
 unfoldable pub front_text : Noted → List ℕ
 front_text (NoPlayer line number) = line_front line (codes ": no player " ++ decimal number)
 front_text (PlayedLast line number) = line_front line (codes ": player " ++ (decimal number ++ codes " played the last round"))
-front_text (UnknownKind line kind) = line_front line (codes ": unknown kind ")
-front_text (BlankBefore line kind) = line_front line (codes ": blank before ")
+front_text (UnknownKind line kind) = line_front line (codes ": ")
+front_text (BlankBefore line kind) = line_front line (codes ": ")
 front_text (OnePlayer line) = line_front line (codes ": names one player")
 front_text (ManyRounds line) = line_front line (codes ": more rounds than opponents")
 front_text (OtherCount line said players) = line_front line (codes ": 062 says " ++ (decimal said ++ (codes ", players " ++ decimal players)))
@@ -61,21 +63,43 @@ front_text (InRound line round what) = round_front line round (round_note_text w
 front_text (BehindColumn line column) = line_front line (codes ": behind column " ++ (decimal column ++ codes " nothing is read"))
 front_text note = closing_text note
 
--- the kind that a note names, or nothing
-abbrev pub kind_named : Noted → List ℕ
-kind_named (UnknownKind line kind) = kind
-kind_named (BlankBefore line kind) = kind
-kind_named _ = []
+-- the kinds of lines that other programs write and that are not read: of each what a line of it says, and what to use instead [own]
+unfoldable pub other_kinds : List (List ℕ × List ℕ)
+other_kinds =
+    (codes "BBW", codes "gives the points of a win: if not 1.0, use another program")
+    ∷ (codes "BBD", codes "gives the points of a draw: if not 0.5, use another program")
+    ∷ (codes "BBL", codes "gives the points of a loss: if not 0.0, use another program")
+    ∷ (codes "BBZ", codes "gives the points of an absence: if not 0.0, use another program")
+    ∷ (codes "BBF", codes "gives the points of a forfeit loss: if not 0.0, use another program")
+    ∷ (codes "BBU", codes "gives the points of the pairing-allocated bye: use --bye, in half points")
+    ∷ (codes "162", codes "gives the points of results: if unusual, use --bye or another program")
+    ∷ (codes "172", codes "names the method of the start ranks: use those in columns 5 to 8")
+    ∷ (codes "240", codes "gives byes that players asked for: use enter with H, F or Z")
+    ∷ (codes "250", codes "accelerates the pairing: use another program")
+    ∷ (codes "260", codes "keeps players apart in another format: use XXP")
+    ∷ []
 
--- a line that ends with a kind, which is shown without its control characters
+-- a text, and behind it a kind without its control characters
 abbrev pub kind_text : List ℕ → List ℕ → List ℕ
-kind_text front kind = front ++ (without_controls kind ++ codes "\n")
+kind_text front kind = front ++ without_controls kind
+
+-- of an unknown kind: if it is one of `other_kinds`, in either case, its name and what a line of it says; else that it is unknown, and the
+-- kind without its control characters [with notes_text]
+abbrev pub unknown_text : List ℕ → List ℕ
+unknown_text kind =
+    option_map_or (λ other. other.0 ++ (codes " " ++ other.1)) (find (λ other. is_word kind other.0) other_kinds) (kind_text (codes "unknown kind ") kind)
+
+-- what a note tells of a kind, or nothing
+abbrev pub told_of_kind : Noted → List ℕ
+told_of_kind (UnknownKind line kind) = unknown_text kind
+told_of_kind (BlankBefore line kind) = kind_text (codes "blank before ") kind
+told_of_kind _ = []
 
 -- the line of a note
 abbrev pub note_text : Noted → List ℕ
-note_text note = kind_text (front_text note) (kind_named note)
+note_text note = front_text note ++ (told_of_kind note ++ codes "\n")
 
--- the lines of `check --notes`: of each note the number of its line, what was found, and the kind that it names, without its control
--- characters [own]
+-- the lines of `check --notes`: of each note the number of its line and what was found; of an unknown kind `unknown_text`, and of a known kind
+-- with blanks before it the kind [own]
 abbrev pub notes_text : List Noted → List ℕ
 notes_text notes = flat_map note_text notes

@@ -7,8 +7,8 @@ pub use Rattle.replies.specs.Questions.{instead_fault, question_fault}
 pub use Rattle.replies.specs.Statuses.{Answer, behind, code_of, done, field_refusal, is_output, no_pairing, not_of_bracket, not_reached, out_of_memory, plain, question_refusal, read_fault, refusal, round_not_reached, tie_refusal, undecided, unread_refusal, words_refusal}
 pub use Rattle.replies.specs.Replies.{answer_of, note_of, text_of}
 pub use Rattle.replies.specs.WrittenAnswers.{HasInTurn, HasTextOrPart, IsCut, IsNoteCut, IsNoted, IsOnStandardError, IsPrinted, IsToldWith, IsWritten, IsWrittenTo}
-pub use Rattle.replies.specs.NoteTexts.{identity_text, kind_named, kind_text, line_front, note_text, notes_text, round_front}
-unfoldable pub use Rattle.replies.specs.NoteTexts.{closing_text, front_text, round_note_text}
+pub use Rattle.replies.specs.NoteTexts.{identity_text, kind_text, line_front, note_text, notes_text, round_front, told_of_kind, unknown_text}
+unfoldable pub use Rattle.replies.specs.NoteTexts.{closing_text, front_text, other_kinds, round_note_text}
 pub use Rattle.replies.specs.RefusalNoteTexts.{cell_shown, cells_note, cells_text, extension_note, found, held_text, kind_or, line_in_bytes, line_note, order_text, points_note, refusal_note, repeated_note, unmarked_note, wanted_text, with_note}
 unfoldable pub use Rattle.replies.specs.RefusalNoteTexts.{bytes_text, columns_text, extension_text, front_of_answer, front_of_cell, repeated_text, sums_text, unfinished_text, zero_text}
 pub use Rattle.replies.specs.ReportAnswers.{check_answer, format_answer, format_verdict, formatted, size_text, written_answer}

@@ -1,16 +1,18 @@
 // The lines of `check --notes`: what of an accepted report looks like a mistake.
-ghost use Rattle.std.specs.Prelude.{◌≡◌, ◌++◌, IfOk, OnOk, Some, string_bytes};
+ghost use Rattle.std.specs.Prelude.{◌≡◌, ◌++◌, IfOk, OnOk, Some, option_map, string_bytes};
+ghost use Rattle.std.specs.List.{find};
+ghost use Rattle.trf16_report.specs.Prelude.{is_word};
 ghost use Rattle.report_notes.specs.Notes.{notes_of};
 ghost use Rattle.report_notes.specs.NoteOf.{noted};
-ghost use Rattle.replies.specs.NoteTexts.{closing_text, front_text, identity_text, kind_named, kind_text, line_front};
-ghost use Rattle.replies.specs.NoteTexts.{note_text, notes_text};
-ghost use Rattle.replies.specs.NoteTexts.{round_note_text};
+ghost use Rattle.replies.specs.NoteTexts.{closing_text, front_text, identity_text, kind_text, line_front};
+ghost use Rattle.replies.specs.NoteTexts.{note_text, notes_text, other_kinds};
+ghost use Rattle.replies.specs.NoteTexts.{round_note_text, told_of_kind, unknown_text};
 
 use common_texts::put_without_controls;
 use report_notes::{Identity, Note, Place, RoundNote, next_note};
 use std::alloc::{AllocError, Global};
 use std::fmt;
-use trf16_report::Report;
+use trf16_report::{Report, is_word};
 
 /// Puts a line for each note of a report that stands in some bytes.
 pub fn put_notes(
@@ -34,10 +36,12 @@ pub(crate) fn put_note(alloc: Global, text: &mut Vec<u8>, note: Note<'_>) -> Res
     ensures { OnOk result (text.new.items ≡ text.old.items ++ note_text (noted note.entry)) }
 {
     let front = front(alloc, note)?;
-    put_kind(alloc, text, front.as_str(), kind_named(note))
+    text.extend_from_slice(front.as_bytes())?;
+    put_told_of_kind(alloc, text, note)?;
+    text.extend_from_slice(b"\n")
 }
 
-// What is told of a note before the kind that it names.
+// The line of a note up to what is told of a kind.
 #[tactic(auto, unfolding(crate::specs::NoteTexts::front_text))]
 fn front(alloc: Global, note: Note<'_>) -> Result<String, AllocError>
     ensures { IfOk result (λ text. string_bytes text ≡ front_text (noted note.entry)) }
@@ -49,8 +53,9 @@ fn front(alloc: Global, note: Note<'_>) -> Result<String, AllocError>
         Note::PlayedLast { line, number } => {
             format!(in alloc; "note line {line}: player {number} played the last round")
         }
-        Note::UnknownKind { line, .. } => of_line(alloc, line, ": unknown kind "),
-        Note::BlankBefore { line, .. } => of_line(alloc, line, ": blank before "),
+        Note::UnknownKind { line, .. } | Note::BlankBefore { line, .. } => {
+            of_line(alloc, line, ": ")
+        }
         Note::OnePlayer { line } => of_line(alloc, line, ": names one player"),
         Note::ManyRounds { line } => of_line(alloc, line, ": more rounds than opponents"),
         Note::OtherCount {
@@ -145,21 +150,88 @@ impl fmt::Display for RoundWords {
     }
 }
 
-// The kind that a note names, or nothing.
-fn kind_named<'a>(note: Note<'a>) -> &'a [u8]
-    ensures { result.now ≡ kind_named (noted note.entry) }
+// Puts what a note tells of a kind, or nothing.
+fn put_told_of_kind(alloc: Global, text: &mut Vec<u8>, note: Note<'_>) -> Result<(), AllocError>
+    ensures { OnOk result (text.new.items ≡ text.old.items ++ told_of_kind (noted note.entry)) }
 {
     match note {
-        Note::UnknownKind { kind, .. } | Note::BlankBefore { kind, .. } => kind,
-        _ => &[],
+        Note::UnknownKind { kind, .. } => put_unknown(alloc, text, kind),
+        Note::BlankBefore { kind, .. } => put_kind(alloc, text, "blank before ", kind),
+        _ => Ok(()),
     }
 }
 
-// Puts a line that ends with a kind, which is shown without its control characters.
+// Puts what is told of an unknown kind.
+fn put_unknown(alloc: Global, text: &mut Vec<u8>, kind: &[u8]) -> Result<(), AllocError>
+    ensures { OnOk result (text.new.items ≡ text.old.items ++ unknown_text kind.now) }
+{
+    match other_kind(kind) {
+        Some((name, said)) => {
+            text.extend_from_slice(name.as_bytes())?;
+            text.extend_from_slice(b" ")?;
+            text.extend_from_slice(said.as_bytes())
+        }
+        None => put_kind(alloc, text, "unknown kind ", kind),
+    }
+}
+
+// The kinds of lines that other programs write and that are not read: what such a line says, and what to use instead.
+const OTHER_KINDS: [(&str, &str); 11] = [
+    (
+        "BBW",
+        "gives the points of a win: if not 1.0, use another program",
+    ),
+    (
+        "BBD",
+        "gives the points of a draw: if not 0.5, use another program",
+    ),
+    (
+        "BBL",
+        "gives the points of a loss: if not 0.0, use another program",
+    ),
+    (
+        "BBZ",
+        "gives the points of an absence: if not 0.0, use another program",
+    ),
+    (
+        "BBF",
+        "gives the points of a forfeit loss: if not 0.0, use another program",
+    ),
+    (
+        "BBU",
+        "gives the points of the pairing-allocated bye: use --bye, in half points",
+    ),
+    (
+        "162",
+        "gives the points of results: if unusual, use --bye or another program",
+    ),
+    (
+        "172",
+        "names the method of the start ranks: use those in columns 5 to 8",
+    ),
+    (
+        "240",
+        "gives byes that players asked for: use enter with H, F or Z",
+    ),
+    ("250", "accelerates the pairing: use another program"),
+    ("260", "keeps players apart in another format: use XXP"),
+];
+
+// A kind among these, in either case: its name, and what a line of it says.
+fn other_kind(kind: &[u8]) -> Option<(&'static str, &'static str)>
+    ensures { option_map (λ other. (other.0.now, other.1.now)) result
+        ≡ find (λ other. is_word kind.now other.0) other_kinds }
+{
+    OTHER_KINDS
+        .iter()
+        .copied()
+        .find(|other| is_word(kind, other.0.as_bytes()))
+}
+
+// Puts a text, and behind it a kind without its control characters.
 fn put_kind(alloc: Global, text: &mut Vec<u8>, front: &str, kind: &[u8]) -> Result<(), AllocError>
     ensures { OnOk result (text.new.items ≡ text.old.items ++ kind_text front.now kind.now) }
 {
     text.extend_from_slice(front.as_bytes())?;
-    put_without_controls(alloc, text, kind)?;
-    text.extend_from_slice(b"\n")
+    put_without_controls(alloc, text, kind)
 }

@@ -12,7 +12,7 @@ returns-in-PlayedLast c = rw c.in-PlayedLast.is (search rules)
 
 pub returns-in-OnePlayer : goal.returns-in-OnePlayer
 unfolding front_text
-returns-in-OnePlayer c = rw c.in-OnePlayer.is c.of_line-in-OnePlayer.ensures
+returns-in-OnePlayer c = rw c.in-OnePlayer.is c.of_line.ensures
 
 pub returns-in-ManyRounds : goal.returns-in-ManyRounds
 unfolding front_text
