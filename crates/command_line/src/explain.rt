@@ -12,7 +12,7 @@ ghost use Rattle.replies.specs.Prelude.{answer_of, done, question_fault, seen_be
 
 use crate::instead::{AskedInSteps, Paired, instead};
 use crate::not_paired::{no_pairing_because, undecided};
-use crate::other_boards::{boards_paired, has_other_boards};
+use crate::other_boards::{Settled, has_other_boards};
 use dutch_choice::finder::Finder;
 use dutch_player::{Field, FieldFault};
 use dutch_rounds::{AllStages, stages};
@@ -125,12 +125,16 @@ fn of_round<F: Finder>(
 {
     match stages::<F>(alloc, telling.field, options.steps)? {
         AllStages::Paired { stages, bye } => {
-            let boards = boards_paired(alloc, telling.field, &stages, &bye)?;
+            let settled = Settled {
+                field: telling.field,
+                stages: &stages,
+                bye: &bye,
+            };
             let round = Paired {
                 telling,
                 stages: &stages,
                 bye: &bye,
-                other_boards: has_other_boards(alloc, whole, options.round, &boards)?,
+                other_boards: has_other_boards(alloc, whole, options.round, settled)?,
             };
             tell_paired::<F>(alloc, options, &round)
         }

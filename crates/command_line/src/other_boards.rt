@@ -12,22 +12,23 @@ use std::alloc::{AllocError, Global};
 use tables::boards_of;
 use trf16_report::Report;
 
-/// The boards of a round that is paired: of the pairs that its brackets keep, and of who has the bye.
-///
-/// # Errors
-/// Memory was refused.
-pub fn boards_paired(
-    alloc: Global,
-    field: &Field,
-    stages: &[Stage],
-    bye: &[u16],
-) -> Result<Vec<Board>, AllocError>
-    requires { AllByRecursion (IsStage field.now) stages.now }
-    ensures { IfOk result (λ all. all.items ≡ boards_paired field.now stages.now bye.now) }
+/// How a round is paired: the brackets that it reached, and the seat that has the bye, if one has.
+#[derive(Clone, Copy)]
+pub struct Settled<'a> {
+    pub field: &'a Field,
+    pub stages: &'a [Stage],
+    pub bye: &'a [u16],
+}
+
+// The boards of a round that is paired: of the pairs that its brackets keep, and of who has the bye.
+fn boards_paired(alloc: Global, round: Settled<'_>) -> Result<Vec<Board>, AllocError>
+    requires { AllByRecursion (IsStage round.field.now) round.stages.now }
+    ensures { IfOk result (λ all. all.items
+        ≡ boards_paired round.entry.field.now round.entry.stages.now round.entry.bye.now) }
 {
     let mut pairs = Vec::new(alloc);
-    put_pairs(field, stages, &mut pairs)?;
-    boards(alloc, field, &pairs, bye)
+    put_pairs(round.field, round.stages, &mut pairs)?;
+    boards(alloc, round.field, &pairs, round.bye)
 }
 
 // Puts the pairs that brackets keep, one bracket behind the other.
@@ -41,21 +42,26 @@ fn put_pairs(field: &Field, stages: &[Stage], pairs: &mut Vec<Pair>) -> Result<(
     Ok(())
 }
 
-/// Yes if the round that is asked for was paired in the report and has not these boards there, in whatever order: it
-/// was paired by hand, or what it stands on was corrected.
+/// Yes if the round that is asked for was paired in the report and has not the boards there that it is paired with now,
+/// in whatever order: it was paired by hand, or what it stands on was corrected.
 ///
 /// # Errors
 /// Memory was refused.
 pub fn has_other_boards(
     alloc: Global,
     report: &Report<'_>,
-    round: Option<u8>,
-    paired: &[Board],
+    number: Option<u8>,
+    round: Settled<'_>,
 ) -> Result<bool, AllocError>
-    ensures { IfOk result (λ has. has ≡ has_other_boards report.now round paired.now) }
+    requires { AllByRecursion (IsStage round.field.now) round.stages.now }
+    ensures { IfOk result (λ has. has ≡ has_other_boards report.now number
+        (boards_paired round.entry.field.now round.entry.stages.now round.entry.bye.now)) }
 {
-    match round {
-        Some(round) if was_paired(report, round) => differ_in(alloc, report, round, paired),
+    match number {
+        Some(number) if was_paired(report, number) => {
+            let paired = boards_paired(alloc, round)?;
+            differ_in(alloc, report, number, &paired)
+        }
         _ => Ok(false),
     }
 }
