@@ -11,8 +11,6 @@ pub mod PairedBoards
 pub mod NumberedLine
 pub mod NumberedPlayers
 pub mod NumberedReport
-pub mod OrderLemmas
-pub mod NewStarts
 pub mod RenumberedLine
 pub mod UnderMap
 pub mod NewMap
