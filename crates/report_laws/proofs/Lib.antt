@@ -25,3 +25,4 @@ pub mod StandingLevels
 pub mod StandingKeys
 pub mod NotedResults
 pub mod AloneLemmas
+pub mod RankedReport
