@@ -14,7 +14,7 @@ _arbiter() {
                 1,*) words="$commands --help --version" ;;
                 2,help) words=$commands ;;
                 *,check) words="--notes --bye --help" ;;
-                *,format) words="--round --points --renumber --bye --help" ;;
+                *,format) words="--round --points --renumber --ranks --by --bye --help" ;;
                 *,enter) words="--round --correct --bye --help" ;;
                 *,pair) words="--round --rounds --initial --steps --report --names --bye --help" ;;
                 *,boards) words="--round --names --bye --help" ;;

@@ -10,7 +10,7 @@ use Rattle.dutch_arrangements.specs.Prelude.{has_syntax}
 use Rattle.trf16_report.specs.declared.cell.Colour.{Colour}
 use Rattle.command_line.specs.Known.{CanBeAnswered}
 use Rattle.round_commands.specs.Known.{HasFewRounds}
-use Rattle.requests.specs.Prelude.{boards_options, bye_in, candidates_options, check_options, enter_options, enter_request, enter_request_with, explain_options, other_request_of, flag_in, format_options, initial_in, number_in, number_of, pair_options, round_in, rounds_in, shown_by, standings_options, steps_in, AsksFor, arbiter_app, candidates_request, explain_request, pair_request, request_of, standings_request, task_by, with_bye}
+use Rattle.requests.specs.Prelude.{boards_options, bye_in, candidates_options, check_options, enter_options, enter_request, enter_request_with, explain_options, other_request_of, flag_in, initial_in, number_in, number_of, pair_options, round_in, rounds_in, shown_by, standings_options, steps_in, AsksFor, arbiter_app, candidates_request, explain_request, format_options, format_request, pair_request, request_of, standings_request, task_by, with_bye}
 use Rattle.requests.specs.Options.{◌>>=◌}
 use Rattle.requests.specs.declared.options.EnterOptions.{EnterOptions}
 use Rattle.requests.specs.declared.options.PairOptions.{PairOptions}
@@ -67,12 +67,13 @@ some_ok : (x y : Result Request WordFault) → Some x ≡ Some y → x ≡ y
 some_ok x y e = cc
 
 asked_at : (rows : List Row) (request : Request) (check format pair boards candidates explain standings : Bool)
-    → cond check (Some (Ok (Check (check_options rows)))) (cond format (Some (Ok (Format (format_options rows)))) (cond pair (Some (pair_request rows))
+    → cond check (Some (Ok (Check (check_options rows)))) (cond format (Some (format_request rows)) (cond pair (Some (pair_request rows))
     (cond boards (Some (Ok (Boards (boards_options rows)))) (cond candidates (Some (candidates_request rows)) (cond explain (Some (explain_request rows))
     (cond standings (Some (standings_request rows)) None)))))) ≡ Some (Ok request) → CanBeAnswered request
-unfolding pair_request candidates_request explain_request standings_request
+unfolding format_request pair_request candidates_request explain_request standings_request
 asked_at rows request true format pair boards candidates explain standings e = subst CanBeAnswered (same_ok (Check (check_options rows)) request (some_ok (Ok (Check (check_options rows))) (Ok request) e)) tt
-asked_at rows request false true pair boards candidates explain standings e = subst CanBeAnswered (same_ok (Format (format_options rows)) request (some_ok (Ok (Format (format_options rows))) (Ok request) e)) tt
+asked_at rows request false true pair boards candidates explain standings e =
+    asked_of (format_options rows) (λ options. Format options) (λ options e. tt) request (some_ok (format_request rows) (Ok request) e)
 asked_at rows request false false true boards candidates explain standings e =
     asked_of (pair_options rows) (λ options. Pair options) (pair_few rows) request (some_ok (pair_request rows) (Ok request) e)
 asked_at rows request false false false true candidates explain standings e = subst CanBeAnswered (same_ok (Boards (boards_options rows)) request (some_ok (Ok (Boards (boards_options rows))) (Ok request) e)) tt

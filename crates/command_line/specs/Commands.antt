@@ -16,7 +16,7 @@ use Rattle.requests.specs.declared.words.Request.TheVariants.{Check, Format, Ent
 -- `explain` looks at too [with Answers]
 abbrev pub AnswersReport : Request → List ℕ → ℕ → Result Sheet Fault → Answer → Type 0
 AnswersReport (Check options) input bye report answer = answer ≡ check_answer report options.notes input bye
-AnswersReport (Format options) input bye report answer = answer ≡ format_answer options.points options.renumber (seen_before options.round report)
+AnswersReport (Format options) input bye report answer = answer ≡ format_answer options (seen_before options.round report)
 AnswersReport (Enter options) input bye report answer = answer ≡ enter_answer options report
 AnswersReport (Pair options) input bye report answer = AnswersPair options (seen_before options.round report) answer
 AnswersReport (Boards options) input bye report answer = answer ≡ boards_answer options report

@@ -111,7 +111,7 @@ fn answer<F: Finder>(alloc: Global, task: Task<'_>, input: &[u8]) -> Result<Repl
     let Task { request, bye } = task;
     match request {
         Request::Check(options) => check(alloc, options, input, bye),
-        Request::Format(options) => format(alloc, options, input, bye),
+        Request::Format(options) => format(alloc, &options, input, bye),
         Request::Enter(options) => enter(alloc, &options, input, bye),
         Request::Boards(options) => boards(alloc, options, input, bye),
         Request::Candidates(options) => candidates::<F>(alloc, &options, input, bye),

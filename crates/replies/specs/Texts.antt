@@ -2,7 +2,7 @@
 use Rattle.std.specs.Prelude.{ℕ, List, ◌++◌, codes}
 use Rattle.std.specs.Fmt.{decimal}
 use Rattle.requests.specs.declared.options.WordFault.{WordFault}
-use Rattle.requests.specs.declared.options.WordFault.TheVariants.{BadColour, BadKeys, BadCursor, NamesAndReport, InsteadAlone, BadEntry}
+use Rattle.requests.specs.declared.options.WordFault.TheVariants.{BadColour, BadKeys, BadCursor, NamesAndReport, InsteadAlone, ByAlone, BadEntry}
 use Rattle.replies.specs.declared.question.QuestionFault.{QuestionFault}
 use Rattle.replies.specs.declared.question.QuestionFault.TheVariants.{NotKnown, NamedTwice}
 
@@ -21,6 +21,7 @@ word_text BadKeys = codes "words: bad keys\n"
 word_text BadCursor = codes "words: bad cursor\n"
 word_text NamesAndReport = codes "words: names or report, not both\n"
 word_text InsteadAlone = codes "words: instead wants a player\n"
+word_text ByAlone = codes "words: by wants ranks\n"
 word_text (BadEntry place) = codes "words: bad entry " ++ (decimal place ++ codes "\n")
 
 -- what is wrong with the players whom a question names [with word_text]

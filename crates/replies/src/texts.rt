@@ -20,6 +20,7 @@ pub fn bad_words(alloc: Global, fault: WordFault) -> Result<String, AllocError>
             String::from_str(alloc, "words: names or report, not both\n")
         }
         WordFault::InsteadAlone => String::from_str(alloc, "words: instead wants a player\n"),
+        WordFault::ByAlone => String::from_str(alloc, "words: by wants ranks\n"),
         WordFault::BadEntry { place } => format!(in alloc; "words: bad entry {place}\n"),
     }
 }

@@ -11,8 +11,6 @@ pub mod PairedBoards
 pub mod NumberedLine
 pub mod NumberedPlayers
 pub mod NumberedReport
-pub mod OrderLemmas
-pub mod NewStarts
 pub mod RenumberedLine
 pub mod UnderMap
 pub mod NewMap
@@ -27,3 +25,4 @@ pub mod StandingLevels
 pub mod StandingKeys
 pub mod NotedResults
 pub mod AloneLemmas
+pub mod RankedReport

@@ -3,7 +3,7 @@ use Rattle.std.proofs.Common.{◌≡◌, ℕ, ◌<◌, ◌≤◌, ◌==◌, fals
 use Rattle.std.proofs.lemmas.Bool.{ne_eqb}
 use Rattle.trf16_report.specs.Prelude.{Sheet, new_start}
 use Rattle.trf16_report.specs.declared.limits.TheConstants.{MOST_PLAYERS}
-use Rattle.report_laws.proofs.NewStarts.{new_within, new_once, new_none, new_most}
+use Rattle.trf16_writer.proofs.NewStartRanks.{new_within, new_once, new_none, new_most}
 use Rattle.report_laws.proofs.UnderMap.{IsMap}
 
 some_of : (n : ℕ) → 0 < n → (n == 0) ≡ false

@@ -25,7 +25,7 @@ use Rattle.trf16_laws.proofs.WrittenCells.{is_sound}
 use Rattle.trf16_laws.proofs.WrittenFields.{are_small}
 use Rattle.trf16_laws.proofs.WrittenPlayers.{IsSoundEntry}
 use Rattle.trf16_laws.proofs.WrittenReport.{are_all_small, are_all_sound}
-use Rattle.report_laws.proofs.NewStarts.{new_within, new_once, new_most}
+use Rattle.trf16_writer.proofs.NewStartRanks.{new_within, new_once, new_most}
 use Rattle.report_laws.proofs.NumberedLine.{same_kind}
 
 abbrev fits : Result (Unit {0}) Fault

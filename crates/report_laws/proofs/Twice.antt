@@ -18,7 +18,7 @@ use Rattle.trf16_report.specs.declared.cell.Cell.TheVariants.{Blank, Bye, Game, 
 use Rattle.trf16_report.specs.declared.limits.TheConstants.{MOST_PLAYERS}
 use Rattle.trf16_laws.proofs.WrittenNumbers.{number_of-decimal}
 use Rattle.trf16_writer.proofs.AcceptedReport.{accepted, sized_is}
-use Rattle.report_laws.proofs.NewStarts.{has_player, player_known, new_lt, new_is, new_none, all_of}
+use Rattle.trf16_writer.proofs.NewStartRanks.{has_player, player_known, new_lt, new_is, new_none, all_of}
 use Rattle.report_laws.proofs.RenumberedLine.{word_for, new_words, kind_same, words_named}
 use Rattle.report_laws.proofs.UnderMap.{IsMap, player_under}
 use Rattle.report_laws.proofs.NewMap.{is_map}

@@ -11,7 +11,7 @@ use Rattle.trf16_report.specs.declared.cell.Bye.TheVariants.{Half, Full, Allocat
 use Rattle.trf16_report.specs.declared.cell.Cell.{Cell}
 use Rattle.trf16_report.specs.declared.cell.Cell.TheVariants.{Blank, Bye, Game, Forfeit, Unfinished}
 use Rattle.trf16_laws.proofs.WrittenNumbers.{number_of-decimal}
-use Rattle.report_laws.proofs.NewStarts.{has_player}
+use Rattle.trf16_writer.proofs.NewStartRanks.{has_player}
 use Rattle.report_laws.proofs.RenumberedLine.{word_for, new_words, kind_same, words_named}
 
 -- a map of start ranks: no two players have one new number, nobody else has one, and each has four digits at most

@@ -1,5 +1,5 @@
-//! Laws on the present players of a report, on its standings, on the report as it stood before a round, on the boards
-//! of a round, on the report with new start ranks, and on what looks like a mistake in a report: what holds of the
+//! Laws on the present players of a report, on its standings, on the report with the players' places, on the report as it
+//! stood before a round, on the boards of a round, on the report with new start ranks, and on what looks like a mistake in a report: what holds of the
 //! definitions, beyond what one call promises.
 //!
 //! Each law is a function whose contract is the law, and its body is empty or reads what the law is about. No other
@@ -11,6 +11,7 @@
 pub mod notes;
 pub mod paired;
 pub mod players;
+pub mod ranks;
 pub mod renumbered;
 pub mod standings;
 pub mod views;

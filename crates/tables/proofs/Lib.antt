@@ -1,2 +1,3 @@
 pub mod RoundLemmas
 pub mod OrderLemmas
+pub mod SameGames

@@ -67,8 +67,12 @@ judged sheet = do
   _ ← refused (option_map (λ at'. Unfinished at'.0 at'.1) (unfinished sheet))
   refused (option_map (λ line. Unsupported line) (first_of (Xxs ∷ []) sheet))
 
+-- the rows of all players in order, with the values of the keys [with standings_of]
+abbrev pub rows_of : Sheet → List Key → List RowFacts
+rows_of sheet keys = ranked (with_keys sheet keys (map (row_of sheet) sheet.players))
+
 -- the rows of all players in order, with the values of the keys, or why there are none [own]
 unfoldable pub standings_of : Sheet → List Key → Result (List RowFacts) TieFault
 standings_of sheet keys = do
   _ ← judged sheet
-  Ok (ranked (with_keys sheet keys (map (row_of sheet) sheet.players)))
+  Ok (rows_of sheet keys)

@@ -3,7 +3,8 @@
 //!
 //! `table` gives the rows of all players of a report in order, each with a value for each key, or tells the first
 //! reason, in one stated order, why there are no standings. Laws in `report_laws` say that each player has one row, and
-//! that no row goes before one in front of it.
+//! that no row goes before one in front of it. `judged` tells that
+//! reason alone, and `rows_of` gives the rows alone.
 //!
 //! `boards_of` gives who sat with white and with black at each board of a round, in the order in which the boards of a
 //! round are paired, whatever the results are. Laws say that all who play in the round stand on one board, and nobody
@@ -30,5 +31,6 @@ mod standings;
 pub use board::{Board, boards_of};
 pub use fault::TieFault;
 pub use key::Key;
+pub use refusals::judged;
 pub use row::Row;
-pub use standings::{Standings, table};
+pub use standings::{Standings, rows_of, table};

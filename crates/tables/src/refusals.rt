@@ -6,9 +6,10 @@ ghost use Rattle.tables.specs.Standings.{judged};
 use crate::fault::TieFault;
 use trf16_report::{LineKind, Report};
 
-/// Refuses a game without a result, and other points for games.
+/// Refuses a report that has no standings: for the first game without a result, by the players' lines and then by
+/// round, or else for the first line `XXS`, which gives games other points.
 #[tactic(auto, unfolding(crate::specs::Standings::judged))]
-pub(crate) fn judged(report: &Report<'_>) -> Result<(), TieFault>
+pub fn judged(report: &Report<'_>) -> Result<(), TieFault>
     ensures value { result ≡ judged report.now }
     ensures no_memory { IfErr result (λ fault. fault ≢ OutOfMemory) }
 {

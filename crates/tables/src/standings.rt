@@ -1,7 +1,7 @@
 // The standings of a report.
 ghost use Rattle.std.specs.Prelude.{◌≡◌, [], map, IfOk};
 ghost use Rattle.tables.specs.Outcomes.{Gives};
-ghost use Rattle.tables.specs.Standings.{row_of, with_key, with_keys, IsRanked, standings_of};
+ghost use Rattle.tables.specs.Standings.{row_of, with_key, with_keys, IsRanked, rows_of, standings_of};
 
 use crate::fault::TieFault;
 use crate::key::Key;
@@ -90,6 +90,17 @@ pub fn table(alloc: Global, report: &Report<'_>, keys: &[Key]) -> Result<Standin
     ensures { Gives result (standings_of report.now keys.now) }
 {
     judged(report)?;
+    Ok(rows_of(alloc, report, keys)?)
+}
+
+/// The same rows whether or not the report has standings: a game without a result gives no points and counts as a round
+/// without a game, and a line `XXS` changes nothing.
+///
+/// # Errors
+/// Memory was refused.
+pub fn rows_of(alloc: Global, report: &Report<'_>, keys: &[Key]) -> Result<Standings, AllocError>
+    ensures { IfOk result (λ standings. standings ≡ rows_of report.now keys.now) }
+{
     let rows = with_keys(alloc, report, keys)?;
     let rows = ranked(alloc, rows)?;
     Ok(Standings { rows })

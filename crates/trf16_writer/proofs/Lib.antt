@@ -6,3 +6,6 @@ pub mod BoardLemmas
 pub mod StartRanks
 pub mod BeforeRoundLemmas
 pub mod TableLemmas
+pub mod StartOrder
+pub mod NewStartRanks
+pub mod PlayersAlone

@@ -54,7 +54,7 @@ all_at P [] k rest all = all.0
 all_at P (x ∷ ks) k rest all = all_at P ks k rest all.1
 
 -- a number behind distinct ones is none of them
-fresh : (ks : List ℕ) (k : ℕ) (rest : List ℕ) → IsDistinct nat_eq (ks ++ k ∷ rest) → list_any (nat_eq k) ks ≡ false
+pub fresh : (ks : List ℕ) (k : ℕ) (rest : List ℕ) → IsDistinct nat_eq (ks ++ k ∷ rest) → list_any (nat_eq k) ks ≡ false
 fresh [] k rest distinct = refl
 fresh (x ∷ ks) k rest distinct =
     let apart : nat_eq x k ≡ false = all_at (λ y. nat_eq x y ≡ false) ks k rest (IsDistinct-head nat_eq x (ks ++ k ∷ rest) distinct) in

@@ -10,12 +10,14 @@
 //!
 //! The right start ranks are 1, 2 and so on by rating, then title, then the start rank that a player has (article
 //! C.04.2). `renumbered_text` gives the canonical text of the report `renumbered`: each start rank on a player's line, in
-//! a cell and on a line `XXZ` or `XXP` is the new one, and everything else stays. `first_unread` gives the first line
+//! a cell and on a line `XXZ` or `XXP` is the new one, and everything else stays. `renumbered_players_alone` gives the
+//! players of that report without its other lines. `first_unread` gives the first line
 //! that names players in a way that is not read, behind which a report cannot be renumbered. Laws in `report_laws` say
 //! what is kept. The time grows with the text, and with the square of the number of players, of whom there are at most
 //! 1,024.
 #![tactic(auto)]
 
+mod alone;
 mod back;
 mod new_starts;
 mod renumbered_lines;
@@ -28,6 +30,7 @@ mod turn;
 mod unread;
 mod writing;
 
+pub use alone::renumbered_players_alone;
 pub use back::before_round;
 pub use renumbering::renumbered_text;
 pub use round::{can_be_paired, with_round};

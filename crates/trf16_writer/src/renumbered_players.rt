@@ -51,8 +51,8 @@ fn renumbered_cells(alloc: Global, cells: &[Cell], new: &NewStarts) -> Result<Ve
         .collect(alloc)
 }
 
-// A player with a new start rank, and new opponents.
-fn renumbered_player<'a>(
+/// A player with a new start rank, and new opponents.
+pub(crate) fn renumbered_player<'a>(
     alloc: Global,
     player: &Player<'a>,
     new: &NewStarts,

@@ -1,5 +1,5 @@
 use Rattle.trf16_writer.proofs.StartRanks.{own_starts}
-use Rattle.report_laws.proofs.NewStarts.{new_onto}
+use Rattle.trf16_writer.proofs.NewStartRanks.{new_onto}
 use Rattle.report_laws.proofs.renumbered.new_start_ranks_are_all_numbers.Goals as goal
 
 pub returns : goal.returns

@@ -1,5 +1,5 @@
-use Rattle.report_laws.proofs.OrderLemmas.{goes_rated}
-use Rattle.report_laws.proofs.NewStarts.{new_lt}
+use Rattle.trf16_writer.proofs.StartOrder.{goes_rated}
+use Rattle.trf16_writer.proofs.NewStartRanks.{new_lt}
 use Rattle.report_laws.proofs.renumbered.new_start_ranks_are_in_order.Goals as goal
 
 pub returns : goal.returns

@@ -12,7 +12,7 @@ use Rattle.std.proofs.lemmas.List.{length-map}
 use Rattle.std.proofs.lemmas.List.Sums.{sum_by-cons, count_by-le-length}
 use Rattle.std.proofs.lemmas.Map.Steps.{length-le_from_distinct_below}
 use Rattle.trf16_report.specs.Prelude.{Entry, Sheet, known, player_of, starts_of, goes_before, rank_among, new_start}
-use Rattle.report_laws.proofs.OrderLemmas.{goes_further, goes_never, goes_either}
+use Rattle.trf16_writer.proofs.StartOrder.{goes_further, goes_never, goes_either}
 
 -- ---- counting
 
@@ -155,7 +155,7 @@ new_once sheet a b is is' e = by (nat_eq a b) refl
 
 -- ---- each number is one of them
 
-abbrev AreOf : List Entry → List Entry → Type 0
+abbrev pub AreOf : List Entry → List Entry → Type 0
 AreOf all xs = AllByRecursion (λ (entry : Entry). player_of all entry.start ≡ Some entry) xs
 
 wider : (x : Entry) (all xs : List Entry) → AllByRecursion (λ z. nat_eq x.start z ≡ false) (starts_of xs) → AreOf all xs → AreOf (x ∷ all) xs
