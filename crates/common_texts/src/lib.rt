@@ -10,7 +10,7 @@ mod points;
 mod too_few_steps;
 
 pub use cells::{RoundOf, result_mark};
-pub use controls::put_without_controls;
+pub use controls::{put_without_controls, without_controls};
 pub use key_values::KeyValue;
 pub use names::shown;
 pub use points::HalfPoints;

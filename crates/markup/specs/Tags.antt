@@ -1,9 +1,9 @@
 -- The tags and the attributes that a page has.
 use Rattle.std.specs.Prelude.{ℕ, Bool, true, false, List, codes}
 use Rattle.markup.specs.declared.tag.Tag.{Tag}
-use Rattle.markup.specs.declared.tag.Tag.TheVariants.{Html, Head, Meta, Title, Style, Body, Header, Heading, Subheading, Paragraph, Nav, List as Items, Item, Link, Section, Division, Table, Caption, TableHead, TableBody, Row, HeaderCell, Cell, Span}
+use Rattle.markup.specs.declared.tag.Tag.TheVariants.{Html, Head, Meta, Title, Style, Body, Header, Heading, Subheading, Paragraph, Nav, List as Items, Item, Link, Main, Section, Division, Table, Caption, TableHead, TableBody, Row, HeaderCell, Cell, Small}
 use Rattle.markup.specs.declared.tag.AttributeName.{AttributeName}
-use Rattle.markup.specs.declared.tag.AttributeName.TheVariants.{Lang, Charset, Name, Content, Id, Class, Href, Scope}
+use Rattle.markup.specs.declared.tag.AttributeName.TheVariants.{Lang, Charset, Name, Content, Id, Href, Scope, Colspan}
 
 -- the name of a tag [HTML]
 abbrev pub tag_name : Tag → List ℕ
@@ -21,6 +21,7 @@ tag_name Nav = codes "nav"
 tag_name Items = codes "ul"
 tag_name Item = codes "li"
 tag_name Link = codes "a"
+tag_name Main = codes "main"
 tag_name Section = codes "section"
 tag_name Division = codes "div"
 tag_name Table = codes "table"
@@ -30,7 +31,7 @@ tag_name TableBody = codes "tbody"
 tag_name Row = codes "tr"
 tag_name HeaderCell = codes "th"
 tag_name Cell = codes "td"
-tag_name Span = codes "span"
+tag_name Small = codes "small"
 
 -- the name of an attribute [HTML]
 abbrev pub attribute_name : AttributeName → List ℕ
@@ -39,9 +40,9 @@ attribute_name Charset = codes "charset"
 attribute_name Name = codes "name"
 attribute_name Content = codes "content"
 attribute_name Id = codes "id"
-attribute_name Class = codes "class"
 attribute_name Href = codes "href"
 attribute_name Scope = codes "scope"
+attribute_name Colspan = codes "colspan"
 
 -- a tag that has no content and no end [HTML]
 abbrev pub is_void : Tag → Bool
@@ -57,6 +58,7 @@ opens_line Body = true
 opens_line Header = true
 opens_line Nav = true
 opens_line Items = true
+opens_line Main = true
 opens_line Section = true
 opens_line Division = true
 opens_line Table = true
@@ -69,5 +71,5 @@ abbrev pub ends_line : Tag → Bool
 ends_line Link = false
 ends_line HeaderCell = false
 ends_line Cell = false
-ends_line Span = false
+ends_line Small = false
 ends_line other = true

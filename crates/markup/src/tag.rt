@@ -33,6 +33,8 @@ pub enum Tag {
     Item,
     /// `a`.
     Link,
+    /// `main`, what a page is about.
+    Main,
     /// `section`.
     Section,
     /// `div`.
@@ -51,8 +53,8 @@ pub enum Tag {
     HeaderCell,
     /// `td`.
     Cell,
-    /// `span`.
-    Span,
+    /// `small`.
+    Small,
 }
 
 impl Tag {
@@ -75,6 +77,7 @@ impl Tag {
             Tag::List => "ul",
             Tag::Item => "li",
             Tag::Link => "a",
+            Tag::Main => "main",
             Tag::Section => "section",
             Tag::Division => "div",
             Tag::Table => "table",
@@ -84,7 +87,7 @@ impl Tag {
             Tag::Row => "tr",
             Tag::HeaderCell => "th",
             Tag::Cell => "td",
-            Tag::Span => "span",
+            Tag::Small => "small",
         }
     }
 
@@ -107,6 +110,7 @@ impl Tag {
             | Tag::Header
             | Tag::Nav
             | Tag::List
+            | Tag::Main
             | Tag::Section
             | Tag::Division
             | Tag::Table
@@ -121,7 +125,7 @@ impl Tag {
         ensures { result ≡ ends_line self }
     {
         match self {
-            Tag::Link | Tag::HeaderCell | Tag::Cell | Tag::Span => false,
+            Tag::Link | Tag::HeaderCell | Tag::Cell | Tag::Small => false,
             _ => true,
         }
     }
@@ -140,12 +144,12 @@ pub enum AttributeName {
     Content,
     /// `id`.
     Id,
-    /// `class`.
-    Class,
     /// `href`.
     Href,
     /// `scope`.
     Scope,
+    /// `colspan`.
+    Colspan,
 }
 
 impl AttributeName {
@@ -159,9 +163,9 @@ impl AttributeName {
             AttributeName::Name => "name",
             AttributeName::Content => "content",
             AttributeName::Id => "id",
-            AttributeName::Class => "class",
             AttributeName::Href => "href",
             AttributeName::Scope => "scope",
+            AttributeName::Colspan => "colspan",
         }
     }
 }

@@ -2,7 +2,8 @@
 ghost use Rattle.std.specs.Prelude.{◌≡◌, ◌++◌, [], map, OnOk};
 ghost use Rattle.std.specs.List.{flat_map};
 ghost use Rattle.markup.specs.Escapes.{escaped};
-ghost use Rattle.markup.specs.Nodes.{attribute_of, attribute_text, end_tag, line_end, start_tag};
+ghost use Rattle.markup.specs.Nodes.{attribute_of, attribute_text, end_tag, line_end, node_text, start_tag};
+ghost use Rattle.markup.specs.Nodes.Node.{Element, Text};
 
 use crate::escapes::put_escaped;
 use crate::tag::{AttributeName, Tag};
@@ -114,6 +115,21 @@ impl Markup {
         self.put(tag.name())?;
         self.put(">")?;
         self.line_end(tag.ends_line())
+    }
+
+    /// Puts an element that holds a text, which is escaped.
+    pub fn element(
+        &mut self,
+        tag: Tag,
+        attributes: &[Attribute<'_>],
+        text: &[u8],
+    ) -> Result<(), AllocError>
+        ensures { OnOk result (self.new
+            ≡ self.old ++ node_text (Element tag (map attribute_of attributes.now) (Text text.now))) }
+    {
+        self.start(tag, attributes)?;
+        self.text(text)?;
+        self.end(tag)
     }
 
     /// The text.
