@@ -51,3 +51,11 @@ node_text Nothing = []
 node_text (Text text) = escaped text
 node_text (Element tag attributes content) = start_tag tag attributes ++ (node_text content ++ end_tag tag)
 node_text (Beside node behind) = node_text node ++ node_text behind
+
+-- what stands in front of a page: what kind of document it is [HTML]
+unfoldable pub doctype : List ℕ
+doctype = codes "<!doctype html>\n"
+
+-- a page as a document [HTML]
+abbrev pub document_text : Node → List ℕ
+document_text page = doctype ++ node_text page

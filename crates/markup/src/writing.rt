@@ -2,7 +2,7 @@
 ghost use Rattle.std.specs.Prelude.{◌≡◌, ◌++◌, [], map, OnOk};
 ghost use Rattle.std.specs.List.{flat_map};
 ghost use Rattle.markup.specs.Escapes.{escaped};
-ghost use Rattle.markup.specs.Nodes.{attribute_of, attribute_text, end_tag, line_end, node_text, start_tag};
+ghost use Rattle.markup.specs.Nodes.{attribute_of, attribute_text, doctype, end_tag, line_end, node_text, start_tag};
 ghost use Rattle.markup.specs.Nodes.Node.{Element, Text};
 
 use crate::escapes::put_escaped;
@@ -82,6 +82,14 @@ impl Markup {
         ensures { OnOk result (self.new ≡ self.old ++ line_end wanted) }
     {
         if wanted { self.put("\n") } else { Ok(()) }
+    }
+
+    /// Puts what stands in front of a page: what kind of document it is.
+    #[tactic(auto, unfolding(crate::specs::Nodes::doctype))]
+    pub fn doctype(&mut self) -> Result<(), AllocError>
+        ensures { OnOk result (self.new ≡ self.old ++ doctype) }
+    {
+        self.put("<!doctype html>\n")
     }
 
     /// Puts a text, which is escaped.

@@ -39,8 +39,15 @@ name_heads = codes "Name" ∷ codes "Board" ∷ codes "Colour" ∷ codes "Oppone
 abbrev pub name_rows : Sheet → ℕ → List (ℕ × ℕ) → List NamedFacts → Node
 name_rows sheet round boards players = each (λ (player : NamedFacts). name_row sheet round boards player.start) players
 
+-- the caption
+unfoldable pub names_caption : List ℕ
+names_caption = codes "All players in the order of their names"
+
+-- the table of players in the order of their names, given the boards of the round
+unfoldable pub names_table : Sheet → ℕ → List (ℕ × ℕ) → List NamedFacts → Node
+names_table sheet round boards players = table names_caption (each column_head name_heads) (name_rows sheet round boards players)
+
 -- who sits where in a round, by name: each player once [own]
 unfoldable pub names_section : Sheet → ℕ → Node
 names_section sheet round =
-    section (codes "names") (round_words round ++ codes " by name")
-    (table (codes "All players in the order of their names") (each column_head name_heads) (name_rows sheet round (boards_of sheet round) (by_name sheet)))
+    section (codes "names") (round_words round ++ codes " by name") (names_table sheet round (boards_of sheet round) (by_name sheet))

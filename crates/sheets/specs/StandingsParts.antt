@@ -43,13 +43,18 @@ value_cells (key ∷ keys) (value ∷ values) = Beside (cell (value_text key val
 unfoldable pub game_cell : Sheet → ℕ → ℕ → Node
 game_cell sheet start round = bare DataCell (link (round_name round) (game_text (cell_in sheet start round)))
 
+-- start rank, name and score of a player of the standings
+unfoldable pub scored : Sheet → RowFacts → Node
+scored sheet facts = Beside (cell (decimal facts.start)) (Beside (name_cell (person_in sheet facts.start)) (cell (halves_text facts.score)))
+
+-- the games of a player in all rounds that were paired
+unfoldable pub game_cells : Sheet → ℕ → Node
+game_cells sheet start = each_up (game_cell sheet start) (rounds_played sheet)
+
 -- a player of the standings: place, start rank, name, score, the values of the keys, and the games of all rounds that were paired [own]
 unfoldable pub standings_row : Sheet → List Key → ℕ → RowFacts → Node
 standings_row sheet keys place facts =
-    row (decimal place)
-    (Beside (cell (decimal facts.start))
-    (Beside (name_cell (person_in sheet facts.start))
-    (Beside (cell (halves_text facts.score)) (Beside (value_cells keys facts.values) (each_up (game_cell sheet facts.start) (rounds_played sheet))))))
+    row (decimal place) (Beside (scored sheet facts) (Beside (value_cells keys facts.values) (game_cells sheet facts.start)))
 
 -- the heads of the columns in front of the keys
 abbrev pub standings_heads : List (List ℕ)
@@ -65,14 +70,21 @@ all_heads keys rounds =
 abbrev pub standings_rows : Sheet → List Key → List RowFacts → Node
 standings_rows sheet keys rows = each_from (standings_row sheet keys) 1 rows
 
+-- the caption
+unfoldable pub standings_caption : List ℕ
+standings_caption = codes "The games of each round: the number of the opponent, the colour, and the result"
+
+-- the table of the standings
+unfoldable pub full_table : Sheet → List Key → List RowFacts → Node
+full_table sheet keys rows = table standings_caption (all_heads keys (rounds_played sheet)) (standings_rows sheet keys rows)
+
 -- that there are no standings
-abbrev pub no_standings : Node
+unfoldable pub no_standings : Node
 no_standings = bare Paragraph (Text (codes "No standings can be made from this report."))
 
 -- the table of the standings, or that there are none
 abbrev pub rows_table : Sheet → List Key → Result (List RowFacts) TieFault → Node
-rows_table sheet keys (Ok rows) =
-    table (codes "The games of each round: the number of the opponent, the colour, and the result") (all_heads keys (rounds_played sheet)) (standings_rows sheet keys rows)
+rows_table sheet keys (Ok rows) = full_table sheet keys rows
 rows_table sheet keys (Err fault) = no_standings
 
 -- the standings of a report, if there is one that they go by

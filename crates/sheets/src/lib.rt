@@ -10,10 +10,15 @@
 #![tactic(auto)]
 
 mod head_lines;
+mod name_lists;
 mod orders;
+mod page;
 mod parts;
 mod persons;
+mod player_lists;
 mod rounds;
+mod standings_parts;
 mod style;
 mod texts;
 
+pub use page::document;
