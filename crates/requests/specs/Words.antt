@@ -64,6 +64,12 @@ enter_request_with (Err fault) = Err fault
 abbrev pub enter_request : List Row → Result Request WordFault
 enter_request rows = enter_request_with (enter_options rows)
 
+-- the request of `format`
+unfoldable pub format_request : List Row → Result Request WordFault
+format_request rows = do
+  options ← format_options rows
+  Ok (Format options)
+
 -- the request of `pair`
 unfoldable pub pair_request : List Row → Result Request WordFault
 pair_request rows = do
@@ -98,7 +104,7 @@ sheet_request rows = do
 abbrev pub other_request_of : Text → List Row → Option (Result Request WordFault)
 other_request_of name rows =
     if bytes_eq name (codes "check") then Some (Ok (Check (check_options rows)))
-    else (if bytes_eq name (codes "format") then Some (Ok (Format (format_options rows)))
+    else (if bytes_eq name (codes "format") then Some (format_request rows)
     else (if bytes_eq name (codes "pair") then Some (pair_request rows)
     else (if bytes_eq name (codes "boards") then Some (Ok (Boards (boards_options rows)))
     else (if bytes_eq name (codes "candidates") then Some (candidates_request rows)

@@ -61,9 +61,11 @@ const CHECK_TEXTS: HelpTexts<'static> = HelpTexts {
 };
 
 // `format`: its options, and the texts of its help.
-const FORMAT: [OptionName; 4] = [
+const FORMAT: [OptionName; 6] = [
     OptionName::Points,
     OptionName::Renumber,
+    OptionName::Ranks,
+    OptionName::RankedBy,
     OptionName::Round,
     OptionName::Bye,
 ];
@@ -71,7 +73,7 @@ const FORMAT: [OptionName; 4] = [
 const FORMAT_TEXTS: HelpTexts<'static> = HelpTexts {
     about: "Writes the report in canonical columns, or tells why it is refused",
     usage: "arbiter format [OPTIONS] < REPORT",
-    after_help: "The report is read from standard input. Printed is each player's line in TRF16's columns, and each other line as it stands.\n\nExample: arbiter format < report.trf > canonical.trf",
+    after_help: "The report is read from standard input. Printed is each player's line in TRF16's columns, and each other line as it stands.\n\nExamples:\n  arbiter format < report.trf > canonical.trf\n  arbiter format --points --ranks < report.trf > final.trf",
 };
 
 // `enter`: its options, and the texts of its help.

@@ -5,7 +5,7 @@ ghost use Rattle.clap.specs.Words.{app_of, kind_of, new_app, subcommand_rows_of}
 ghost use Rattle.dutch_arrangements.specs.Prelude.{has_syntax};
 ghost use Rattle.requests.specs.CommandLine.{HasSameGlobals, app_for};
 ghost use Rattle.requests.specs.Options.{rows_in};
-ghost use Rattle.requests.specs.Words.{ComesTo, FitsKind, asked_by, candidates_request, enter_request, explain_request, meant};
+ghost use Rattle.requests.specs.Words.{ComesTo, FitsKind, asked_by, candidates_request, enter_request, explain_request, format_request, meant};
 ghost use Rattle.requests.specs.Words.{other_request_of};
 ghost use Rattle.requests.specs.Words.{pair_request, request_of, sheet_request, standings_request, task_by, task_of};
 ghost use Rattle.requests.specs.Words.{with_bye};
@@ -187,7 +187,7 @@ fn other_request_of<'a>(
 {
     match name {
         "check" => Some(Ok(Request::Check(check_options(options)))),
-        "format" => Some(Ok(Request::Format(format_options(options)))),
+        "format" => Some(format_request(options)),
         "pair" => Some(pair_request(options)),
         "boards" => Some(Ok(Request::Boards(boards_options(options)))),
         "candidates" => Some(candidates_request(options)),
@@ -209,6 +209,14 @@ fn enter_request<'a>(
         Ok(options) => Ok(Ok(Request::Enter(options))),
         Err(fault) => Ok(Err(fault)),
     }
+}
+
+// The request of `format`.
+#[tactic(auto, unfolding(crate::specs::Words::format_request))]
+fn format_request<'a>(options: &ArgMatches<'a>) -> Result<Request<'a>, WordFault>
+    ensures { result ≡ format_request (rows_in options.now) }
+{
+    Ok(Request::Format(format_options(options)?))
 }
 
 // The request of `pair`.
