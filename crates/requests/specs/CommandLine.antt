@@ -8,9 +8,9 @@ use Rattle.clap.specs.declared.builder.action.ArgAction.TheVariants.{SetTrue}
 use Rattle.clap.specs.declared.builder.value_parser.ValueParser.{ValueParser}
 use Rattle.clap.specs.declared.builder.value_parser.ValueParser.TheVariants.{Signed, Unsigned}
 use Rattle.requests.specs.declared.arguments.OptionName.{OptionName}
-use Rattle.requests.specs.declared.arguments.OptionName.TheVariants.{Bracket, From, Count, Player, Instead, Round, PlayedRound, Rounds, Initial, Steps, Report, Notes, Points, Renumber, BoardNames, PlayedNames, PlayerNames, Games, Words, By, Bye, Entries, EnteredRound, Correct}
+use Rattle.requests.specs.declared.arguments.OptionName.TheVariants.{Bracket, From, Count, Player, Instead, Round, PlayedRound, Rounds, Initial, Steps, Report, Notes, Points, Renumber, Ranks, RankedBy, BoardNames, PlayedNames, PlayerNames, Games, Words, By, Bye, Entries, EnteredRound, Correct}
 use Rattle.requests.specs.declared.commands.CommandName.{CommandName}
-use Rattle.requests.specs.declared.commands.CommandName.TheVariants.{Check as CheckName, Format as FormatName, Enter as EnterName, Pair as PairName, Boards as BoardsName, Candidates as CandidatesName, Explain as ExplainName, Standings as StandingsName}
+use Rattle.requests.specs.declared.commands.CommandName.TheVariants.{Check as CheckName, Format as FormatName, Enter as EnterName, Pair as PairName, Boards as BoardsName, Candidates as CandidatesName, Explain as ExplainName, Standings as StandingsName, Sheet as SheetName}
 use Rattle.trf16_report.specs.declared.limits.TheConstants.{MOST_ROUNDS}
 
 -- ---- options
@@ -83,6 +83,10 @@ points_rule = flag_rule (codes "points")
 unfoldable pub renumber_rule : Rule
 renumber_rule = flag_rule (codes "renumber")
 
+-- `--ranks`
+unfoldable pub ranks_rule : Rule
+ranks_rule = flag_rule (codes "ranks")
+
 -- `--names`
 unfoldable pub names_rule : Rule
 names_rule = flag_rule (codes "names")
@@ -135,6 +139,8 @@ rule_for Report = report_rule
 rule_for Notes = notes_rule
 rule_for Points = points_rule
 rule_for Renumber = renumber_rule
+rule_for Ranks = ranks_rule
+rule_for RankedBy = by_rule
 rule_for BoardNames = names_rule
 rule_for PlayedNames = names_rule
 rule_for PlayerNames = names_rule
@@ -168,6 +174,10 @@ with_round_rules app = with_option (with_option (with_option (with_option app ro
 unfoldable pub with_bracket_rules : App → App
 with_bracket_rules app = with_option (with_option (with_option app bracket_rule) from_rule) count_rule
 
+-- with those of the players' places: `--ranks` and `--by`
+unfoldable pub with_rank_rules : App → App
+with_rank_rules app = with_option (with_option app ranks_rule) by_rule
+
 -- with those of the standings: `--by`, `--names`, `--games` and `--round`
 unfoldable pub with_table_rules : App → App
 with_table_rules app = with_option (with_option (with_option (with_option app by_rule) names_rule) games_rule) round_rule
@@ -178,7 +188,7 @@ check_app = with_option (with_option (new_app (codes "check")) notes_rule) bye_r
 
 -- `format`
 unfoldable pub format_app : App
-format_app = with_option (with_option (with_option (with_option (new_app (codes "format")) points_rule) renumber_rule) round_rule) bye_rule
+format_app = with_option (with_option (with_rank_rules (with_option (with_option (new_app (codes "format")) points_rule) renumber_rule)) round_rule) bye_rule
 
 -- `enter`
 unfoldable pub enter_app : App
@@ -204,6 +214,10 @@ explain_app = with_option (with_option (with_round_rules (with_option (with_opti
 unfoldable pub standings_app : App
 standings_app = with_option (with_table_rules (new_app (codes "standings"))) bye_rule
 
+-- `sheet`
+unfoldable pub sheet_app : App
+sheet_app = with_option (with_option (with_option (new_app (codes "sheet")) by_rule) round_rule) bye_rule
+
 -- a command of the command line with its options, as clap is told of them [with arbiter_app]
 abbrev pub app_for : CommandName → App
 app_for CheckName = check_app
@@ -214,3 +228,4 @@ app_for BoardsName = boards_app
 app_for CandidatesName = candidates_app
 app_for ExplainName = explain_app
 app_for StandingsName = standings_app
+app_for SheetName = sheet_app

@@ -11,7 +11,7 @@ use Rattle.trf16_report.specs.declared.cell.Colour.TheVariants.{White, Black}
 use Rattle.requests.specs.Keys.{keys_in, usual_keys}
 use Rattle.tables.specs.declared.key.Key.{Key}
 use Rattle.requests.specs.declared.options.WordFault.{WordFault}
-use Rattle.requests.specs.declared.options.WordFault.TheVariants.{BadColour, BadKeys, BadCursor, NamesAndReport, InsteadAlone}
+use Rattle.requests.specs.declared.options.WordFault.TheVariants.{BadColour, BadKeys, BadCursor, NamesAndReport, InsteadAlone, ByAlone}
 use Rattle.requests.specs.declared.options.BoardsOptions.{BoardsOptions}
 use Rattle.requests.specs.declared.options.CandidatesOptions.{CandidatesOptions}
 use Rattle.requests.specs.declared.options.CheckOptions.{CheckOptions}
@@ -19,6 +19,7 @@ use Rattle.requests.specs.declared.options.ExplainOptions.{ExplainOptions}
 use Rattle.requests.specs.declared.options.FormatOptions.{FormatOptions}
 use Rattle.requests.specs.declared.options.PairOptions.{PairOptions}
 use Rattle.requests.specs.declared.options.Question.{Question}
+use Rattle.requests.specs.declared.options.SheetOptions.{SheetOptions}
 use Rattle.requests.specs.declared.options.Shown.{Shown}
 use Rattle.requests.specs.declared.options.Shown.TheVariants.{Boards, Names, Report}
 use Rattle.requests.specs.declared.options.StandingsOptions.{StandingsOptions}
@@ -113,6 +114,18 @@ abbrev pub keys_by : Option Text → Result (List Key) WordFault
 keys_by None = Ok usual_keys
 keys_by (Some text) = option_map_or (λ keys. Ok keys) (keys_in text) (Err BadKeys)
 
+-- the keys by which places are written
+abbrev pub some_keys : Result (List Key) WordFault → Result (Option (List Key)) WordFault
+some_keys (Ok keys) = Ok (Some keys)
+some_keys (Err fault) = Err fault
+
+-- `--ranks` and `--by` of `format`: the keys by which the players' places are written, where they are wanted; else `--by` asks for nothing
+-- that there is [with pair_options]
+abbrev pub ranks_by : Bool → Option Text → Result (Option (List Key)) WordFault
+ranks_by true text = some_keys (keys_by text)
+ranks_by false None = Ok None
+ranks_by false (Some text) = Err ByAlone
+
 -- `--player` and `--instead`: what is asked of a player; it is the whole round's where no player is named, and then nobody stands instead
 -- [with pair_options]
 abbrev pub question_by : Option ℕ → Option ℕ → Result (Option Question) WordFault
@@ -138,8 +151,10 @@ abbrev pub check_options : List Row → CheckOptions
 check_options rows = record { notes = flag_in (codes "notes") rows }
 
 -- `format`
-abbrev pub format_options : List Row → FormatOptions
-format_options rows = record { points = flag_in (codes "points") rows; renumber = flag_in (codes "renumber") rows; round = round_in rows }
+unfoldable pub format_options : List Row → Result FormatOptions WordFault
+format_options rows = do
+  ranks ← ranks_by (flag_in (codes "ranks") rows) (first_of (codes "by") rows)
+  Ok (record { points = flag_in (codes "points") rows; renumber = flag_in (codes "renumber") rows; ranks = ranks; round = round_in rows })
 
 -- what the options of `pair` say, or the first that cannot be read; 10000000 steps where none are named [own]
 unfoldable pub pair_options : List Row → Result PairOptions WordFault
@@ -164,6 +179,12 @@ unfoldable pub standings_options : List Row → Result StandingsOptions WordFaul
 standings_options rows = do
   keys ← keys_by (first_of (codes "by") rows)
   Ok (record { keys = keys; names = flag_in (codes "names") rows; games = flag_in (codes "games") rows; round = round_in rows })
+
+-- `sheet`
+unfoldable pub sheet_options : List Row → Result SheetOptions WordFault
+sheet_options rows = do
+  keys ← keys_by (first_of (codes "by") rows)
+  Ok (record { keys = keys; round = round_in rows })
 
 -- what the options of `candidates` say, where a test says which texts are cursors; 100 candidates where no count is named [with
 -- pair_options]

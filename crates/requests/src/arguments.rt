@@ -41,6 +41,10 @@ pub enum OptionName {
     Points,
     /// `--renumber`.
     Renumber,
+    /// `--ranks`.
+    Ranks,
+    /// `--by` of `format`, a list of keys.
+    RankedBy,
     /// `--names` of `pair`.
     BoardNames,
     /// `--names` of `boards`.
@@ -51,7 +55,7 @@ pub enum OptionName {
     Games,
     /// `--words`.
     Words,
-    /// `--by`, a list of keys.
+    /// `--by` of `standings` and of `sheet`, a list of keys.
     By,
     /// `--bye N`.
     Bye,
@@ -148,6 +152,9 @@ const POINTS_HELP: &str =
 const RENUMBER_HELP: &str =
     "Gives the players the start ranks 1, 2 and so on by rating, title and the start rank that they have";
 
+const RANKS_HELP: &str =
+    "Writes each player's place in the standings into columns 86 to 89, and a blank into column 85";
+
 const BOARD_NAMES_HELP: &str = "Prints the boards with names and scores, in columns for the wall";
 
 const PLAYED_NAMES_HELP: &str =
@@ -164,6 +171,12 @@ const BY: Labels<'static> = Labels {
     name: "by",
     value: KEYS,
     help: "What tells players of one score apart: one to three of direct, buchholz and sb, joined by commas, none twice [default: direct,buchholz,sb]",
+};
+
+const RANKED_BY: Labels<'static> = Labels {
+    name: "by",
+    value: KEYS,
+    help: "With --ranks, what tells players of one score apart, as in standings [default: direct,buchholz,sb]",
 };
 
 const BYE: Labels<'static> = Labels {
@@ -206,6 +219,8 @@ pub fn option_for<'a>(alloc: Global, which: OptionName) -> Arg<'a>
         OptionName::Notes => flag(alloc, "notes", NOTES_HELP),
         OptionName::Points => flag(alloc, "points", POINTS_HELP),
         OptionName::Renumber => flag(alloc, "renumber", RENUMBER_HELP),
+        OptionName::Ranks => flag(alloc, "ranks", RANKS_HELP),
+        OptionName::RankedBy => option(alloc, RANKED_BY),
         OptionName::BoardNames => flag(alloc, "names", BOARD_NAMES_HELP),
         OptionName::PlayedNames => flag(alloc, "names", PLAYED_NAMES_HELP),
         OptionName::PlayerNames => flag(alloc, "names", PLAYER_NAMES_HELP),

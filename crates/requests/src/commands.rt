@@ -24,10 +24,11 @@ pub enum CommandName {
     Candidates,
     Explain,
     Standings,
+    Sheet,
 }
 
 /// The commands, in the order in which help lists them.
-pub const COMMANDS: [CommandName; 8] = [
+pub const COMMANDS: [CommandName; 9] = [
     CommandName::Check,
     CommandName::Format,
     CommandName::Enter,
@@ -36,6 +37,7 @@ pub const COMMANDS: [CommandName; 8] = [
     CommandName::Candidates,
     CommandName::Explain,
     CommandName::Standings,
+    CommandName::Sheet,
 ];
 
 /// The texts of a command's help.
@@ -59,9 +61,11 @@ const CHECK_TEXTS: HelpTexts<'static> = HelpTexts {
 };
 
 // `format`: its options, and the texts of its help.
-const FORMAT: [OptionName; 4] = [
+const FORMAT: [OptionName; 6] = [
     OptionName::Points,
     OptionName::Renumber,
+    OptionName::Ranks,
+    OptionName::RankedBy,
     OptionName::Round,
     OptionName::Bye,
 ];
@@ -69,7 +73,7 @@ const FORMAT: [OptionName; 4] = [
 const FORMAT_TEXTS: HelpTexts<'static> = HelpTexts {
     about: "Writes the report in canonical columns, or tells why it is refused",
     usage: "arbiter format [OPTIONS] < REPORT",
-    after_help: "The report is read from standard input. Printed is each player's line in TRF16's columns, and each other line as it stands.\n\nExample: arbiter format < report.trf > canonical.trf",
+    after_help: "The report is read from standard input. Printed is each player's line in TRF16's columns, and each other line as it stands.\n\nExamples:\n  arbiter format < report.trf > canonical.trf\n  arbiter format --points --ranks < report.trf > final.trf",
 };
 
 // `enter`: its options, and the texts of its help.
@@ -167,6 +171,15 @@ const STANDINGS_TEXTS: HelpTexts<'static> = HelpTexts {
     after_help: "The report is read from standard input. Printed is a line for each player: place, start rank, score, and the keys.\n\nExample: arbiter standings --by buchholz,sb < report.trf",
 };
 
+// `sheet`: its options, and the texts of its help.
+const SHEET: [OptionName; 3] = [OptionName::By, OptionName::Round, OptionName::Bye];
+
+const SHEET_TEXTS: HelpTexts<'static> = HelpTexts {
+    about: "Shows the whole event on one HTML page, for the wall and the web",
+    usage: "arbiter sheet [OPTIONS] < REPORT",
+    after_help: "The report is read from standard input. Printed is a page that any browser shows and prints: the boards of each round, the players by name, the standings with all games, and the list of players. It has no script and loads nothing.\n\nExample: arbiter sheet < report.trf > event.html",
+};
+
 /// A command of the program.
 pub fn command_for<'a>(alloc: Global, which: CommandName) -> CommandResult<'a>
     ensures app { IfOk result (λ command. app_of command ≡ app_for which) }
@@ -182,6 +195,7 @@ pub fn command_for<'a>(alloc: Global, which: CommandName) -> CommandResult<'a>
         CommandName::Candidates => optioned(alloc, "candidates", texts, &CANDIDATES),
         CommandName::Explain => optioned(alloc, "explain", texts, &EXPLAIN),
         CommandName::Standings => optioned(alloc, "standings", texts, &STANDINGS),
+        CommandName::Sheet => optioned(alloc, "sheet", texts, &SHEET),
     }
 }
 
@@ -196,6 +210,7 @@ fn texts_of(which: CommandName) -> HelpTexts<'static> {
         CommandName::Candidates => CANDIDATES_TEXTS,
         CommandName::Explain => EXPLAIN_TEXTS,
         CommandName::Standings => STANDINGS_TEXTS,
+        CommandName::Sheet => SHEET_TEXTS,
     }
 }
 

@@ -3,8 +3,8 @@ ghost use Rattle.std.specs.Prelude.{◌≡◌, ℕ, List, Bool, option_map};
 ghost use Rattle.clap.specs.Words.{first_of};
 ghost use Rattle.requests.specs.Options.{boards_options, bye_in, candidates_options, check_options};
 ghost use Rattle.requests.specs.Options.{count_in, explain_options, flag_in, format_options, from_in, initial_in};
-ghost use Rattle.requests.specs.Options.{keys_by, number_in, pair_options, question_by, rows_in};
-ghost use Rattle.requests.specs.Options.{shown_by, standings_options, steps_in, u16_max, wording_by};
+ghost use Rattle.requests.specs.Options.{keys_by, number_in, pair_options, question_by, ranks_by, rows_in};
+ghost use Rattle.requests.specs.Options.{sheet_options, shown_by, standings_options, steps_in, u16_max, wording_by};
 ghost use Rattle.trf16_report.specs.declared.limits.TheConstants.{MOST_ROUNDS};
 
 use crate::entries_in::Entries;
@@ -26,6 +26,8 @@ pub enum WordFault {
     NamesAndReport,
     /// `--instead` is there without `--player`.
     InsteadAlone,
+    /// `--by` of `format` is there without `--ranks`.
+    ByAlone,
     /// An entry of `enter` is of no form; its place among them, from 1.
     BadEntry { place: usize },
 }
@@ -38,12 +40,14 @@ pub struct CheckOptions {
 }
 
 /// What is asked of `format`.
-#[derive(Clone, Copy)]
+#[derive(Drop)]
 pub struct FormatOptions {
     /// If set, each points field is written as a sum, and compared with none.
     pub points: bool,
     /// If set, the players get the start ranks that rating and title give.
     pub renumber: bool,
+    /// If set, the players' places are written into their rank columns, and players of one score are told apart by these.
+    pub ranks: Option<Keys>,
     /// The round before which the report is taken as it stood, where the words name one: at most `MOST_ROUNDS`.
     pub round: Option<u8>,
 }
@@ -132,6 +136,15 @@ pub struct StandingsOptions {
     pub round: Option<u8>,
 }
 
+/// What is asked of `sheet`.
+#[derive(Drop)]
+pub struct SheetOptions {
+    /// What players of one score are told apart by.
+    pub keys: Keys,
+    /// The round before which the report is taken as it stood, where the words name one: at most `MOST_ROUNDS`.
+    pub round: Option<u8>,
+}
+
 /// What is asked of `enter`.
 #[derive(Drop)]
 pub struct EnterOptions {
@@ -203,15 +216,18 @@ pub fn check_options(matches: &ArgMatches<'_>) -> CheckOptions
     }
 }
 
-/// The options of `format`.
-pub fn format_options(matches: &ArgMatches<'_>) -> FormatOptions
+/// The options of `format`, or what is wrong with them.
+#[tactic(auto, unfolding(crate::specs::Options::format_options))]
+pub fn format_options(matches: &ArgMatches<'_>) -> Result<FormatOptions, WordFault>
     ensures { result ≡ format_options (rows_in matches.now) }
 {
-    FormatOptions {
+    let ranks = ranks_by(flag_in(matches, "ranks"), text_in(matches, "by"))?;
+    Ok(FormatOptions {
         points: flag_in(matches, "points"),
         renumber: flag_in(matches, "renumber"),
+        ranks,
         round: few_rounds_in(matches, "round"),
-    }
+    })
 }
 
 /// The options of `pair`, or what is wrong with them.
@@ -268,6 +284,18 @@ pub fn standings_options(matches: &ArgMatches<'_>) -> Result<StandingsOptions, W
         keys,
         names: flag_in(matches, "names"),
         games: flag_in(matches, "games"),
+        round: few_rounds_in(matches, "round"),
+    })
+}
+
+/// The options of `sheet`, or what is wrong with them.
+#[tactic(auto, unfolding(crate::specs::Options::sheet_options))]
+pub fn sheet_options(matches: &ArgMatches<'_>) -> Result<SheetOptions, WordFault>
+    ensures { result ≡ sheet_options (rows_in matches.now) }
+{
+    let keys = keys_by(text_in(matches, "by"))?;
+    Ok(SheetOptions {
+        keys,
         round: few_rounds_in(matches, "round"),
     })
 }
@@ -359,6 +387,19 @@ fn keys_by(text: Option<&str>) -> Result<Keys, WordFault>
     match keys_in(list) {
         Some(keys) => Ok(keys),
         None => Err(WordFault::BadKeys),
+    }
+}
+
+// `--ranks` and `--by` of `format`: the keys by which the players' places are written, if they are wanted.
+fn ranks_by(ranks: bool, text: Option<&str>) -> Result<Option<Keys>, WordFault>
+    ensures { result ≡ ranks_by ranks (option_map (λ t. t.now) text.entry) }
+{
+    if ranks {
+        return Ok(Some(keys_by(text)?));
+    }
+    match text {
+        None => Ok(None),
+        Some(_) => Err(WordFault::ByAlone),
     }
 }
 

@@ -5,9 +5,10 @@ ghost use Rattle.clap.specs.Words.{app_of, kind_of, new_app, subcommand_rows_of}
 ghost use Rattle.dutch_arrangements.specs.Prelude.{has_syntax};
 ghost use Rattle.requests.specs.CommandLine.{HasSameGlobals, app_for};
 ghost use Rattle.requests.specs.Options.{rows_in};
-ghost use Rattle.requests.specs.Words.{ComesTo, FitsKind, asked_by, candidates_request, enter_request, explain_request, meant};
+ghost use Rattle.requests.specs.Words.{ComesTo, FitsKind, asked_by, candidates_request, enter_request, explain_request, format_request, meant};
 ghost use Rattle.requests.specs.Words.{other_request_of};
-ghost use Rattle.requests.specs.Words.{pair_request, request_of, standings_request, task_by, task_of, with_bye};
+ghost use Rattle.requests.specs.Words.{pair_request, request_of, sheet_request, standings_request, task_by, task_of};
+ghost use Rattle.requests.specs.Words.{with_bye};
 ghost use Rattle.requests.specs.Words.{arbiter_app, settled, versioned, with_command};
 ghost use Rattle.requests.specs.Words.{with_commands, without_help};
 
@@ -15,9 +16,9 @@ use crate::commands::{COMMANDS, CommandName, CommandResult, HelpTexts, command_f
 use crate::entries_in::enter_options;
 use crate::options::{
     BoardsOptions, CandidatesOptions, CheckOptions, CursorSyntax, EnterOptions, ExplainOptions,
-    FormatOptions, PairOptions, StandingsOptions, WordFault, boards_options, bye_in,
+    FormatOptions, PairOptions, SheetOptions, StandingsOptions, WordFault, boards_options, bye_in,
     candidates_options, check_options, explain_options, format_options, pair_options,
-    standings_options,
+    sheet_options, standings_options,
 };
 use clap::error::ErrorKind;
 use clap::{ArgMatches, Command, Error};
@@ -43,6 +44,8 @@ pub enum Request<'a> {
     Explain(ExplainOptions),
     /// Ranks the players.
     Standings(StandingsOptions),
+    /// Shows the whole event on one page.
+    Sheet(SheetOptions),
 }
 
 /// A request, and what its report is read by.
@@ -184,12 +187,13 @@ fn other_request_of<'a>(
 {
     match name {
         "check" => Some(Ok(Request::Check(check_options(options)))),
-        "format" => Some(Ok(Request::Format(format_options(options)))),
+        "format" => Some(format_request(options)),
         "pair" => Some(pair_request(options)),
         "boards" => Some(Ok(Request::Boards(boards_options(options)))),
         "candidates" => Some(candidates_request(options)),
         "explain" => Some(explain_request(options)),
         "standings" => Some(standings_request(options)),
+        "sheet" => Some(sheet_request(options)),
         _ => None,
     }
 }
@@ -205,6 +209,14 @@ fn enter_request<'a>(
         Ok(options) => Ok(Ok(Request::Enter(options))),
         Err(fault) => Ok(Err(fault)),
     }
+}
+
+// The request of `format`.
+#[tactic(auto, unfolding(crate::specs::Words::format_request))]
+fn format_request<'a>(options: &ArgMatches<'a>) -> Result<Request<'a>, WordFault>
+    ensures { result ≡ format_request (rows_in options.now) }
+{
+    Ok(Request::Format(format_options(options)?))
 }
 
 // The request of `pair`.
@@ -239,6 +251,14 @@ fn standings_request<'a>(options: &ArgMatches<'a>) -> Result<Request<'a>, WordFa
     Ok(Request::Standings(standings_options(options)?))
 }
 
+// The request of `sheet`.
+#[tactic(auto, unfolding(crate::specs::Words::sheet_request))]
+fn sheet_request<'a>(options: &ArgMatches<'a>) -> Result<Request<'a>, WordFault>
+    ensures { result ≡ sheet_request (rows_in options.now) }
+{
+    Ok(Request::Sheet(sheet_options(options)?))
+}
+
 impl CursorSyntax for Cursor {
     ghost is_cursor = { has_syntax };
 
@@ -271,7 +291,7 @@ fn told<'a>(alloc: Global, error: &Error) -> Result<Meaning<'a>, AllocError>
 }
 
 // The program's command line.
-#[tactic(auto, unfolding(crate::specs::Words::arbiter_app, crate::specs::Words::with_engine))]
+#[tactic(auto, unfolding(crate::specs::Words::arbiter_app, crate::specs::Words::with_engine, crate::specs::Words::with_tables))]
 fn arbiter_command<'a>(alloc: Global) -> CommandResult<'a>
     ensures app { IfOk result (λ command. app_of command ≡ arbiter_app) }
     ensures local { IfOk result (λ command. (fields_of command).has_globals ≡ false) }

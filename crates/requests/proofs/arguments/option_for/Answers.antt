@@ -1,5 +1,5 @@
 use Rattle.std.proofs.Common.{◌∙◌, ap, codes}
-use Rattle.requests.specs.Prelude.{number_rule, by_rule, bye_rule, correct_rule, count_rule, entries_rule, from_rule, games_rule, initial_rule, instead_rule, names_rule, notes_rule, player_rule, points_rule, renumber_rule, report_rule, round_rule, rounds_rule, steps_rule, words_rule}
+use Rattle.requests.specs.Prelude.{number_rule, by_rule, bye_rule, correct_rule, count_rule, entries_rule, from_rule, games_rule, initial_rule, instead_rule, names_rule, notes_rule, player_rule, points_rule, ranks_rule, renumber_rule, report_rule, round_rule, rounds_rule, steps_rule, words_rule}
 use Rattle.requests.proofs.arguments.option_for.Goals as goal
 
 pub returns-in-Bracket-clause-rule : goal.returns-in-Bracket-clause-rule
@@ -56,6 +56,14 @@ returns-in-Points-clause-rule c = rw c.in-Points.is c.flag-in-Points.ensures.rul
 pub returns-in-Renumber-clause-rule : goal.returns-in-Renumber-clause-rule
 unfolding renumber_rule
 returns-in-Renumber-clause-rule c = rw c.in-Renumber.is c.flag-in-Renumber.ensures.rule
+
+pub returns-in-Ranks-clause-rule : goal.returns-in-Ranks-clause-rule
+unfolding ranks_rule
+returns-in-Ranks-clause-rule c = rw c.in-Ranks.is c.flag-in-Ranks.ensures.rule
+
+pub returns-in-RankedBy-clause-rule : goal.returns-in-RankedBy-clause-rule
+unfolding by_rule
+returns-in-RankedBy-clause-rule c = rw c.in-RankedBy.is c.option-in-RankedBy.ensures.rule
 
 pub returns-in-BoardNames-clause-rule : goal.returns-in-BoardNames-clause-rule
 unfolding names_rule
