@@ -80,10 +80,10 @@ abbrev pub link : List ℕ → List ℕ → Node
 link name text = with_one Link Href (codes "#" ++ name) (Text text)
 
 -- a paragraph with a label and a text; nothing where there is no text
-abbrev pub fact : List ℕ → List ℕ → Node
+unfoldable pub fact : List ℕ → List ℕ → Node
 fact label [] = Nothing
 fact label (first ∷ rest) = bare Paragraph (Text (label ++ (codes ": " ++ (first ∷ rest))))
 
 -- an item of a list that leads to a section of the page
-abbrev pub item : List ℕ → List ℕ → Node
+unfoldable pub item : List ℕ → List ℕ → Node
 item name text = bare Item (link name text)

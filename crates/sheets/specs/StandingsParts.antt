@@ -93,7 +93,7 @@ standings_table keys (Some counted) = rows_table counted keys (standings_of coun
 standings_table keys None = no_standings
 
 -- the heading of the standings before a round, where so many rounds were paired
-abbrev pub standings_heading : ℕ → ℕ → List ℕ
+unfoldable pub standings_heading : ℕ → ℕ → List ℕ
 standings_heading round rounds =
     if nat_le round rounds || (rounds == 0) then codes "Standings before round " ++ decimal round
     else codes "Standings after round " ++ decimal rounds

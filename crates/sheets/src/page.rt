@@ -1,10 +1,11 @@
 // The page of a tournament.
-ghost use Rattle.std.specs.Prelude.{◌≡◌, ◌++◌, IfOk, OnOk, string_bytes};
+ghost use Rattle.std.specs.Prelude.{◌≡◌, ◌++◌, IfOk, OnOk, codes, string_bytes};
 ghost use Rattle.markup.specs.Prelude.{node_text};
 ghost use Rattle.sheets.specs.Pages.{counted_facts, document_head, document_of, event_dates, event_title, last_items};
 ghost use Rattle.sheets.specs.Pages.{last_names, links, names_item, page_body, page_header, page_of, round_item};
 ghost use Rattle.sheets.specs.Pages.{round_sections, rounds_text, said_facts, sections, style, title_or, viewport};
-ghost use Rattle.sheets.specs.Parts.{each_down};
+ghost use Rattle.sheets.specs.HeadLines.{head_text};
+ghost use Rattle.sheets.specs.Parts.{each_down, fact};
 
 use crate::head_lines::{first_line, head_text};
 use crate::name_lists::put_names_of;
@@ -97,18 +98,35 @@ fn put_head(page: &mut Markup, title: &[u8]) -> Result<(), AllocError>
     page.end(Tag::Head)
 }
 
+// Puts what the first line of a kind says, behind a label, if it says anything.
+fn put_said(
+    page: &mut Markup,
+    report: &Report<'_>,
+    label: &str,
+    kind: &[u8],
+) -> Result<(), AllocError>
+    ensures { OnOk result (page.new ≡ page.old ++ node_text (fact label.now (head_text report.now kind.now))) }
+{
+    let said = head_text(page.allocator(), report, kind)?;
+    put_fact(page, label, said.as_slice())
+}
+
+// Puts the dates of the event, if the report says them.
+fn put_dates(page: &mut Markup, report: &Report<'_>) -> Result<(), AllocError>
+    ensures { OnOk result (page.new ≡ page.old ++ node_text (fact (codes "Dates") (event_dates report.now))) }
+{
+    let dates = event_dates(page.allocator(), report)?;
+    put_fact(page, "Dates", dates.as_slice())
+}
+
 // Puts place, dates and chief arbiter, if the report says them.
 #[tactic(auto, unfolding(crate::specs::Pages::said_facts))]
 fn put_said_facts(page: &mut Markup, report: &Report<'_>) -> Result<(), AllocError>
     ensures { OnOk result (page.new ≡ page.old ++ node_text (said_facts report.now)) }
 {
-    let alloc = page.allocator();
-    let place = head_text(alloc, report, b"022")?;
-    let dates = event_dates(alloc, report)?;
-    let arbiter = head_text(alloc, report, b"102")?;
-    put_fact(page, "Place", place.as_slice())?;
-    put_fact(page, "Dates", dates.as_slice())?;
-    put_fact(page, "Chief arbiter", arbiter.as_slice())
+    put_said(page, report, "Place", b"022")?;
+    put_dates(page, report)?;
+    put_said(page, report, "Chief arbiter", b"102")
 }
 
 // Puts how many rounds were paired, and how many players there are.

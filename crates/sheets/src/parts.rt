@@ -131,6 +131,7 @@ pub(crate) fn put_link(page: &mut Markup, name: &str, text: &[u8]) -> Result<(),
 }
 
 /// Puts an item of a list that leads to a section of the page.
+#[tactic(auto, unfolding(crate::specs::Parts::item))]
 pub(crate) fn put_item(page: &mut Markup, name: &str, text: &[u8]) -> Result<(), AllocError>
     ensures { OnOk result (page.new ≡ page.old ++ node_text (item name.now text.now)) }
 {
@@ -140,6 +141,7 @@ pub(crate) fn put_item(page: &mut Markup, name: &str, text: &[u8]) -> Result<(),
 }
 
 /// Puts a paragraph with a label and a text; nothing if there is no text.
+#[tactic(auto, unfolding(crate::specs::Parts::fact))]
 pub(crate) fn put_fact(page: &mut Markup, label: &str, text: &[u8]) -> Result<(), AllocError>
     ensures { OnOk result (page.new ≡ page.old ++ node_text (fact label.now text.now)) }
 {

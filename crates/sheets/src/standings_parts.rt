@@ -257,6 +257,7 @@ fn put_counted(
 }
 
 // The heading of the standings before a round, if so many rounds were paired.
+#[tactic(auto, unfolding(crate::specs::StandingsParts::standings_heading))]
 fn heading(alloc: Global, round: u8, rounds: u8) -> Result<String, AllocError>
     ensures { IfOk result (λ text. string_bytes text ≡ standings_heading round rounds) }
 {

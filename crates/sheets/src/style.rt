@@ -4,7 +4,7 @@
 pub const STYLE: &str = "
 :root { color-scheme: light dark; font: 16px/1.4 system-ui, sans-serif }
 body { max-width: 75rem; margin: auto; padding: 1rem }
-h1, h2, p { margin: 0 }
+h1, h2, p { margin: 0; overflow-wrap: break-word }
 h2 { margin-top: 3rem }
 nav ul { display: flex; flex-wrap: wrap; gap: 0.5rem 1.25rem; margin: 1.5rem 0; padding: 0; list-style: none }
 div { overflow-x: auto }
