@@ -1,7 +1,7 @@
 # Completions of arbiter for bash.
 _arbiter() {
     local word=${COMP_WORDS[COMP_CWORD]} before=${COMP_WORDS[COMP_CWORD - 1]} words= front=
-    local commands="check format enter pair boards candidates explain standings help"
+    local commands="check format enter pair boards candidates explain standings sheet help"
     COMPREPLY=()
     case $before in
         '<' | '>' | '>>') compopt -o default; return ;;
@@ -21,6 +21,7 @@ _arbiter() {
                 *,candidates) words="--bracket --from --count --round --rounds --initial --steps --bye --help" ;;
                 *,explain) words="--player --instead --round --rounds --initial --steps --words --bye --help" ;;
                 *,standings) words="--round --by --names --games --bye --help" ;;
+                *,sheet) words="--round --by --bye --help" ;;
             esac
             ;;
     esac

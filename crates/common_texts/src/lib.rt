@@ -1,13 +1,17 @@
-//! Texts that several answers have: half points as points, a name without control characters, and that the steps of a
-//! bracket did not suffice.
+//! Texts that several answers have: half points as points, the values of the keys that break ties, what a cell says, a name
+//! without control characters, and that the steps of a bracket did not suffice.
 #![tactic(auto)]
 
+mod cells;
 mod controls;
+mod key_values;
 mod names;
 mod points;
 mod too_few_steps;
 
-pub use controls::put_without_controls;
+pub use cells::{RoundOf, result_mark};
+pub use controls::{put_without_controls, without_controls};
+pub use key_values::KeyValue;
 pub use names::shown;
 pub use points::HalfPoints;
 pub use too_few_steps::{undecided, undecided_words};

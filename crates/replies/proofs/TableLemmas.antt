@@ -3,7 +3,8 @@ use Rattle.std.proofs.Common.{◌≡◌, ◌∙◌, ◌≤◌, ◌<◌, ◌+◌,
 use Rattle.std.specs.Prelude.{slice_index_or, codes, None}
 use Rattle.std.proofs.lemmas.List.{drop_all, drop_more}
 use Rattle.tables.specs.declared.key.Key.{Key}
-use Rattle.replies.specs.Prelude.{value_text, values_text, LabelFacts, gap, labels_text, padded, values_labels}
+use Rattle.common_texts.specs.Prelude.{value_text}
+use Rattle.replies.specs.Prelude.{values_text, LabelFacts, gap, labels_text, padded, values_labels}
 
 no_values : (keys : List Key) → values_text keys [] ≡ []
 no_values [] = refl

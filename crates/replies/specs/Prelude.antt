@@ -12,11 +12,11 @@ unfoldable pub use Rattle.replies.specs.NoteTexts.{closing_text, front_text, oth
 pub use Rattle.replies.specs.RefusalNoteTexts.{cell_shown, cells_note, cells_text, extension_note, found, held_text, kind_or, line_in_bytes, line_note, order_text, points_note, refusal_note, repeated_note, unmarked_note, wanted_text, with_note}
 unfoldable pub use Rattle.replies.specs.RefusalNoteTexts.{bytes_text, columns_text, extension_text, front_of_answer, front_of_cell, repeated_text, sums_text, unfinished_text, zero_text}
 pub use Rattle.replies.specs.ReportAnswers.{check_answer, format_answer, format_verdict, formatted, if_judged, ranked_answer, size_text, written_answer}
-pub use Rattle.replies.specs.StandingsTexts.{quarter_text, quarters_text, rows_text, value_text, values_text}
+pub use Rattle.replies.specs.StandingsTexts.{rows_text, values_text}
 unfoldable pub use Rattle.replies.specs.StandingsTexts.{row_text}
 pub use Rattle.replies.specs.Tables.{LabelFacts, gap, labels_text, left, padded, padded_by, right, table_text, widest, width, width_in, widths}
-pub use Rattle.replies.specs.GameTexts.{game_text, games_labels, games_text}
-pub use Rattle.replies.specs.WallTexts.{boards_labels, marks_labels, named_boards_text, named_rows_text, opponent_labels, paired_labels, played_boards_text, played_labels, result_labels, result_mark, rows_labels, values_labels}
+pub use Rattle.replies.specs.GameTexts.{games_labels, games_text}
+pub use Rattle.replies.specs.WallTexts.{boards_labels, marks_labels, named_boards_text, named_rows_text, opponent_labels, paired_labels, played_boards_text, played_labels, result_labels, rows_labels, values_labels}
 unfoldable pub use Rattle.replies.specs.WallTexts.{board_labels, player_labels, row_labels}
 pub use Rattle.replies.specs.StandingsAnswers.{lines_text, rounds_shown, standings_answer, table_answer}
 pub use Rattle.replies.specs.EnterAnswers.{enter_answer, entered_answer, entry_options, entry_refusal, entry_text, player_words, round_words}

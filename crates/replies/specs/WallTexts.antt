@@ -1,14 +1,13 @@
 -- The boards and the standings for the wall: with names, in columns.
-use Rattle.std.specs.Prelude.{ℕ, ◌+◌, ◌-◌, true, ◌==◌, if◌then◌else◌, List, [], ◌∷◌, ◌++◌, length, Option, codes}
+use Rattle.std.specs.Prelude.{ℕ, ◌+◌, ◌-◌, ◌==◌, if◌then◌else◌, List, [], ◌∷◌, ◌++◌, length, Option, codes}
 use Rattle.std.specs.Fmt.{decimal}
 use Rattle.tables.specs.Prelude.{RowFacts}
 use Rattle.tables.specs.declared.key.Key.{Key}
-use Rattle.trf16_report.specs.declared.cell.Cell.{Cell}
-use Rattle.trf16_report.specs.declared.cell.Cell.TheVariants.{Game, Forfeit}
-use Rattle.trf16_report.specs.Prelude.{cell_in, name_in, outcome_letter, Sheet, points_upto, rounds_played}
+use Rattle.trf16_report.specs.Prelude.{cell_in, name_in, Sheet, points_upto, rounds_played}
 use Rattle.replies.specs.GameTexts.{games_labels}
-use Rattle.replies.specs.StandingsTexts.{value_text}
 use Rattle.replies.specs.Tables.{LabelFacts, left, right, table_text}
+use Rattle.common_texts.specs.CellTexts.{result_mark}
+use Rattle.common_texts.specs.KeyTexts.{value_text}
 use Rattle.common_texts.specs.Texts.{halves_text, shown}
 
 -- a player: start rank, name and score
@@ -40,12 +39,6 @@ abbrev pub named_boards_text : Sheet → List (ℕ × ℕ) → List ℕ
 named_boards_text sheet boards = table_text sheet.utf8 7 (boards_labels sheet 1 boards)
 
 -- ---- boards of a round that was paired
-
--- what a cell says of the result: 1, = or 0 of a game, rated or not, + or - of a forfeit, and nothing where there is no result
-abbrev pub result_mark : Cell → List ℕ
-result_mark (Game opponent colour rated got) = outcome_letter true got ∷ []
-result_mark (Forfeit opponent colour won) = if won then codes "+" else codes "-"
-result_mark other = []
 
 -- the result of a board by the marks of white and of black; nothing where one of them has none
 abbrev pub marks_labels : List ℕ → List ℕ → List LabelFacts

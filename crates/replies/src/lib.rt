@@ -18,7 +18,6 @@ pub mod format;
 mod games;
 mod input;
 mod notes;
-pub mod points;
 mod question;
 pub mod refusal;
 mod refusal_notes;

@@ -3,16 +3,16 @@ ghost use Rattle.std.specs.Prelude.{◌≡◌, ◌++◌, ◌≤◌, ◌<◌, IfO
 ghost use Rattle.trf16_report.specs.Prelude.{verdict};
 ghost use Rattle.replies.specs.Replies.{answer_of};
 ghost use Rattle.replies.specs.StandingsAnswers.{rounds_shown, standings_answer, table_answer};
-ghost use Rattle.replies.specs.StandingsTexts.{row_text, rows_text, value_text, values_text};
+ghost use Rattle.replies.specs.StandingsTexts.{row_text, rows_text, values_text};
+ghost use Rattle.common_texts.specs.KeyTexts.{value_text};
 ghost use Rattle.replies.specs.Views.{seen_before};
 
 use crate::games::{put_games, rounds_shown};
-use crate::points::KeyValue;
 use crate::refusal::has_no_standings;
 use crate::reply::{Reply, Status};
 use crate::views::{not_seen, read_before};
 use crate::wall;
-use common_texts::HalfPoints;
+use common_texts::{HalfPoints, KeyValue};
 use requests::StandingsOptions;
 use std::alloc::{AllocError, Global};
 use tables::{Key, Row, TieFault};

@@ -8,18 +8,17 @@ ghost use Rattle.replies.specs.GameTexts.{games_labels};
 ghost use Rattle.replies.specs.Tables.{right, table_text};
 ghost use Rattle.replies.specs.WallTexts.{board_labels, boards_labels, marks_labels, named_boards_text};
 ghost use Rattle.replies.specs.WallTexts.{named_rows_text, opponent_labels, paired_labels, played_boards_text};
-ghost use Rattle.replies.specs.WallTexts.{played_labels, player_labels, result_labels, result_mark, row_labels};
+ghost use Rattle.replies.specs.WallTexts.{played_labels, player_labels, result_labels, row_labels};
 ghost use Rattle.replies.specs.WallTexts.{rows_labels, values_labels};
 
 use crate::games::{push_games, rounds_shown};
-use crate::points::KeyValue;
 use crate::reply::{Reply, Status};
 use crate::table::{TableLine, table};
-use common_texts::HalfPoints;
+use common_texts::{HalfPoints, KeyValue, result_mark};
 use requests::StandingsOptions;
 use std::alloc::{AllocError, Global};
 use tables::{Key, Row};
-use trf16_report::{Cell, GameOutcome, Report};
+use trf16_report::Report;
 
 /// The start ranks of white and of black at a board; black 0 is the bye.
 type Board = (u16, u16);
@@ -245,21 +244,6 @@ fn push_marks(line: &mut TableLine, white: &str, black: &str) -> Result<(), Allo
         return Ok(());
     }
     line.push_text(format!(in line.allocator(); "{white}-{black}")?)
-}
-
-// What a cell says of the result: 1, = or 0 of a game, + or - of a forfeit.
-fn result_mark(cell: Cell) -> &'static str
-    ensures { result.now ≡ result_mark cell }
-{
-    match cell {
-        Cell::Game { got, .. } => match got {
-            GameOutcome::Win => "1",
-            GameOutcome::Draw => "=",
-            GameOutcome::Loss => "0",
-        },
-        Cell::Forfeit { won, .. } => { if won { "+" } else { "-" } }
-        Cell::Blank | Cell::Bye(_) | Cell::Unfinished { .. } => "",
-    }
 }
 
 // Puts a player: start rank, name and score.

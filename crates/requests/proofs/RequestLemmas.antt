@@ -88,8 +88,22 @@ task_made app words named required enabled accepted none = go (entered (built ap
 -- the program's commands, in their order, and clap's `help` behind them
 commands_named : AreNamed (built arbiter_app).subs
 unfolding commands_on_literals
-commands_named =
-    (inl (λ rows. refl), (inl (λ rows. refl), (inl (λ rows. refl), (inl (λ rows. refl), (inl (λ rows. refl), (inl (λ rows. refl), (inl (λ rows. refl), (inl (λ rows. refl), (inr refl, tt)))))))))
+commands_named = (
+  inl (λ rows. refl),
+  (
+    inl (λ rows. refl),
+    (
+      inl (λ rows. refl),
+      (
+        inl (λ rows. refl),
+        (
+          inl (λ rows. refl),
+          (inl (λ rows. refl), (inl (λ rows. refl), (inl (λ rows. refl), (inl (λ rows. refl), (inr refl, tt))))),
+        ),
+      ),
+    ),
+  ),
+)
 
 -- no words that clap's rules accept make no task
 pub no_words_without : (app : App) (words : List Text) (made : Option (Text × List Row)) → app ≡ arbiter_app → fault_of app words ≡ []

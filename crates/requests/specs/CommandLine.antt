@@ -10,7 +10,7 @@ use Rattle.clap.specs.declared.builder.value_parser.ValueParser.TheVariants.{Sig
 use Rattle.requests.specs.declared.arguments.OptionName.{OptionName}
 use Rattle.requests.specs.declared.arguments.OptionName.TheVariants.{Bracket, From, Count, Player, Instead, Round, PlayedRound, Rounds, Initial, Steps, Report, Notes, Points, Renumber, Ranks, RankedBy, BoardNames, PlayedNames, PlayerNames, Games, Words, By, Bye, Entries, EnteredRound, Correct}
 use Rattle.requests.specs.declared.commands.CommandName.{CommandName}
-use Rattle.requests.specs.declared.commands.CommandName.TheVariants.{Check as CheckName, Format as FormatName, Enter as EnterName, Pair as PairName, Boards as BoardsName, Candidates as CandidatesName, Explain as ExplainName, Standings as StandingsName}
+use Rattle.requests.specs.declared.commands.CommandName.TheVariants.{Check as CheckName, Format as FormatName, Enter as EnterName, Pair as PairName, Boards as BoardsName, Candidates as CandidatesName, Explain as ExplainName, Standings as StandingsName, Sheet as SheetName}
 use Rattle.trf16_report.specs.declared.limits.TheConstants.{MOST_ROUNDS}
 
 -- ---- options
@@ -214,6 +214,10 @@ explain_app = with_option (with_option (with_round_rules (with_option (with_opti
 unfoldable pub standings_app : App
 standings_app = with_option (with_table_rules (new_app (codes "standings"))) bye_rule
 
+-- `sheet`
+unfoldable pub sheet_app : App
+sheet_app = with_option (with_option (with_option (new_app (codes "sheet")) by_rule) round_rule) bye_rule
+
 -- a command of the command line with its options, as clap is told of them [with arbiter_app]
 abbrev pub app_for : CommandName → App
 app_for CheckName = check_app
@@ -224,3 +228,4 @@ app_for BoardsName = boards_app
 app_for CandidatesName = candidates_app
 app_for ExplainName = explain_app
 app_for StandingsName = standings_app
+app_for SheetName = sheet_app

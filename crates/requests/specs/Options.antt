@@ -19,6 +19,7 @@ use Rattle.requests.specs.declared.options.ExplainOptions.{ExplainOptions}
 use Rattle.requests.specs.declared.options.FormatOptions.{FormatOptions}
 use Rattle.requests.specs.declared.options.PairOptions.{PairOptions}
 use Rattle.requests.specs.declared.options.Question.{Question}
+use Rattle.requests.specs.declared.options.SheetOptions.{SheetOptions}
 use Rattle.requests.specs.declared.options.Shown.{Shown}
 use Rattle.requests.specs.declared.options.Shown.TheVariants.{Boards, Names, Report}
 use Rattle.requests.specs.declared.options.StandingsOptions.{StandingsOptions}
@@ -178,6 +179,12 @@ unfoldable pub standings_options : List Row → Result StandingsOptions WordFaul
 standings_options rows = do
   keys ← keys_by (first_of (codes "by") rows)
   Ok (record { keys = keys; names = flag_in (codes "names") rows; games = flag_in (codes "games") rows; round = round_in rows })
+
+-- `sheet`
+unfoldable pub sheet_options : List Row → Result SheetOptions WordFault
+sheet_options rows = do
+  keys ← keys_by (first_of (codes "by") rows)
+  Ok (record { keys = keys; round = round_in rows })
 
 -- what the options of `candidates` say, where a test says which texts are cursors; 100 candidates where no count is named [with
 -- pair_options]

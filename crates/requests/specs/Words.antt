@@ -9,10 +9,10 @@ use Rattle.clap.specs.declared.error.kind.ErrorKind.TheVariants.{DisplayHelp, Di
 use Rattle.dutch_arrangements.specs.Prelude.{has_syntax}
 use Rattle.requests.specs.declared.words.Task.{Task}
 use Rattle.requests.specs.declared.words.Request.{Request}
-use Rattle.requests.specs.declared.words.Request.TheVariants.{Check, Format, Enter, Pair, Boards, Candidates, Explain, Standings}
+use Rattle.requests.specs.declared.words.Request.TheVariants.{Check, Format, Enter, Pair, Boards, Candidates, Explain, Standings, Sheet}
 use Rattle.requests.specs.declared.commands.CommandName.{CommandName}
-use Rattle.requests.specs.CommandLine.{app_for, boards_app, candidates_app, check_app, enter_app, explain_app, format_app, pair_app, standings_app}
-use Rattle.requests.specs.Options.{◌>>=◌, boards_options, bye_in, candidates_options, check_options, explain_options, format_options, pair_options, standings_options}
+use Rattle.requests.specs.CommandLine.{app_for, boards_app, candidates_app, check_app, enter_app, explain_app, format_app, pair_app, sheet_app, standings_app}
+use Rattle.requests.specs.Options.{◌>>=◌, boards_options, bye_in, candidates_options, check_options, explain_options, format_options, pair_options, sheet_options, standings_options}
 use Rattle.requests.specs.EntryWords.{enter_options}
 use Rattle.requests.specs.declared.options.EnterOptions.{EnterOptions}
 use Rattle.requests.specs.declared.words.Meaning.{Meaning}
@@ -40,15 +40,20 @@ with_command app below = with_subcommand app below.top
 abbrev pub with_commands : App → List CommandName → App
 with_commands = fold (λ app name. with_command app (app_for name))
 
--- a program with the commands that pair the next round, list the boards of one that was paired, list candidates of the next one, explain
--- it, and rank the players
+-- a program with the commands that pair the next round, list the boards of one that was paired, list candidates of the next one, and explain
+-- it
 unfoldable pub with_engine : App → App
-with_engine app =
-    with_command (with_command (with_command (with_command (with_command app pair_app) boards_app) candidates_app) explain_app) standings_app
+with_engine app = with_command (with_command (with_command (with_command app pair_app) boards_app) candidates_app) explain_app
+
+-- a program with the commands that rank the players and that show the whole event
+unfoldable pub with_tables : App → App
+with_tables app = with_command (with_command app standings_app) sheet_app
 
 -- the command line as clap is told of it: a version, and one of the commands, which must be given [own]
 unfoldable pub arbiter_app : App
-arbiter_app = with_engine (with_command (with_command (with_command (settled (versioned (new_app (codes "arbiter")))) check_app) format_app) enter_app)
+arbiter_app =
+    with_tables
+    (with_engine (with_command (with_command (with_command (settled (versioned (new_app (codes "arbiter")))) check_app) format_app) enter_app))
 
 -- the request of `enter`, whose options are these
 abbrev pub enter_request_with : Result EnterOptions WordFault → Result Request WordFault
@@ -89,6 +94,12 @@ standings_request rows = do
   options ← standings_options rows
   Ok (Standings options)
 
+-- the request of `sheet`
+unfoldable pub sheet_request : List Row → Result Request WordFault
+sheet_request rows = do
+  options ← sheet_options rows
+  Ok (Sheet options)
+
 -- the request that a command other than `enter` and its options make, or what is wrong with them; none where there is no such command
 abbrev pub other_request_of : Text → List Row → Option (Result Request WordFault)
 other_request_of name rows =
@@ -98,7 +109,8 @@ other_request_of name rows =
     else (if bytes_eq name (codes "boards") then Some (Ok (Boards (boards_options rows)))
     else (if bytes_eq name (codes "candidates") then Some (candidates_request rows)
     else (if bytes_eq name (codes "explain") then Some (explain_request rows)
-    else (if bytes_eq name (codes "standings") then Some (standings_request rows) else None))))))
+    else (if bytes_eq name (codes "standings") then Some (standings_request rows)
+    else (if bytes_eq name (codes "sheet") then Some (sheet_request rows) else None)))))))
 
 -- the request that a command and its options make, or what is wrong with them; none where there is no such command
 abbrev pub request_of : Text → List Row → Option (Result Request WordFault)

@@ -55,7 +55,7 @@ pub enum OptionName {
     Games,
     /// `--words`.
     Words,
-    /// `--by` of `standings`, a list of keys.
+    /// `--by` of `standings` and of `sheet`, a list of keys.
     By,
     /// `--bye N`.
     Bye,

@@ -24,10 +24,11 @@ pub enum CommandName {
     Candidates,
     Explain,
     Standings,
+    Sheet,
 }
 
 /// The commands, in the order in which help lists them.
-pub const COMMANDS: [CommandName; 8] = [
+pub const COMMANDS: [CommandName; 9] = [
     CommandName::Check,
     CommandName::Format,
     CommandName::Enter,
@@ -36,6 +37,7 @@ pub const COMMANDS: [CommandName; 8] = [
     CommandName::Candidates,
     CommandName::Explain,
     CommandName::Standings,
+    CommandName::Sheet,
 ];
 
 /// The texts of a command's help.
@@ -169,6 +171,15 @@ const STANDINGS_TEXTS: HelpTexts<'static> = HelpTexts {
     after_help: "The report is read from standard input. Printed is a line for each player: place, start rank, score, and the keys.\n\nExample: arbiter standings --by buchholz,sb < report.trf",
 };
 
+// `sheet`: its options, and the texts of its help.
+const SHEET: [OptionName; 3] = [OptionName::By, OptionName::Round, OptionName::Bye];
+
+const SHEET_TEXTS: HelpTexts<'static> = HelpTexts {
+    about: "Shows the whole event on one HTML page, for the wall and the web",
+    usage: "arbiter sheet [OPTIONS] < REPORT",
+    after_help: "The report is read from standard input. Printed is a page that any browser shows and prints: the boards of each round, the players by name, the standings with all games, and the list of players. It has no script and loads nothing.\n\nExample: arbiter sheet < report.trf > event.html",
+};
+
 /// A command of the program.
 pub fn command_for<'a>(alloc: Global, which: CommandName) -> CommandResult<'a>
     ensures app { IfOk result (λ command. app_of command ≡ app_for which) }
@@ -184,6 +195,7 @@ pub fn command_for<'a>(alloc: Global, which: CommandName) -> CommandResult<'a>
         CommandName::Candidates => optioned(alloc, "candidates", texts, &CANDIDATES),
         CommandName::Explain => optioned(alloc, "explain", texts, &EXPLAIN),
         CommandName::Standings => optioned(alloc, "standings", texts, &STANDINGS),
+        CommandName::Sheet => optioned(alloc, "sheet", texts, &SHEET),
     }
 }
 
@@ -198,6 +210,7 @@ fn texts_of(which: CommandName) -> HelpTexts<'static> {
         CommandName::Candidates => CANDIDATES_TEXTS,
         CommandName::Explain => EXPLAIN_TEXTS,
         CommandName::Standings => STANDINGS_TEXTS,
+        CommandName::Sheet => SHEET_TEXTS,
     }
 }
 

@@ -20,6 +20,6 @@ pub use entries_in::Entries;
 pub use keys::Keys;
 pub use options::{
     BoardsOptions, CandidatesOptions, CheckOptions, EnterOptions, ExplainOptions, FormatOptions,
-    GivenCursor, PairOptions, Question, Shown, StandingsOptions, WordFault, Wording,
+    GivenCursor, PairOptions, Question, SheetOptions, Shown, StandingsOptions, WordFault, Wording,
 };
 pub use words::{Meaning, Request, Task, meant, read_words};

@@ -4,7 +4,7 @@ ghost use Rattle.clap.specs.Words.{first_of};
 ghost use Rattle.requests.specs.Options.{boards_options, bye_in, candidates_options, check_options};
 ghost use Rattle.requests.specs.Options.{count_in, explain_options, flag_in, format_options, from_in, initial_in};
 ghost use Rattle.requests.specs.Options.{keys_by, number_in, pair_options, question_by, ranks_by, rows_in};
-ghost use Rattle.requests.specs.Options.{shown_by, standings_options, steps_in, u16_max, wording_by};
+ghost use Rattle.requests.specs.Options.{sheet_options, shown_by, standings_options, steps_in, u16_max, wording_by};
 ghost use Rattle.trf16_report.specs.declared.limits.TheConstants.{MOST_ROUNDS};
 
 use crate::entries_in::Entries;
@@ -132,6 +132,15 @@ pub struct StandingsOptions {
     pub names: bool,
     /// If set, the games are wanted, in a column for each round.
     pub games: bool,
+    /// The round before which the report is taken as it stood, where the words name one: at most `MOST_ROUNDS`.
+    pub round: Option<u8>,
+}
+
+/// What is asked of `sheet`.
+#[derive(Drop)]
+pub struct SheetOptions {
+    /// What players of one score are told apart by.
+    pub keys: Keys,
     /// The round before which the report is taken as it stood, where the words name one: at most `MOST_ROUNDS`.
     pub round: Option<u8>,
 }
@@ -275,6 +284,18 @@ pub fn standings_options(matches: &ArgMatches<'_>) -> Result<StandingsOptions, W
         keys,
         names: flag_in(matches, "names"),
         games: flag_in(matches, "games"),
+        round: few_rounds_in(matches, "round"),
+    })
+}
+
+/// The options of `sheet`, or what is wrong with them.
+#[tactic(auto, unfolding(crate::specs::Options::sheet_options))]
+pub fn sheet_options(matches: &ArgMatches<'_>) -> Result<SheetOptions, WordFault>
+    ensures { result ≡ sheet_options (rows_in matches.now) }
+{
+    let keys = keys_by(text_in(matches, "by"))?;
+    Ok(SheetOptions {
+        keys,
         round: few_rounds_in(matches, "round"),
     })
 }

@@ -7,7 +7,8 @@ ghost use Rattle.requests.specs.CommandLine.{HasSameGlobals, app_for};
 ghost use Rattle.requests.specs.Options.{rows_in};
 ghost use Rattle.requests.specs.Words.{ComesTo, FitsKind, asked_by, candidates_request, enter_request, explain_request, format_request, meant};
 ghost use Rattle.requests.specs.Words.{other_request_of};
-ghost use Rattle.requests.specs.Words.{pair_request, request_of, standings_request, task_by, task_of, with_bye};
+ghost use Rattle.requests.specs.Words.{pair_request, request_of, sheet_request, standings_request, task_by, task_of};
+ghost use Rattle.requests.specs.Words.{with_bye};
 ghost use Rattle.requests.specs.Words.{arbiter_app, settled, versioned, with_command};
 ghost use Rattle.requests.specs.Words.{with_commands, without_help};
 
@@ -15,9 +16,9 @@ use crate::commands::{COMMANDS, CommandName, CommandResult, HelpTexts, command_f
 use crate::entries_in::enter_options;
 use crate::options::{
     BoardsOptions, CandidatesOptions, CheckOptions, CursorSyntax, EnterOptions, ExplainOptions,
-    FormatOptions, PairOptions, StandingsOptions, WordFault, boards_options, bye_in,
+    FormatOptions, PairOptions, SheetOptions, StandingsOptions, WordFault, boards_options, bye_in,
     candidates_options, check_options, explain_options, format_options, pair_options,
-    standings_options,
+    sheet_options, standings_options,
 };
 use clap::error::ErrorKind;
 use clap::{ArgMatches, Command, Error};
@@ -43,6 +44,8 @@ pub enum Request<'a> {
     Explain(ExplainOptions),
     /// Ranks the players.
     Standings(StandingsOptions),
+    /// Shows the whole event on one page.
+    Sheet(SheetOptions),
 }
 
 /// A request, and what its report is read by.
@@ -190,6 +193,7 @@ fn other_request_of<'a>(
         "candidates" => Some(candidates_request(options)),
         "explain" => Some(explain_request(options)),
         "standings" => Some(standings_request(options)),
+        "sheet" => Some(sheet_request(options)),
         _ => None,
     }
 }
@@ -247,6 +251,14 @@ fn standings_request<'a>(options: &ArgMatches<'a>) -> Result<Request<'a>, WordFa
     Ok(Request::Standings(standings_options(options)?))
 }
 
+// The request of `sheet`.
+#[tactic(auto, unfolding(crate::specs::Words::sheet_request))]
+fn sheet_request<'a>(options: &ArgMatches<'a>) -> Result<Request<'a>, WordFault>
+    ensures { result ≡ sheet_request (rows_in options.now) }
+{
+    Ok(Request::Sheet(sheet_options(options)?))
+}
+
 impl CursorSyntax for Cursor {
     ghost is_cursor = { has_syntax };
 
@@ -279,7 +291,7 @@ fn told<'a>(alloc: Global, error: &Error) -> Result<Meaning<'a>, AllocError>
 }
 
 // The program's command line.
-#[tactic(auto, unfolding(crate::specs::Words::arbiter_app, crate::specs::Words::with_engine))]
+#[tactic(auto, unfolding(crate::specs::Words::arbiter_app, crate::specs::Words::with_engine, crate::specs::Words::with_tables))]
 fn arbiter_command<'a>(alloc: Global) -> CommandResult<'a>
     ensures app { IfOk result (λ command. app_of command ≡ arbiter_app) }
     ensures local { IfOk result (λ command. (fields_of command).has_globals ≡ false) }

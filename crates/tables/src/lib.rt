@@ -10,7 +10,7 @@
 //! round are paired, whatever the results are. Laws say that all who play in the round stand on one board, and nobody
 //! else.
 //!
-//! Rows and boards are put in order one by one, so the time grows with the square of their number. A row keeps a value
+//! Rows and boards are put in order one by one (`ranked`, which also orders what other crates show), so the time grows with the square of their number. A row keeps a value
 //! for each key. For each row, direct encounter looks at each two of those who are level with it, round by round.
 //!
 //! To mind: rounds count from 1, and a player is named by their start rank. Scores, direct encounter and Buchholz are
@@ -31,6 +31,7 @@ mod standings;
 pub use board::{Board, boards_of};
 pub use fault::TieFault;
 pub use key::Key;
+pub use ranking::{Placed, ranked};
 pub use refusals::judged;
 pub use row::Row;
 pub use standings::{Standings, rows_of, table};

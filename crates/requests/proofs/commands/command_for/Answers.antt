@@ -1,6 +1,6 @@
 use Rattle.std.proofs.Common.{◌≡◌, IfOk, subst, sym}
 use Rattle.clap.specs.Words.{app_of}
-use Rattle.requests.specs.Prelude.{app_for, boards_app, candidates_app, check_app, enter_app, explain_app, format_app, pair_app, standings_app, with_bracket_rules, with_rank_rules, with_round_rules, with_table_rules}
+use Rattle.requests.specs.Prelude.{app_for, boards_app, candidates_app, check_app, enter_app, explain_app, format_app, pair_app, sheet_app, standings_app, with_bracket_rules, with_rank_rules, with_round_rules, with_table_rules}
 use Rattle.requests.specs.declared.commands.CommandName.{CommandName}
 use Rattle.requests.proofs.commands.command_for.Goals as goal
 
@@ -51,3 +51,9 @@ unfolding standings_app with_table_rules
 returns-in-Standings-clause-app c =
     subst (λ (which : CommandName). IfOk c.optioned-in-Standings.result (λ command. app_of command ≡ app_for which)) (sym c.in-Standings.is)
     c.optioned-in-Standings.ensures.app
+
+pub returns-in-Sheet-clause-app : goal.returns-in-Sheet-clause-app
+unfolding sheet_app
+returns-in-Sheet-clause-app c =
+    subst (λ (which : CommandName). IfOk c.optioned-in-Sheet.result (λ command. app_of command ≡ app_for which)) (sym c.in-Sheet.is)
+    c.optioned-in-Sheet.ensures.app

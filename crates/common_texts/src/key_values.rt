@@ -1,8 +1,8 @@
 // The values of keys as text.
 ghost use Rattle.std.specs.Prelude.{◌≡◌, Some};
-ghost use Rattle.replies.specs.StandingsTexts.{quarter_text, quarters_text, value_text};
+ghost use Rattle.common_texts.specs.KeyTexts.{quarter_text, quarters_text, value_text};
 
-use common_texts::HalfPoints;
+use crate::points::HalfPoints;
 use std::fmt;
 use tables::Key;
 
@@ -35,7 +35,9 @@ fn decimals(quarter: u32) -> &'static str
 /// The value of a key that breaks ties, shown as points; as a dash if it tells nothing.
 #[derive(Drop)]
 pub struct KeyValue {
+    /// The key.
     pub key: Key,
+    /// Its value, in half points, or in quarters of a point for Sonneborn-Berger; none if it tells nothing.
     pub value: Option<u32>,
 }
 
