@@ -1,0 +1,3 @@
+-- What the laws of pages name.
+pub mod SafeTexts
+pub mod Pieces
