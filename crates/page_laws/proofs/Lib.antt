@@ -1,2 +1,3 @@
 pub mod SafeLemmas
 pub mod PieceLemmas
+pub mod RowLemmas
