@@ -31,6 +31,6 @@ verdict_for (Enter options) input bye = verdict_unsummed input bye
 verdict_for request input bye = verdict input bye
 
 -- what each command answers to the bytes of its input, where the pairing-allocated bye gives so many half points; a command with `--round`
--- for the report before that round, `boards` alone for the whole report [own]
+-- for the report before that round, `boards` for the whole report [own]
 abbrev pub Answers : Task → List ℕ → Answer → Type 0
 Answers task input answer = AnswersReport task.request input task.bye (verdict_for task.request input task.bye) answer
