@@ -112,6 +112,6 @@ pub boards_are_of_pair : (facts : Facts) (pairing : Pairing) (stages : List Stag
     → map visit stages ≡ (round facts).reached → boards_paired facts stages pairing.bye ≡ boards facts pairing
 boards_are_of_pair facts pairing stages paired are =
     let same : flat_map own_pairs stages ≡ pairing.pairs =
-        kept_by_stages stages ∙ ap (flat_map kept) are
-        ∙ sym (pairs_are facts (round facts).reached (round facts).pairing pairing paired (round_keeps facts)) in
+    kept_by_stages stages ∙ ap (flat_map kept) are
+    ∙ sym (pairs_are facts (round facts).reached (round facts).pairing pairing paired (round_keeps facts)) in
     ap (λ pairs. boards facts (record { pairs = pairs; bye = pairing.bye })) same

@@ -33,7 +33,7 @@ pub values_end : (keys : List Key) (values : List (Option ℕ)) (i : ℕ) (old t
     → text ≡ old ++ node_text (value_cells keys values)
 values_end keys values i old text e end =
     let none : node_text (value_cells (drop i keys) (drop i values)) ≡ [] =
-        ap (λ (v : List (Option ℕ)). node_text (value_cells (drop i keys) v)) (drop_all i values end) ∙ no_values (drop i keys) in
+    ap (λ (v : List (Option ℕ)). node_text (value_cells (drop i keys) v)) (drop_all i values end) ∙ no_values (drop i keys) in
     sym (append-nil text) ∙ (ap (λ t. text ++ t) (sym none) ∙ e)
 
 -- one more value
@@ -45,7 +45,7 @@ values_more keys values i d old put whole lt lt' e so_far =
     let value = node_text (cell (value_text (get_or keys i d) (get_or values i None))) in
     let rest = node_text (value_cells (drop (i + 1) keys) (drop (i + 1) values)) in
     let here : node_text (value_cells (drop i keys) (drop i values)) ≡ value ++ rest =
-        rw (drop_more keys i d lt, drop_more values i None lt') refl in
+    rw (drop_more keys i d lt, drop_more values i None lt') refl in
     ap (λ xs. xs ++ rest) e ∙ append_assoc old value rest ∙ ap (λ xs. old ++ xs) (sym here) ∙ so_far
 
 open_step : (sheet : Sheet) (round left : ℕ) → 0 < left

@@ -54,5 +54,9 @@ pub(crate) fn date_in(
 {
     let line = Line::new(alloc, dates, utf8)?;
     let behind = 10 * usize::from(round);
-    plain(alloc, utf8, without_blanks(line.text(82 + behind, 89 + behind)))
+    plain(
+        alloc,
+        utf8,
+        without_blanks(line.text(82 + behind, 89 + behind)),
+    )
 }

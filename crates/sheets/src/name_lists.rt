@@ -7,8 +7,10 @@ ghost use Rattle.sheets.specs.Parts.{column_head, each, name_cell};
 ghost use Rattle.sheets.specs.Persons.{person_in};
 
 use crate::orders::{NamedPlayer, by_name};
-use crate::parts::{end_table, put_cell, put_column_heads, put_name_cell, put_number, start_row};
-use crate::parts::{start_rows, start_section, start_table};
+use crate::parts::{
+    end_table, put_cell, put_column_heads, put_name_cell, put_number, start_row, start_rows,
+    start_section, start_table,
+};
 use crate::persons::person_in;
 use crate::rounds::why_text;
 use markup::{Markup, Tag};

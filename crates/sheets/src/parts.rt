@@ -88,11 +88,7 @@ pub(crate) fn end_table(page: &mut Markup) -> Result<(), AllocError>
 }
 
 /// Puts the start of a section, and its heading.
-pub(crate) fn start_section(
-    page: &mut Markup,
-    name: &str,
-    heading: &[u8],
-) -> Result<(), AllocError>
+pub(crate) fn start_section(page: &mut Markup, name: &str, heading: &[u8]) -> Result<(), AllocError>
     ensures { OnOk result (page.new ≡ page.old ++ section_start name.now heading.now) }
 {
     let id = Attribute {
@@ -111,7 +107,11 @@ pub(crate) fn put_name_cell(page: &mut Markup, person: &Person) -> Result<(), Al
     let alloc = page.allocator();
     let mut name = phrase(alloc, person.title.as_slice(), person.name.as_slice())?;
     name.push(b' ')?;
-    let behind = phrase(alloc, person.federation.as_slice(), person.rating.as_slice())?;
+    let behind = phrase(
+        alloc,
+        person.federation.as_slice(),
+        person.rating.as_slice(),
+    )?;
     page.start(Tag::Cell, &[])?;
     page.text(name.as_slice())?;
     page.element(Tag::Small, &[], behind.as_slice())?;

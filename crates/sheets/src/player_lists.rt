@@ -6,8 +6,9 @@ ghost use Rattle.sheets.specs.PlayerLists.{person_behind, person_row, player_hea
 ghost use Rattle.sheets.specs.PlayerLists.{players_table};
 
 use crate::orders::by_start;
-use crate::parts::{end_table, put_cell, put_column_heads, start_row, start_rows, start_section};
-use crate::parts::{start_table};
+use crate::parts::{
+    end_table, put_cell, put_column_heads, start_row, start_rows, start_section, start_table,
+};
 use crate::persons::{Person, person_in};
 use markup::{Markup, Tag};
 use std::alloc::AllocError;

@@ -9,8 +9,10 @@ ghost use Rattle.sheets.specs.Rounds.{opponent_part, result_text, round_heading,
 
 use crate::head_lines::date_in;
 use crate::orders::not_paired;
-use crate::parts::{end_table, put_cell, put_column_heads, put_name_cell, put_number, start_row};
-use crate::parts::{start_rows, start_section, start_table};
+use crate::parts::{
+    end_table, put_cell, put_column_heads, put_name_cell, put_number, start_row, start_rows,
+    start_section, start_table,
+};
 use crate::persons::person_in;
 use crate::texts::joined_by;
 use common_texts::{HalfPoints, result_mark};
@@ -43,12 +45,7 @@ pub(crate) fn put_points(page: &mut Markup, halves: u16) -> Result<(), AllocErro
 
 // Puts a player of a round: start rank, name, and the score before the round.
 #[tactic(auto, unfolding(crate::specs::Rounds::seat))]
-fn put_seat(
-    page: &mut Markup,
-    report: &Report<'_>,
-    round: u8,
-    start: u16,
-) -> Result<(), AllocError>
+fn put_seat(page: &mut Markup, report: &Report<'_>, round: u8, start: u16) -> Result<(), AllocError>
     requires { 0 < round }
     ensures { OnOk result (page.new ≡ page.old ++ node_text (seat report.now round start)) }
 {

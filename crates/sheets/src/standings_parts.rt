@@ -10,8 +10,10 @@ ghost use Rattle.sheets.specs.StandingsParts.{standings_heading, standings_heads
 ghost use Rattle.sheets.specs.StandingsParts.{standings_rows, standings_section, standings_table, value_cells};
 ghost use Rattle.tables.specs.Prelude.{standings_of};
 
-use crate::parts::{end_table, put_cell, put_column_head, put_column_heads, put_link};
-use crate::parts::{put_name_cell, put_number, start_row, start_rows, start_section, start_table};
+use crate::parts::{
+    end_table, put_cell, put_column_head, put_column_heads, put_link, put_name_cell, put_number,
+    start_row, start_rows, start_section, start_table,
+};
 use crate::persons::person_in;
 use crate::rounds::{put_points, round_name};
 use common_texts::{KeyValue, RoundOf};
@@ -84,12 +86,7 @@ fn put_value(page: &mut Markup, key: Key, value: Option<u32>) -> Result<(), Allo
 
 // Puts what a player's cell of a round says, which leads to the round.
 #[tactic(auto, unfolding(crate::specs::StandingsParts::game_cell))]
-fn put_game(
-    page: &mut Markup,
-    report: &Report<'_>,
-    start: u16,
-    round: u8,
-) -> Result<(), AllocError>
+fn put_game(page: &mut Markup, report: &Report<'_>, start: u16, round: u8) -> Result<(), AllocError>
     requires { 0 < round }
     ensures { OnOk result (page.new ≡ page.old ++ node_text (game_cell report.now start round)) }
 {
@@ -227,7 +224,11 @@ fn put_full_table(
 fn put_none(page: &mut Markup) -> Result<(), AllocError>
     ensures { OnOk result (page.new ≡ page.old ++ node_text no_standings) }
 {
-    page.element(Tag::Paragraph, &[], b"No standings can be made from this report.")
+    page.element(
+        Tag::Paragraph,
+        &[],
+        b"No standings can be made from this report.",
+    )
 }
 
 // Puts the standings of a report, or that there are none.
