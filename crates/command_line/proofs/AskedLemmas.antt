@@ -10,7 +10,7 @@ use Rattle.dutch_arrangements.specs.Prelude.{has_syntax}
 use Rattle.trf16_report.specs.declared.cell.Colour.{Colour}
 use Rattle.command_line.specs.Known.{CanBeAnswered}
 use Rattle.round_commands.specs.Known.{HasFewRounds}
-use Rattle.requests.specs.Prelude.{boards_options, bye_in, candidates_options, check_options, enter_options, enter_request, enter_request_with, explain_options, other_request_of, flag_in, initial_in, number_in, number_of, pair_options, round_in, rounds_in, shown_by, standings_options, steps_in, AsksFor, arbiter_app, candidates_request, explain_request, format_options, format_request, pair_request, request_of, standings_request, task_by, with_bye}
+use Rattle.requests.specs.Prelude.{boards_options, bye_in, candidates_options, check_options, enter_options, enter_request, enter_request_with, explain_options, other_request_of, flag_in, initial_in, number_in, number_of, pair_options, round_in, rounds_in, sheet_options, sheet_request, shown_by, standings_options, steps_in, AsksFor, arbiter_app, candidates_request, explain_request, format_options, format_request, pair_request, request_of, standings_request, task_by, with_bye}
 use Rattle.requests.specs.Options.{◌>>=◌}
 use Rattle.requests.specs.declared.options.EnterOptions.{EnterOptions}
 use Rattle.requests.specs.declared.options.PairOptions.{PairOptions}
@@ -18,7 +18,7 @@ use Rattle.requests.specs.declared.options.Shown.{Shown}
 use Rattle.requests.specs.declared.options.WordFault.{WordFault}
 use Rattle.requests.specs.declared.words.Task.{Task}
 use Rattle.requests.specs.declared.words.Request.{Request}
-use Rattle.requests.specs.declared.words.Request.TheVariants.{Check, Format, Enter, Pair, Boards, Candidates, Explain, Standings}
+use Rattle.requests.specs.declared.words.Request.TheVariants.{Check, Format, Enter, Pair, Boards, Candidates, Explain, Standings, Sheet as SheetRequest}
 use Rattle.trf16_report.specs.declared.limits.TheConstants.{MOST_ROUNDS}
 
 -- what a step gives that met no fault
@@ -66,24 +66,26 @@ asked_of (Err fault) f can request e = absurd (not_ok fault request e)
 some_ok : (x y : Result Request WordFault) → Some x ≡ Some y → x ≡ y
 some_ok x y e = cc
 
-asked_at : (rows : List Row) (request : Request) (check format pair boards candidates explain standings : Bool)
+asked_at : (rows : List Row) (request : Request) (check format pair boards candidates explain standings sheet : Bool)
     → cond check (Some (Ok (Check (check_options rows)))) (cond format (Some (format_request rows)) (cond pair (Some (pair_request rows))
     (cond boards (Some (Ok (Boards (boards_options rows)))) (cond candidates (Some (candidates_request rows)) (cond explain (Some (explain_request rows))
-    (cond standings (Some (standings_request rows)) None)))))) ≡ Some (Ok request) → CanBeAnswered request
-unfolding format_request pair_request candidates_request explain_request standings_request
-asked_at rows request true format pair boards candidates explain standings e = subst CanBeAnswered (same_ok (Check (check_options rows)) request (some_ok (Ok (Check (check_options rows))) (Ok request) e)) tt
-asked_at rows request false true pair boards candidates explain standings e =
+    (cond standings (Some (standings_request rows)) (cond sheet (Some (sheet_request rows)) None))))))) ≡ Some (Ok request) → CanBeAnswered request
+unfolding format_request pair_request candidates_request explain_request standings_request sheet_request
+asked_at rows request true format pair boards candidates explain standings sheet e = subst CanBeAnswered (same_ok (Check (check_options rows)) request (some_ok (Ok (Check (check_options rows))) (Ok request) e)) tt
+asked_at rows request false true pair boards candidates explain standings sheet e =
     asked_of (format_options rows) (λ options. Format options) (λ options e. tt) request (some_ok (format_request rows) (Ok request) e)
-asked_at rows request false false true boards candidates explain standings e =
+asked_at rows request false false true boards candidates explain standings sheet e =
     asked_of (pair_options rows) (λ options. Pair options) (pair_few rows) request (some_ok (pair_request rows) (Ok request) e)
-asked_at rows request false false false true candidates explain standings e = subst CanBeAnswered (same_ok (Boards (boards_options rows)) request (some_ok (Ok (Boards (boards_options rows))) (Ok request) e)) tt
-asked_at rows request false false false false true explain standings e =
+asked_at rows request false false false true candidates explain standings sheet e = subst CanBeAnswered (same_ok (Boards (boards_options rows)) request (some_ok (Ok (Boards (boards_options rows))) (Ok request) e)) tt
+asked_at rows request false false false false true explain standings sheet e =
     asked_of (candidates_options has_syntax rows) (λ options. Candidates options) (λ options e. tt) request (some_ok (candidates_request rows) (Ok request) e)
-asked_at rows request false false false false false true standings e =
+asked_at rows request false false false false false true standings sheet e =
     asked_of (explain_options rows) (λ options. Explain options) (λ options e. tt) request (some_ok (explain_request rows) (Ok request) e)
-asked_at rows request false false false false false false true e =
+asked_at rows request false false false false false false true sheet e =
     asked_of (standings_options rows) (λ options. Standings options) (λ options e. tt) request (some_ok (standings_request rows) (Ok request) e)
-asked_at rows request false false false false false false false e = let bad : None ≡ Some (let made : Result Request WordFault = Ok request in made) = e in cc
+asked_at rows request false false false false false false false true e =
+    asked_of (sheet_options rows) (λ options. SheetRequest options) (λ options e. tt) request (some_ok (sheet_request rows) (Ok request) e)
+asked_at rows request false false false false false false false false e = let bad : None ≡ Some (let made : Result Request WordFault = Ok request in made) = e in cc
 
 enter_asked : (made : Result EnterOptions WordFault) (request : Request) → enter_request_with made ≡ Ok request → CanBeAnswered request
 enter_asked (Ok options) request e = subst CanBeAnswered (same_ok (Enter options) request e) tt
@@ -91,7 +93,8 @@ enter_asked (Err fault) request e = absurd (not_ok fault request e)
 
 other_asked : (name : Text) (rows : List Row) (request : Request) → other_request_of name rows ≡ Some (Ok request) → CanBeAnswered request
 other_asked name rows request e =
-    asked_at rows request (bytes_eq name (codes "check")) (bytes_eq name (codes "format")) (bytes_eq name (codes "pair")) (bytes_eq name (codes "boards")) (bytes_eq name (codes "candidates")) (bytes_eq name (codes "explain")) (bytes_eq name (codes "standings")) e
+    asked_at rows request (bytes_eq name (codes "check")) (bytes_eq name (codes "format")) (bytes_eq name (codes "pair")) (bytes_eq name (codes "boards")) (bytes_eq name (codes "candidates")) (bytes_eq name (codes "explain")) (bytes_eq name (codes "standings"))
+    (bytes_eq name (codes "sheet")) e
 
 first_asked : (name : Text) (rows : List Row) (request : Request) (enter : Bool) → cond enter (Some (enter_request rows)) (other_request_of name rows) ≡ Some (Ok request)
     → CanBeAnswered request

@@ -13,7 +13,7 @@ use Rattle.report_notes.specs.declared.encoding.ByteOrder.{ByteOrder}
 use Rattle.std.specs.Option.{option_map_or}
 use Rattle.command_line.specs.Run.{IsAnswered, IsInput}
 use Rattle.requests.specs.declared.words.Request.{Request}
-use Rattle.requests.specs.declared.words.Request.TheVariants.{Check, Format, Enter, Pair, Boards, Candidates, Explain, Standings}
+use Rattle.requests.specs.declared.words.Request.TheVariants.{Check, Format, Enter, Pair, Boards, Candidates, Explain, Standings, Sheet as SheetRequest}
 use Rattle.requests.specs.declared.words.Task.{Task}
 use Rattle.trf16_report.specs.declared.limits.TheConstants.{MOST_BYTES}
 
@@ -43,6 +43,7 @@ verdict_for-long (Boards options) bytes bye h = verdict-long bytes bye h
 verdict_for-long (Candidates options) bytes bye h = verdict-long bytes bye h
 verdict_for-long (Explain options) bytes bye h = verdict-long bytes bye h
 verdict_for-long (Standings options) bytes bye h = verdict-long bytes bye h
+verdict_for-long (SheetRequest options) bytes bye h = verdict-long bytes bye h
 
 -- the bytes at the front of a text are those at the front of a longer one
 order_kept : (input rest : List ℕ) → 2 ≤ length input → byte_order (input ++ rest) ≡ byte_order input
@@ -77,6 +78,7 @@ refused_alike (Boards options) input rest bye answer long h = h
 refused_alike (Candidates options) input rest bye answer long h = h
 refused_alike (Explain options) input rest bye answer long h = h
 refused_alike (Standings options) input rest bye answer long h = h
+refused_alike (SheetRequest options) input rest bye answer long h = h
 
 -- an answer over an input, by its verdict
 abbrev AnswersOver : Request → ℕ → Answer → List ℕ → Type 0

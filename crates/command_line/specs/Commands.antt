@@ -6,10 +6,10 @@ use Rattle.round_commands.specs.CandidateAnswers.{AnswersCandidates}
 use Rattle.command_line.specs.ExplainAnswers.{AnswersExplain}
 use Rattle.round_commands.specs.PairAnswers.{AnswersPair}
 use Rattle.round_commands.specs.BoardsAnswers.{boards_answer}
-use Rattle.replies.specs.Prelude.{check_answer, enter_answer, format_answer, format_verdict, seen_before, standings_answer, Answer}
+use Rattle.replies.specs.Prelude.{check_answer, enter_answer, format_answer, format_verdict, seen_before, sheet_answer, standings_answer, Answer}
 use Rattle.requests.specs.declared.words.Task.{Task}
 use Rattle.requests.specs.declared.words.Request.{Request}
-use Rattle.requests.specs.declared.words.Request.TheVariants.{Check, Format, Enter, Pair, Boards, Candidates, Explain, Standings}
+use Rattle.requests.specs.declared.words.Request.TheVariants.{Check, Format, Enter, Pair, Boards, Candidates, Explain, Standings, Sheet as SheetRequest}
 
 -- this is an answer to a request over an input, what the pairing-allocated bye gives, and the report that it is, or over why it is refused;
 -- where a request asks for a round it is answered on the report as it stood before that round, but `boards` on the whole report, which
@@ -23,6 +23,7 @@ AnswersReport (Boards options) input bye report answer = answer ≡ boards_answe
 AnswersReport (Candidates options) input bye report answer = AnswersCandidates options (seen_before options.round report) answer
 AnswersReport (Explain options) input bye report answer = AnswersExplain options report answer
 AnswersReport (Standings options) input bye report answer = answer ≡ standings_answer options (seen_before options.round report)
+AnswersReport (SheetRequest options) input bye report answer = answer ≡ sheet_answer options (seen_before options.round report)
 
 -- the verdict that a request goes by: of `format` its own, of `enter` that without the points fields, of all others that of the report [with Answers]
 abbrev pub verdict_for : Request → List ℕ → ℕ → Result Sheet Fault

@@ -14,6 +14,7 @@ use replies::check::check;
 use replies::enter::enter;
 use replies::format::format;
 use replies::refusal::words_refused;
+use replies::sheet::sheet;
 use replies::standings::standings;
 use replies::{InputFault, Reply, Status, read_input};
 use requests::{Meaning, Request, Task, WordFault, meant, read_words};
@@ -117,6 +118,7 @@ fn answer<F: Finder>(alloc: Global, task: Task<'_>, input: &[u8]) -> Result<Repl
         Request::Candidates(options) => candidates::<F>(alloc, &options, input, bye),
         Request::Explain(options) => explain::<F>(alloc, options, input, bye),
         Request::Standings(options) => standings(alloc, &options, input, bye),
+        Request::Sheet(options) => sheet(alloc, &options, input, bye),
         Request::Pair(options) => pair::<F>(alloc, options, input, bye),
     }
 }

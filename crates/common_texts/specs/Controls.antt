@@ -22,7 +22,7 @@ without_controls (b ∷ c ∷ rest) =
     if is_long_control b c then byte "?" ∷ without_controls rest
     else shown_byte b ∷ without_controls (c ∷ rest)
 
--- whether a text holds a control character
+-- whether a text holds a control character [with without_controls]
 abbrev pub holds_control : List ℕ → Bool
 holds_control [] = false
 holds_control (b ∷ []) = is_control b

@@ -17,7 +17,7 @@ rows_in (Text text) = []
 rows_in (Element tag attributes content) = if is_row tag then Element tag attributes content ∷ [] else rows_in content
 rows_in (Beside node behind) = rows_in node ++ rows_in behind
 
--- what each of some things gives with its number, of which the first is n
+-- what each of some things gives with its number, of which the first is n [with rows_in]
 abbrev pub numbered : {A : Type 0} → (ℕ → A → Node) → ℕ → List A → List Node
 numbered f n [] = []
 numbered f n (x ∷ rest) = f n x ∷ numbered f (n + 1) rest

@@ -15,6 +15,7 @@ pub mod Tables
 pub mod GameTexts
 pub mod WallTexts
 pub mod StandingsAnswers
+pub mod SheetAnswers
 pub mod EnterAnswers
 pub mod Prelude
 pub mod Views

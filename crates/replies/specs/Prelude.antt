@@ -18,6 +18,7 @@ pub use Rattle.replies.specs.Tables.{LabelFacts, gap, labels_text, left, padded,
 pub use Rattle.replies.specs.GameTexts.{games_labels, games_text}
 pub use Rattle.replies.specs.WallTexts.{boards_labels, marks_labels, named_boards_text, named_rows_text, opponent_labels, paired_labels, played_boards_text, played_labels, result_labels, rows_labels, values_labels}
 unfoldable pub use Rattle.replies.specs.WallTexts.{board_labels, player_labels, row_labels}
+pub use Rattle.replies.specs.SheetAnswers.{sheet_answer}
 pub use Rattle.replies.specs.StandingsAnswers.{lines_text, rounds_shown, standings_answer, table_answer}
 pub use Rattle.replies.specs.EnterAnswers.{enter_answer, entered_answer, entry_options, entry_refusal, entry_text, player_words, round_words}
 pub use Rattle.replies.specs.Views.{seen_before, unseen_answer}

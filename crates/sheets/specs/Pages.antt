@@ -59,7 +59,7 @@ unfoldable pub counted_facts : Sheet → Node
 counted_facts sheet =
     Beside (fact (codes "Rounds paired") (rounds_text (rounds_played sheet) sheet.total)) (fact (codes "Players") (decimal (length sheet.players)))
 
--- what the page says of the event: title, place, dates, chief arbiter, rounds and players [TRF16, line 012; with said_facts]
+-- what the page says of the event: title, place, dates, chief arbiter, rounds and players [with said_facts]
 unfoldable pub page_header : List ℕ → Sheet → Node
 page_header title sheet = bare Header (Beside (bare Heading (Text title)) (Beside (said_facts sheet) (counted_facts sheet)))
 

@@ -8,6 +8,7 @@ use Rattle.trf16_report.specs.Prelude.{Sheet, columns, player_of, text, without_
 use Rattle.sheets.specs.Texts.{in_utf8, plain}
 
 -- a player as the page shows them: title, name, federation, rating and year of birth, each empty where nothing stands, but the name a dash
+-- [with person_of]
 pub record PersonFacts : Type 0 where
   pub title : List ℕ
   pub name : List ℕ
@@ -34,7 +35,7 @@ person_of utf8 left = record {
   born = year_in (text (columns utf8 left) 62 65);
 }
 
--- what is carried of the line of the player with a start rank; empty where no player has it [with person_in]
+-- what is carried of the line of the player with a start rank; empty where no player has it [with person_of]
 abbrev pub left_in : Sheet → ℕ → List ℕ
 left_in sheet start = option_map_or (λ entry. entry.left) (player_of sheet.players start) []
 

@@ -3,7 +3,7 @@ use Rattle.std.specs.Prelude.{ℕ, ◌+◌, ◌/◌, ◌%◌, Bool, true, false,
 use Rattle.std.specs.List.{flat_map}
 use Rattle.common_texts.specs.Controls.{without_controls}
 
--- a byte of a report that is not UTF-8: the character with its number, in UTF-8 [Latin-1]
+-- a byte of a report that is not UTF-8: the character with its number, in UTF-8 [with in_utf8]
 abbrev pub latin1_byte : ℕ → List ℕ
 latin1_byte b = if nat_lt b 0x80 then b ∷ [] else (0xC0 + b / 64) ∷ (0x80 + b % 64) ∷ []
 

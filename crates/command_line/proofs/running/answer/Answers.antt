@@ -25,5 +25,8 @@ returns-in-Explain g c = rw c.in-Explain.is c.explain.ensures
 pub returns-in-Standings : goal.returns-in-Standings
 returns-in-Standings g c = rw c.in-Standings.is c.standings.ensures
 
+pub returns-in-Sheet : goal.returns-in-Sheet
+returns-in-Sheet g c = rw c.in-Sheet.is c.sheet.ensures
+
 pub returns-in-Pair : goal.returns-in-Pair
 returns-in-Pair g c = rw c.in-Pair.is c.pair.ensures
