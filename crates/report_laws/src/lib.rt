@@ -10,8 +10,8 @@
 
 pub mod notes;
 pub mod paired;
+pub mod places;
 pub mod players;
-pub mod ranks;
 pub mod renumbered;
 pub mod standings;
 pub mod views;
