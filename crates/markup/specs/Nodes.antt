@@ -1,5 +1,5 @@
 -- What a page is made of, and how it is written.
-use Rattle.std.specs.Prelude.{ℕ, Bool, true, false, if◌then◌else◌, List, [], ◌∷◌, ◌++◌, codes}
+use Rattle.std.specs.Prelude.{ℕ, Bool, if◌then◌else◌, List, [], ◌∷◌, ◌++◌, codes}
 use Rattle.std.specs.List.{flat_map}
 use Rattle.markup.specs.Escapes.{escaped}
 use Rattle.markup.specs.Tags.{attribute_name, ends_line, is_void, opens_line, tag_name}
@@ -23,11 +23,6 @@ pub data Node : Type 0 where
   Text : List ℕ → Node
   Element : Tag → List AttributeFacts → Node → Node
   Beside : Node → Node → Node
-
--- some parts, one behind the other
-abbrev pub all_of : List Node → Node
-all_of [] = Nothing
-all_of (node ∷ rest) = Beside node (all_of rest)
 
 -- an attribute as it is written, behind a blank [HTML]
 abbrev pub attribute_text : AttributeFacts → List ℕ

@@ -2,7 +2,7 @@
 use Rattle.std.specs.Prelude.{ℕ, ◌+◌, ◌||◌, ◌==◌, if◌then◌else◌, List, [], ◌∷◌, ◌++◌, Option, Some, None, codes}
 use Rattle.std.specs.Fmt.{decimal}
 use Rattle.markup.specs.Prelude.{Node}
-use Rattle.markup.specs.Nodes.Node.{Nothing, Beside}
+use Rattle.markup.specs.Nodes.Node.{Beside}
 use Rattle.tables.specs.Prelude.{boards_of}
 use Rattle.trf16_report.specs.Prelude.{Sheet, cell_in}
 use Rattle.sheets.specs.Orders.{NamedFacts, by_name}

@@ -1,12 +1,12 @@
 -- The parts that the page is put together from: cells, rows, tables, sections and links.
 use Rattle.std.specs.Prelude.{ℕ, zero, suc, ◌+◌, List, [], ◌∷◌, ◌++◌, codes}
 use Rattle.std.specs.Fmt.{decimal}
-use Rattle.markup.specs.Prelude.{AttributeFacts, Node, all_of}
+use Rattle.markup.specs.Prelude.{Node}
 use Rattle.markup.specs.Nodes.Node.{Nothing, Text, Element, Beside}
 use Rattle.markup.specs.declared.tag.Tag.{Tag}
 use Rattle.markup.specs.declared.tag.Tag.TheVariants.{Subheading, Paragraph, Item, Link, Section, Division, Table, Caption, TableHead, TableBody, Row, HeaderCell, Small, Cell as DataCell}
 use Rattle.markup.specs.declared.tag.AttributeName.{AttributeName}
-use Rattle.markup.specs.declared.tag.AttributeName.TheVariants.{Id, Href, Scope, Colspan}
+use Rattle.markup.specs.declared.tag.AttributeName.TheVariants.{Id, Href, Scope}
 use Rattle.sheets.specs.Persons.{PersonFacts}
 use Rattle.sheets.specs.Texts.{phrase}
 

@@ -2,7 +2,7 @@
 use Rattle.std.specs.Prelude.{ℕ, List, [], ◌∷◌, codes}
 use Rattle.std.specs.Fmt.{decimal}
 use Rattle.markup.specs.Prelude.{Node}
-use Rattle.markup.specs.Nodes.Node.{Nothing, Beside}
+use Rattle.markup.specs.Nodes.Node.{Beside}
 use Rattle.trf16_report.specs.Prelude.{Sheet}
 use Rattle.sheets.specs.Orders.{by_start}
 use Rattle.sheets.specs.Parts.{cell, column_head, each, row, section, table}

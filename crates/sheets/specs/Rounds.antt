@@ -2,7 +2,7 @@
 use Rattle.std.specs.Prelude.{ℕ, ◌-◌, ◌==◌, if◌then◌else◌, List, [], ◌∷◌, ◌++◌, codes}
 use Rattle.std.specs.Fmt.{decimal}
 use Rattle.common_texts.specs.Prelude.{halves_text, result_mark}
-use Rattle.markup.specs.Prelude.{Node, all_of}
+use Rattle.markup.specs.Prelude.{Node}
 use Rattle.markup.specs.Nodes.Node.{Nothing, Text, Beside}
 use Rattle.markup.specs.declared.tag.Tag.TheVariants.{Cell as DataCell}
 use Rattle.markup.specs.declared.tag.AttributeName.TheVariants.{Colspan}

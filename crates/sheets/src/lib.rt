@@ -3,7 +3,7 @@
 //! elements.
 //!
 //! `document` gives the page of a report, with the keys that break ties. It has no script, loads nothing, and needs no
-//! other file. Texts of the report are escaped, so no name can add a tag or an attribute: a law of `markup` says so.
+//! other file. Texts of the report are escaped, so no name can add a tag or an attribute: laws in `page_laws` say so.
 //!
 //! The page is written piece by piece into one text; no tree of it stands in memory. The time grows with the text, and
 //! with the square of the number of players.
