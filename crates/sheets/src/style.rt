@@ -20,6 +20,7 @@ td a:hover { text-decoration: underline }
   table { font-size: 13px }
   th, td { padding-right: 0.4em }
   small { display: block }
+  section:not(#standings) td:has(small) { overflow-wrap: anywhere }
 }
 @page wide { size: landscape }
 @media print {
