@@ -29,6 +29,7 @@ use trf16_report::{Fault, Report};
 use trf16_writer::before_round;
 
 /// What `explain` says of the bytes of a report in which the pairing-allocated bye gives `bye` half points.
+#[inline(never)]
 pub fn explain<F: Finder>(
     alloc: Global,
     options: ExplainOptions,

@@ -74,6 +74,7 @@ pub struct AskedInSteps {
 ///
 /// # Errors
 /// Memory was refused.
+#[inline(never)]
 pub fn instead<F: Finder>(
     alloc: Global,
     round: &Paired<'_>,

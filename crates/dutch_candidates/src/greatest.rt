@@ -9,6 +9,7 @@ ghost use Rattle.dutch_bracket.specs.Shapes.{IsFirst, fits, shapes_with, has_mem
 
 use dutch_arrangements::{Bracket, Budget, Candidate, Rule, Shape, Stopped};
 use dutch_listing::Candidates;
+use std::alloc::{AllocError, Global};
 
 /// What draws a bracket's arrangements: a listing, which begins anew for each shape, and a place for what it hands out.
 /// They are made once for a bracket.
@@ -20,7 +21,7 @@ pub struct Lister<'a, R: Rule> {
 
 impl<'a, R: Rule> Lister<'a, R> {
     /// A lister of a bracket by a rule. (It is large, and a function pays at its entry for the size of its locals. So a
-    /// function that makes one does little else, and is not inlined.)
+    /// function that makes one without memory does little else, and is not inlined.)
     pub fn new(bracket: &'a Bracket, rule: &'a R) -> Lister<'a, R>
         ensures frame { result.listing.frame ≡ bracket.now }
         ensures rule { result.listing.rule ≡ rule.now }
@@ -29,6 +30,19 @@ impl<'a, R: Rule> Lister<'a, R> {
             listing: Candidates::ended(bracket, rule),
             drawn: Candidate::empty(),
         }
+    }
+
+    /// The same on the heap, so that it is no local of who holds it.
+    #[inline(never)]
+    pub fn boxed(
+        alloc: Global,
+        bracket: &'a Bracket,
+        rule: &'a R,
+    ) -> Result<Box<Lister<'a, R>>, AllocError>
+        ensures frame { IfOk result (λ lister. lister.value.listing.frame ≡ bracket.now) }
+        ensures rule { IfOk result (λ lister. lister.value.listing.rule ≡ rule.now) }
+    {
+        Ok(Box::new(alloc, Lister::new(bracket, rule))?)
     }
 }
 

@@ -66,7 +66,7 @@ fn chosen_by<F: Finder>(
     }
 }
 
-/// The choice in a bracket that has a candidate. (It makes the lister and does little else, as a lister is large.)
+/// The choice in a bracket that has a candidate.
 #[inline(never)]
 pub fn choose_in<F: Finder>(context: &Context<'_>, budget: &mut Budget) -> Result<Choice, PairFault>
     requires candidate { HasCandidate context.now.facts context.now.reached context.now.lower }
@@ -77,7 +77,7 @@ pub fn choose_in<F: Finder>(context: &Context<'_>, budget: &mut Budget) -> Resul
         rule: context.rule(),
         wish: None,
     };
-    let mut lister = Lister::new(context.frame(), &rule);
+    let mut lister = Lister::boxed(context.alloc(), context.frame(), &rule)?;
     chosen_by::<F>(context, &mut lister, budget)
 }
 

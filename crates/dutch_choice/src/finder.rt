@@ -49,8 +49,7 @@ pub trait Finder {
         ensures spends { Spends budget.old budget.new };
 }
 
-/// The best candidate of a shape by any finder, with a lister of its own. (Apart from its callers, as a lister is
-/// large.)
+/// The best candidate of a shape by any finder, with a lister of its own.
 #[inline(never)]
 pub fn best_by<F: Finder>(
     shaped: &ShapedBracket<'_>,
@@ -66,7 +65,7 @@ pub fn best_by<F: Finder>(
         rule: shaped.context.rule(),
         wish,
     };
-    let mut lister = Lister::new(shaped.context.frame(), &rule);
+    let mut lister = Lister::boxed(shaped.context.alloc(), shaped.context.frame(), &rule)?;
     let asked = FinderRequest {
         shaped: *shaped,
         wish,

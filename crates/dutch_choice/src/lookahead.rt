@@ -131,8 +131,61 @@ fn value_drawn(
 }
 
 /// What a bracket can be (C.7): by a listing of few steps, then by a matching if it can be had, and where that does not
-/// tell it, by a longer listing. (Apart from its caller, as a lister is large.)
+/// tell it, by a longer listing.
+fn value_by(
+    alloc: Option<Global>,
+    legal: &Legal<'_, ByNumber<'_>>,
+    lister: &mut Lister<'_, ByNumber<'_>>,
+    budget: &mut Budget,
+) -> Result<NextValue, Stopped>
+    requires flat { IsFlat legal.now.rule.now.field.now legal.now.rule.now.reached.now }
+    requires ordinary { legal.now.rule.now.reached.now.kind ≡ Ordinary }
+    requires frame { legal.now.bracket.now ≡ frame_of legal.now.rule.now.field.now legal.now.rule.now.reached.now }
+    requires small { (i : ℕ) → slice_index legal.now.bracket.now.scores i ≤ 65535 }
+    requires lists { (lister.old.listing.frame ≡ legal.now.bracket.now)
+        × (lister.old.listing.rule ≡ legal.now.rule.now) }
+    ensures answer { MatchResult result
+        (λ v. v ≡ value_of legal.now.rule.now.field.now legal.now.rule.now.reached.now)
+        (λ _. budget.new.used ≡ budget.new.limit) }
+    ensures spends { Spends budget.old budget.new }
+{
+    let rule = *legal.rule;
+    let few = steps_before(legal.bracket.len());
+    if let Some(found) = decided_in_few_steps(legal, lister, few, budget)? {
+        return Ok(value_drawn(legal, found, &lister.drawn));
+    }
+    let matched = shape_by_cost(alloc, rule, budget)?;
+    if let Some(shape) = matched
+        && let Some(value) = value_by_shape(rule, shape)
+    {
+        return Ok(value);
+    }
+    let found = greatest_drawn(matched, legal, lister, budget)?;
+    Ok(value_drawn(legal, found, &lister.drawn))
+}
+
+/// The same with a lister on the stack, where no memory is lent or it is refused. (Apart from its caller, as a lister is
+/// large.)
 #[inline(never)]
+fn value_on_stack(
+    alloc: Option<Global>,
+    legal: &Legal<'_, ByNumber<'_>>,
+    budget: &mut Budget,
+) -> Result<NextValue, Stopped>
+    requires flat { IsFlat legal.now.rule.now.field.now legal.now.rule.now.reached.now }
+    requires ordinary { legal.now.rule.now.reached.now.kind ≡ Ordinary }
+    requires frame { legal.now.bracket.now ≡ frame_of legal.now.rule.now.field.now legal.now.rule.now.reached.now }
+    requires small { (i : ℕ) → slice_index legal.now.bracket.now.scores i ≤ 65535 }
+    ensures answer { MatchResult result
+        (λ v. v ≡ value_of legal.now.rule.now.field.now legal.now.rule.now.reached.now)
+        (λ _. budget.new.used ≡ budget.new.limit) }
+    ensures spends { Spends budget.old budget.new }
+{
+    let mut lister = Lister::new(legal.bracket, legal.rule);
+    value_by(alloc, legal, &mut lister, budget)
+}
+
+/// What a bracket can be (C.7), with a lister on the heap where memory is lent.
 fn value_of(
     alloc: Option<Global>,
     field: &Field,
@@ -152,19 +205,12 @@ fn value_of(
         bracket: &bracket,
         rule: &rule,
     };
-    let mut lister = Lister::new(&bracket, &rule);
-    let few = steps_before(bracket.len());
-    if let Some(found) = decided_in_few_steps(&legal, &mut lister, few, budget)? {
-        return Ok(value_drawn(&legal, found, &lister.drawn));
-    }
-    let matched = shape_by_cost(alloc, rule, budget)?;
-    if let Some(shape) = matched
-        && let Some(value) = value_by_shape(rule, shape)
+    if let Some(global) = alloc
+        && let Ok(mut lister) = Lister::boxed(global, &bracket, &rule)
     {
-        return Ok(value);
+        return value_by(alloc, &legal, &mut lister, budget);
     }
-    let found = greatest_drawn(matched, &legal, &mut lister, budget)?;
-    Ok(value_drawn(&legal, found, &lister.drawn))
+    value_on_stack(alloc, &legal, budget)
 }
 
 /// A bracket of a field above the next lower scoregroup.

@@ -249,6 +249,7 @@ fn look_for<F: Finder>(wished: &Wished<'_>, budget: &mut Budget) -> Result<Inste
 /// that grants it and can be chosen (B.8, C.4), or why there is none. The wish names players by their numbers in the
 /// bracket; no candidate pairs a number that the bracket has not. The search has a budget of its own, of `limit` steps.
 #[tactic(auto, using(crate::proofs::InsteadLemmas::read_shape))]
+#[inline(never)]
 pub fn best_instead<F: Finder>(
     alloc: Global,
     field: &Field,

@@ -70,6 +70,7 @@ fn paired<F: Finder>(alloc: Global, field: &Field, limit: u64) -> Result<(Vec<Pa
 
 /// Pairs the next round of a field. Each bracket may make so many steps.
 #[tactic(auto, using(crate::proofs::NoDeadEnd::all_complete, crate::proofs::NoDeadEnd::not_complete, crate::proofs::NoDeadEnd::not_paired))]
+#[inline(never)]
 pub fn pair_round<F: Finder>(alloc: Global, field: &Field, limit: u64) -> Result<Outcome, PairFault>
     ensures outcome { IfOk result (IsOutcome field.now limit) }
     ensures completion { IfOk result (TellsCompletion field.now) }
@@ -106,6 +107,7 @@ fn found<F: Finder>(
 /// The bracket of a number, counted from 1 as the round reaches them, and its shape. No bracket has the number 0. Each
 /// bracket may make so many steps.
 #[tactic(auto, using(crate::proofs::NoDeadEnd::all_complete, crate::proofs::NoDeadEnd::not_complete, crate::proofs::NoDeadEnd::not_paired, crate::proofs::NoDeadEnd::nothing_reached, crate::proofs::NoDeadEnd::round_goes))]
+#[inline(never)]
 pub fn bracket_at<F: Finder>(
     alloc: Global,
     field: &Field,
@@ -143,6 +145,7 @@ fn all_stages<F: Finder>(
 
 /// The stages of the next round of a field, as `pair_round` pairs it.
 #[tactic(auto, using(crate::proofs::NoDeadEnd::not_paired))]
+#[inline(never)]
 pub fn stages<F: Finder>(alloc: Global, field: &Field, limit: u64) -> Result<AllStages, PairFault>
     ensures { IfOk result (AreStages field.now limit) }
 {

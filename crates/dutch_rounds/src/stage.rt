@@ -52,6 +52,7 @@ fn is_again(
 
 /// Settles a bracket that has a candidate. None says that the budget's limit was reached first, by its choice or by the
 /// test behind it.
+#[inline(never)]
 pub(crate) fn settle<F: Finder>(
     context: &Context<'_>,
     budget: &mut Budget,

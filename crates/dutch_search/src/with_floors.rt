@@ -27,6 +27,7 @@ fn steps_for_outlook(players: usize) -> u64 {
 }
 
 /// The floors of a bracket, which know of the next bracket what so many steps tell of it.
+#[inline(never)]
 fn floors_of<'a>(shaped: &ShapedBracket<'a>, budget: &mut Budget) -> Result<Floors<'a>, Stopped>
     ensures answer { MatchResult result (IsBasisFor shaped.now) (λ _. budget.new.used ≡ budget.new.limit) }
     ensures spends { Spends budget.old budget.new }
@@ -89,22 +90,27 @@ impl Finder for WithFloors {
             wish: asked.wish,
             aim: counts.aim(),
         };
+        let guide = BothFloors {
+            shaped,
+            counts,
+            weights: None,
+        };
         let judge = Judge {
             look,
             work: Workroom::default(),
             left: Seats::new(),
             kept: None,
-            guide: BothFloors {
-                shaped,
-                counts,
-                weights: None,
+            guide,
+        };
+        // (on the heap, as a function pays at its entry for the size of its locals)
+        let mut search = Box::new(
+            shaped.context.alloc(),
+            PassRoom {
+                judge,
+                lister,
+                start: asked.start,
             },
-        };
-        let mut search = PassRoom {
-            judge,
-            lister,
-            start: asked.start,
-        };
+        )?;
         Ok(best_in_passes(&mut pass, &mut search, budget))
     }
 }

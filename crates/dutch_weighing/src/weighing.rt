@@ -368,6 +368,7 @@ fn weigh_next(
 
 impl<'a> Weighing<'a> {
     /// Works out all weights of a bracket; none if one of them is 2^512 or more.
+    #[inline(never)]
     pub fn read(context: &'a Context<'a>, scale: Scale) -> Result<Option<Weighing<'a>>, AllocError>
         requires { ForSome scale.next (λ _. context.now.reached.kind ≡ Ordinary) }
         ensures { let weighed = weighed_on context.now scale

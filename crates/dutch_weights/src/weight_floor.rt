@@ -304,6 +304,7 @@ impl<'a> WeightFloors<'a> {
     }
 
     /// The same on a scale with as many digits as there is room for, and with those of C.7 if they are wanted.
+    #[inline(never)]
     pub fn weighed(
         context: &'a Context<'a>,
         shape: Shape,

@@ -13,6 +13,7 @@ use tables::boards_of;
 use trf16_report::{Fault, Report};
 
 /// What `boards` says of the bytes of a report in which the pairing-allocated bye gives `bye` half points.
+#[inline(never)]
 pub fn boards(
     alloc: Global,
     options: BoardsOptions,

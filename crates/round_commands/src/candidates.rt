@@ -23,6 +23,7 @@ use std::alloc::{AllocError, Global};
 use trf16_report::Report;
 
 /// What `candidates` says of the bytes of a report in which the pairing-allocated bye gives `bye` half points.
+#[inline(never)]
 pub fn candidates<F: Finder>(
     alloc: Global,
     options: &CandidatesOptions<'_>,

@@ -22,6 +22,7 @@ use trf16_report::Report;
 use trf16_writer::with_round;
 
 /// What `pair` says of the bytes of a report in which the pairing-allocated bye gives `bye` half points.
+#[inline(never)]
 pub fn pair<F: Finder>(
     alloc: Global,
     options: PairOptions,
