@@ -132,10 +132,10 @@ fn value_drawn(
 
 /// What a bracket can be (C.7): by a listing of few steps, then by a matching if it can be had, and where that does not
 /// tell it, by a longer listing.
-fn value_by(
+fn value_by<'b>(
     alloc: Option<Global>,
-    legal: &Legal<'_, ByNumber<'_>>,
-    lister: &mut Lister<'_, ByNumber<'_>>,
+    legal: &Legal<'_, ByNumber<'b>>,
+    lister: &mut Lister<'_, ByNumber<'b>>,
     budget: &mut Budget,
 ) -> Result<NextValue, Stopped>
     requires flat { IsFlat legal.now.rule.now.field.now legal.now.rule.now.reached.now }
@@ -186,10 +186,10 @@ fn value_on_stack(
 }
 
 /// What a bracket can be (C.7), with a lister on the heap where memory is lent.
-fn value_of(
+fn value_of<'a>(
     alloc: Option<Global>,
-    field: &Field,
-    reached: &Reached,
+    field: &'a Field,
+    reached: &'a Reached,
     budget: &mut Budget,
 ) -> Result<NextValue, Stopped>
     requires of { IsOf field.now reached.now }
