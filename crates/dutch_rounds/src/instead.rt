@@ -8,7 +8,7 @@ ghost use Rattle.dutch_rounds.specs.Lower.{above_lower};
 ghost use Rattle.dutch_rounds.specs.Outcomes.{IsStage};
 ghost use Rattle.dutch_bracket.specs.Prelude.{candidates_in, eligible_in, shape_here, Decides};
 ghost use Rattle.dutch_candidates.specs.Wishes.{grants};
-ghost use Rattle.dutch_choice.specs.Prelude.{NoneGrants, SomeGrants, some_grants, with_mdps};
+ghost use Rattle.dutch_choice.specs.Prelude.{ListsHere, NoneGrants, SomeGrants, some_grants, with_mdps};
 ghost use Rattle.dutch_rounds.specs.Instead.{IsInstead};
 
 use crate::lower::lower_of;
@@ -18,7 +18,7 @@ use dutch_bracket::context::Context;
 use dutch_bracket::fault::PairFault;
 use dutch_bracket::quality::Quality;
 use dutch_bracket::shaped::ShapedBracket;
-use dutch_candidates::greatest::has_room;
+use dutch_candidates::greatest::{Lister, has_room};
 use dutch_candidates::narrowed::NarrowedRule;
 use dutch_candidates::wish::Wish;
 use dutch_choice::barred::{rules_out, rules_out_with};
@@ -96,20 +96,20 @@ impl<'a> Bound for Wished<'a> {
     }
 }
 
-/// Candidates that cannot be chosen count too.
+/// Yes if a legal candidate grants the wish, by a listing that begins anew; those that cannot be chosen count too.
 #[tactic(auto, using(crate::proofs::InsteadLemmas::skipped_same), unfolding(dutch_bracket::specs::Brackets::candidates_of))]
-fn is_granted(wished: &Wished<'_>, budget: &mut Budget) -> Result<bool, Stopped>
+fn is_granted_by(
+    wished: &Wished<'_>,
+    candidates: &mut Candidates<'_, NarrowedRule<'_>>,
+    budget: &mut Budget,
+) -> Result<bool, Stopped>
+    requires lists { ListsHere wished.now.shaped.context.now (Some wished.now.wish) candidates.old }
     ensures answer { Decides result
         (list_any (grants wished.now.wish) (candidates_in wished.now.shaped))
         (budget.new.used ≡ budget.new.limit) }
     ensures spends { Spends budget.old budget.new }
 {
-    let context = wished.shaped.context;
-    let rule = NarrowedRule {
-        rule: context.rule(),
-        wish: Some(wished.wish),
-    };
-    let mut candidates = Candidates::new(context.frame(), wished.shaped.shape, &rule);
+    candidates.restart(wished.shaped.shape);
     loop {
         match candidates.next_within(wished, &mut (), budget) {
             Step::Found(candidate) => {
@@ -121,6 +121,43 @@ fn is_granted(wished: &Wished<'_>, budget: &mut Budget) -> Result<bool, Stopped>
             Step::Undecided => return Err(Stopped),
         }
     }
+}
+
+/// The same with a listing on the stack, where memory is refused. (Apart from its caller, as a listing is large.)
+#[inline(never)]
+fn is_granted_on_stack(
+    wished: &Wished<'_>,
+    rule: &NarrowedRule<'_>,
+    budget: &mut Budget,
+) -> Result<bool, Stopped>
+    requires field { rule.now.rule.field.now ≡ wished.now.shaped.context.now.facts }
+    requires bracket { rule.now.rule.reached.now ≡ wished.now.shaped.context.now.reached }
+    requires wish { rule.now.wish ≡ Some wished.now.wish }
+    ensures answer { Decides result
+        (list_any (grants wished.now.wish) (candidates_in wished.now.shaped))
+        (budget.new.used ≡ budget.new.limit) }
+    ensures spends { Spends budget.old budget.new }
+{
+    let mut candidates = Candidates::ended(wished.shaped.context.frame(), rule);
+    is_granted_by(wished, &mut candidates, budget)
+}
+
+/// Yes if a legal candidate grants the wish; those that cannot be chosen count too.
+fn is_granted(wished: &Wished<'_>, budget: &mut Budget) -> Result<bool, Stopped>
+    ensures answer { Decides result
+        (list_any (grants wished.now.wish) (candidates_in wished.now.shaped))
+        (budget.new.used ≡ budget.new.limit) }
+    ensures spends { Spends budget.old budget.new }
+{
+    let context = wished.shaped.context;
+    let rule = NarrowedRule {
+        rule: context.rule(),
+        wish: Some(wished.wish),
+    };
+    if let Ok(mut lister) = Lister::boxed(context.alloc(), context.frame(), &rule) {
+        return is_granted_by(wished, &mut lister.listing, budget);
+    }
+    is_granted_on_stack(wished, &rule, budget)
 }
 
 #[tactic(auto, using(crate::proofs::InsteadLemmas::few_pairs, dutch_bracket::proofs::ShapeSearch::fits_by_test))]

@@ -5,7 +5,7 @@ use Rattle.dutch_arrangements.specs.Prelude.{Spends}
 use Rattle.dutch_bracket.specs.Prelude.{candidates_in}
 use Rattle.dutch_candidates.specs.Wishes.{grants}
 use Rattle.dutch_choice.specs.Prelude.{ListsHere}
-use Rattle.dutch_rounds.proofs.instead.is_granted.Given as goal
+use Rattle.dutch_rounds.proofs.instead.is_granted_by.Given as goal
 
 abbrev pub decreases-loop-candidate : goal.decreases-loop-candidate
 decreases-loop-candidate l = length l.candidates.coming

@@ -1,31 +1,26 @@
 -- One candidate more, or the end of all candidates, tells whether one grants the wish.
-use Rattle.std.proofs.Common.{◌||◌, Some, [], ◌∷◌, refl, sym, ap, ◌∙◌}
+use Rattle.std.proofs.Common.{◌||◌, Some, [], ◌∷◌, sym, ap, ◌∙◌}
 use Rattle.std.specs.List.{list_any}
 use Rattle.dutch_sequence.proofs.Spending.{spends-more, spends-none}
-use Rattle.dutch_candidates.specs.declared.narrowed.NarrowedRule.{NarrowedRule}
 use Rattle.dutch_candidates.specs.Wishes.{grants}
 use Rattle.dutch_choice.specs.Prelude.{ListsHere}
-use Rattle.dutch_choice.proofs.Listings.{left_listed, listed_as, lists_stay, meets_listed, sound_here}
+use Rattle.dutch_choice.proofs.Listings.{left_listed, listed_narrowed, lists_stay, meets_listed, sound_here}
 use Rattle.dutch_rounds.proofs.InsteadLemmas.{granted_listed, skipped_same}
-use Rattle.dutch_rounds.proofs.instead.is_granted.Goals as goal
+use Rattle.dutch_rounds.proofs.instead.is_granted_by.Goals as goal
 
 pub loop-candidate-init : goal.loop-candidate-init
 loop-candidate-init c =
     let shaped = c.args.wished.now.shaped in
     let context = shaped.context.now in
     let wish = c.args.wished.now.wish in
-    let rule : NarrowedRule = record { rule = c.rule.result; wish = Some wish } in
-    let lists : ListsHere context (Some wish) c.new-candidates.result = record {
-      frame = c.new-candidates.ensures.frame ∙ c.frame.ensures;
-      field = ap (λ (r : NarrowedRule). r.rule.field.now) c.new-candidates.ensures.rule ∙ c.rule.ensures.field;
-      bracket = ap (λ (r : NarrowedRule). r.rule.reached.now) c.new-candidates.ensures.rule ∙ c.rule.ensures.reached;
-      wished = ap (λ (r : NarrowedRule). r.wish) c.new-candidates.ensures.rule;
-    } in
+    let listing = c.restart.new.self in
+    let lists : ListsHere context (Some wish) listing
+        = lists_stay context (Some wish) c.args.candidates.now c.requires.lists listing c.restart.ensures.frame c.restart.ensures.rule in
     record {
-      same = granted_listed context shaped.shape wish c.new-candidates.result.coming (sound_here context (Some wish) c.new-candidates.result lists) shaped.fits
-          (listed_as context (Some wish) shaped.shape rule c.frame.result.now c.new-candidates.result.coming c.rule.ensures.field c.rule.ensures.reached refl c.frame.ensures c.new-candidates.ensures.coming);
+      same = granted_listed context shaped.shape wish listing.coming (sound_here context (Some wish) listing lists) shaped.fits
+          (listed_narrowed context (Some wish) c.args.candidates.now c.requires.lists shaped.shape listing.coming c.restart.ensures.coming);
       lists = lists;
-      shape = c.new-candidates.ensures.shape;
+      shape = c.restart.ensures.shape;
       spends = spends-none _;
     }
 
