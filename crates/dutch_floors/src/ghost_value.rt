@@ -47,8 +47,8 @@ pub(crate) fn first_limbo(shaped: &ShapedBracket<'_>) -> Numbers
     scores
 }
 
-/// The scores of the ghosts for a shape: those of the Limbo of its first S1, and the residents' score for each who goes
-/// down.
+/// The scores of the ghosts for a shape: those of the Limbo of its first S1, and the residents' score for each resident
+/// who goes down.
 #[tactic(auto, using(crate::proofs::C07Outlook::few_pairs, crate::proofs::GhostBrackets::ghosts_are_a_bracket, dutch_bracket::proofs::NextGroups::first_is_next))]
 fn ghost_scores(shaped: &ShapedBracket<'_>) -> Numbers
     requires { IsFlat shaped.now.context.now.facts shaped.now.context.now.reached }
@@ -107,9 +107,9 @@ fn floor_held(ghosts: &[u16], least: u16, residents: usize, pairs: usize) -> Num
     numbers
 }
 
-/// What no value of the next bracket is better than (C.7), where an arrangement of a shape of an ordinary bracket
-/// leaves the Limbo of the first S1. A step is a player of the bracket with one of the next scoregroup, or one number
-/// tried at one place in the ghosts' bracket.
+/// A value that no value of the next bracket is better than (C.7), behind an arrangement of an ordinary bracket's shape
+/// whose Limbo has the scores of the first one. A step is a player of the bracket with one of the next scoregroup, or
+/// one number tried at one place in the ghosts' bracket.
 #[tactic(auto, using(crate::proofs::C07Outlook::below_ordinary))]
 pub(crate) fn ghost_value(
     shaped: &ShapedBracket<'_>,

@@ -74,7 +74,8 @@ fn rated_above(report: &Report<'_>, player: &Player<'_>) -> Option<RatedAbove>
     Some(RatedAbove { rating, player })
 }
 
-/// The same of the player with a start rank, if they come late.
+/// The rating of the player with a start rank, if they come late, and of the players who are rated below, though with a
+/// smaller start rank, the first by start rank.
 pub(crate) fn late_above(report: &Report<'_>, start: u16) -> Option<RatedAbove>
     ensures { result ≡ option_and_then (late_above report.now) (player_of report.now.players start) }
 {

@@ -41,7 +41,7 @@ impl<'a> Report<'a> {
         self.notes.first(kind)
     }
 
-    // A line `XXS` gives games other points: then a points field need not be the sum of the cells.
+    /// Yes if a line `XXS` gives games other points: then a points field need not be the sum of the cells.
     pub fn has_other_points(&self) -> bool
         ensures { result ≡ has_other_points self.now }
     {
