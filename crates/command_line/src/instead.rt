@@ -95,7 +95,7 @@ pub fn instead<F: Finder>(
     of_meeting::<F>(alloc, round, Meeting { player, rival }, asking)
 }
 
-// The same where both are present.
+// What is answered where both are present.
 fn of_meeting<F: Finder>(
     alloc: Global,
     round: &Paired<'_>,

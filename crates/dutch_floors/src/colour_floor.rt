@@ -83,8 +83,8 @@ pub(crate) fn wants_in(context: &Context<'_>, firm: bool) -> Wants
     }
 }
 
-/// How many of a bracket's players who want one colour can get it, or need none, outside of so many pairs: one in each
-/// pair that is still to be made, and each downfloater.
+/// How many of a bracket's players who want one colour can get it at most, or need none, outside of so many pairs: one
+/// in each pair that is still to be made, and each downfloater.
 pub(crate) fn served(context: &Context<'_>, shape: Shape, pairs: usize) -> usize
     requires small { shape.pairs ≤ LIMIT }
     ensures { result ≡ (shape.pairs - pairs) + (length context.now.reached.seats - 2 * shape.pairs) }

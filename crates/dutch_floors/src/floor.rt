@@ -311,8 +311,8 @@ impl<'a> Floors<'a> {
         fill_floats(self.shaped.context.field(), &room.seated, &mut room.quality);
     }
 
-    /// Yes if a floor of a beginning is known. None is if its lists have no room in the shape, or if S1 is not chosen
-    /// and it matters which one is.
+    /// Yes if a floor of a beginning is known: the shape has room for its lists, and S1 is chosen, unless it does not
+    /// matter which one is.
     #[tactic(auto, using(crate::proofs::FloorLemmas::known_pairs, crate::proofs::FloorLemmas::s1_few))]
     fn is_known(&self, prefix: &Prefix<'_>, lists: &FixedLists<'_>) -> bool
         requires lists { lists.now ≡ fixed_lists prefix.now }
@@ -352,8 +352,8 @@ impl<'a> Floors<'a> {
     }
 
     /// The quality that a first pass aims at, if all residents have one score: what a beginning with the first S1
-    /// promises up to C.11. Any aim serves: the choice among the candidates that it is not better than is the choice of
-    /// all.
+    /// promises up to C.11. Any aim may be taken: what is chosen among the candidates that it is not better than is
+    /// what is chosen among all.
     #[tactic(auto, using(dutch_candidates::proofs::ShapeNumbers::first_length))]
     pub fn aim(&self) -> Option<Quality> {
         if !self.flat {

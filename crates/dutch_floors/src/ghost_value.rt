@@ -20,7 +20,7 @@ use dutch_bracket::reached::{push_all, push_scores};
 use dutch_bracket::shaped::ShapedBracket;
 use dutch_candidates::greatest::greatest_legal;
 
-/// Adds the scores of those of some numbers who are not in S1.
+/// Adds the scores of those numbers that are not in S1.
 pub(crate) fn push_left(context: &Context<'_>, numbers: &[u16], s1: &[u16], scores: &mut Numbers)
     requires { array_vec_len scores.old + length numbers.now ≤ LIMIT }
     ensures items { scores.new.items ≡ scores.old.items
@@ -78,7 +78,7 @@ fn ghost_bracket(context: &Context<'_>, ghosts: &[u16]) -> Bracket
     Bracket::new(&scores, ghosts.len(), false)
 }
 
-/// Puts the differences of scores to a lowest one to their places.
+/// Puts how much each score is above a lowest one to its place.
 fn put_above(least: u16, scores: &[u16], numbers: &mut Numbers)
     requires room { array_vec_len numbers.old + length scores.now ≤ LIMIT }
     ensures items { numbers.new.items ≡ placed_all numbers.old.items (map (λ x. x - least) scores.now) }

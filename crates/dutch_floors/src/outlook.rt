@@ -78,8 +78,7 @@ pub(crate) fn is_flat(context: &Context<'_>) -> bool
 }
 
 impl Outlook {
-    /// The best that the next bracket of a bracket and a shape can be. In brackets that are not ordinary the next one
-    /// does not count.
+    /// The best that the next bracket can be below candidates of a shape. It counts only below an ordinary bracket.
     #[tactic(auto, using(crate::proofs::C07Outlook::none_counts))]
     pub(crate) fn find(shaped: &ShapedBracket<'_>, budget: &mut Budget) -> Result<Outlook, Stopped>
         ensures answer { MatchResult result (IsOutlookFrom shaped.now) (λ _. budget.new.used ≡ budget.new.limit) }

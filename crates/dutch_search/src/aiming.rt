@@ -100,8 +100,8 @@ impl<'a> BothFloors<'a> {
         }
     }
 
-    /// The quality of a matching of a bracket by number. If the scale does not have all of its differences, these are
-    /// left out, which makes it a little worse.
+    /// The quality of a matching of a bracket by number. If the scale does not have all of its differences, those of
+    /// C.16 to C.19 are left out, and it is made a little worse.
     fn aim_by(&self, context: &Context<'_>, matched: &Matched) -> Quality {
         let (mut seated, mut aim) = (Seated::default(), Quality::default());
         seat_matching(context, &matched.pairs, &mut seated);

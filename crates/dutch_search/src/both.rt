@@ -6,7 +6,7 @@ use dutch_bracket::shaped::ShapedBracket;
 use dutch_floors::floor::Floors;
 use dutch_weights::weight_floor::WeightFloors;
 
-/// A turn is the shorter, the more pairs the shape has: its steps are divided by one, and one more for each so many
+/// The more pairs the shape has, the shorter a turn is: its steps are divided by one, and by one more for each so many
 /// pairs.
 pub(crate) const TURN_PAIRS: usize = 16;
 
@@ -29,8 +29,8 @@ pub(crate) struct BothFloors<'a> {
     ghost basis: { IsBasisFor shaped counts },
 }
 
-/// Yes if pairs are weighed: if the bracket, together with the next lower scoregroup if the weights are to tell of
-/// that, has not too many players.
+/// Yes if pairs are weighed: the bracket does not have too many players, counted with the next lower scoregroup if the
+/// weights are to tell of that.
 pub(crate) fn is_weighed(context: &Context<'_>, next: bool) -> bool {
     let players = if next {
         context.len_below()

@@ -51,7 +51,7 @@ impl Standing {
         }
     }
 
-    /// Yes if one who stands so may be in no pair. Each of S1 and of S1R is in one.
+    /// Yes if one who stands so may be in no pair. Members of S1 and of S1R are each in one.
     pub fn may_stay(self) -> bool
         ensures { result ≡ may_stay self }
     {

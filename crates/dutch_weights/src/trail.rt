@@ -65,8 +65,8 @@ impl Trail {
         }
     }
 
-    /// How many steps a walk that has made so many still makes before a floor is asked for: the more, the more steps
-    /// the last floor took.
+    /// How many steps a walk that has made so many still makes before a floor is asked for. The more steps the last
+    /// floor took, the more these are.
     pub(crate) fn patience(&self, players: usize, made: u64) -> u64 {
         let steps = (self.steps / 16).max(players as u64);
         self.told_at.saturating_add(steps).saturating_sub(made)

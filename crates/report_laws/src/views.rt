@@ -19,9 +19,9 @@ pub fn a_paired_round_has_its_field_back()
 {}
 
 /// Put boards into an accepted report as its next round that name each player of its facts once, and nobody else, and
-/// view it before that round: its next round is paired from the very same facts, if the same total of rounds and the
-/// same initial colour are asked for, or none. The boards of a round are such boards (`everybody_is_named_once` of
-/// `pairing_laws`). A total that is asked for is at most `MOST_ROUNDS`.
+/// view it before that round: its next round is paired from the very same facts, at the same total of rounds and
+/// initial colour. The boards of a round are such boards (`everybody_is_named_once` of `pairing_laws`). A total that is
+/// asked for is at most `MOST_ROUNDS`.
 pub fn the_round_is_asked_back()
     ensures { (bytes : List ℕ) (bye : ℕ) (sheet : Sheet) (asked : Option ℕ) (initial : Option Colour) (facts : Facts)
         (boards : List (ℕ × ℕ))

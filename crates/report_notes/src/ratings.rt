@@ -100,7 +100,7 @@ pub(crate) fn start_ranks_note<'a>(report: &Report<'_>) -> Option<Note<'a>>
     first_above(report)
 }
 
-// The same, whatever was paired.
+// That start ranks do not follow the ratings, whatever was paired: of the first player by line of whom it is so.
 fn first_above<'a>(report: &Report<'_>) -> Option<Note<'a>>
     ensures { MatchOption result (first_above report.now report.now.players ≡ [])
         (λ note. first_above report.now report.now.players ≡ noted note ∷ []) }
