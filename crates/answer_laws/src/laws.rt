@@ -26,8 +26,8 @@ pub fn what_is_told_against_a_meeting_stands()
         → StandsAgainstMeeting sheet facts one other obstacle }
 {}
 
-/// What is told against the bye of a player of a report stands: they may not have it, since they had the bye, or a point
-/// without a game, in that round, and in none before it (C.2); or nobody has it.
+/// What is told against the bye of a player of a report stands: they may not have it, since they had the bye, or a
+/// point without a game, in that round, and in none before it (C.2); or nobody has it.
 #[tactic(auto, using(crate::proofs::ByeTruth::stands_against_bye))]
 pub fn what_is_told_against_a_bye_stands()
     ensures { (sheet : Sheet) (total : Option ℕ) (initial : Option Colour) (facts : Facts) (bye : List ℕ) (seat : ℕ)

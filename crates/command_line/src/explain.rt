@@ -46,7 +46,7 @@ pub fn explain<F: Finder>(
     }
 }
 
-// The same of an accepted report.
+// What `explain` says of an accepted report.
 fn of_report<F: Finder>(
     alloc: Global,
     options: ExplainOptions,
@@ -60,7 +60,7 @@ fn of_report<F: Finder>(
     }
 }
 
-// The same where a round is asked for, if the report reaches it.
+// What `explain` says of an accepted report of which a round is asked for, if the report reaches it.
 fn before<F: Finder>(
     alloc: Global,
     options: ExplainOptions,
@@ -76,7 +76,8 @@ fn before<F: Finder>(
     }
 }
 
-// The same of a report as it stood before the round that is asked for; the whole one may have boards of that round.
+// What `explain` says of a report as it stood before the round that is asked for; the whole one may have boards of that
+// round.
 fn of_view<'a, F: Finder>(
     alloc: Global,
     options: ExplainOptions,
@@ -99,7 +100,7 @@ fn of_view<'a, F: Finder>(
     }
 }
 
-// The same of those whom the next round is paired from.
+// What `explain` says of those whom the next round is paired from.
 fn of_field<F: Finder>(
     alloc: Global,
     options: ExplainOptions,
@@ -115,7 +116,7 @@ fn of_field<F: Finder>(
     }
 }
 
-// The same if nothing is wrong with the question.
+// What `explain` says of them if nothing is wrong with the question.
 fn of_round<F: Finder>(
     alloc: Global,
     options: ExplainOptions,
@@ -146,7 +147,7 @@ fn of_round<F: Finder>(
     }
 }
 
-// The same of a round that is paired.
+// What `explain` says of a round that is paired.
 fn tell_paired<F: Finder>(
     alloc: Global,
     options: ExplainOptions,

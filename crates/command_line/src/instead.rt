@@ -58,19 +58,21 @@ impl<'a> Model for Paired<'a> {
     } };
 }
 
-/// What is asked: by whom and for whom, by their start ranks, for the bye by 0; and in how many steps a candidate may
-/// be searched for.
+/// What is asked: by whom and for whom, by their start ranks, or by 0 for the bye; and in how many steps a candidate
+/// may be searched for.
 #[derive(Clone, Copy)]
 pub struct AskedInSteps {
     pub asked: Asked,
     pub steps: u64,
 }
 
-/// What is answered to a player who asks for another one instead, or for the bye: the first of these that stands
-/// against it: one of the two is absent; C.1; a line `XXP`; C.3; for the bye C.2, or that nobody has it; then what is
-/// chosen in the first bracket that keeps its pairs in which both stand, where alone the two could meet, or if there is
-/// none, or the bye is asked for, in the first bracket behind which one of them does not stand; and the best of its
-/// candidates that would grant it.
+/// Answers a player who asks for another opponent instead, or for the bye. The answer is the first of these that stands
+/// against it:
+///
+/// - one of the two is absent;
+/// - they have met (C.1), a line `XXP` keeps them apart, or C.3 does;
+/// - for the bye: C.2, or that nobody has it;
+/// - what is chosen in the bracket that decides it (`decided_in`), with the best candidate there that would grant it.
 ///
 /// # Errors
 /// Memory was refused.
@@ -94,7 +96,7 @@ pub fn instead<F: Finder>(
     of_meeting::<F>(alloc, round, Meeting { player, rival }, asking)
 }
 
-// The same where both are present.
+// What is answered where both are present.
 fn of_meeting<F: Finder>(
     alloc: Global,
     round: &Paired<'_>,
@@ -228,7 +230,7 @@ fn keeps_both(stage: &Stage, player: u16, other: u16) -> bool
     !stage.is_again() && (seats.contains(&player) && seats.contains(&other))
 }
 
-// The first bracket that keeps its pairs in which two seats stand: there alone they can be paired.
+// The first bracket that keeps its pairs and in which two seats stand: only there can they be paired.
 fn shared_in<'a>(field: &Field, stages: &'a [Stage], player: u16, other: u16) -> Option<&'a Stage>
     requires { AllByRecursion (IsStage field.now) stages.now }
     ensures shared { option_copied result ≡ shared_in stages.now player other }
@@ -253,7 +255,7 @@ fn settled_of(behind: &[Stage], meeting: Meeting) -> u16
     }
 }
 
-// The first bracket behind which one of the two does not stand, and that this one is left over in it.
+// The first bracket behind which one of the two does not stand, and the wish that this one is left over in it.
 fn settled_in<'a>(field: &Field, stages: &'a [Stage], meeting: Meeting) -> Option<(&'a Stage, Wish)>
     requires { AllByRecursion (IsStage field.now) stages.now }
     ensures decided { MatchOption result (settled_in stages.now meeting.player meeting.rival ≡ None)
@@ -270,8 +272,9 @@ fn settled_in<'a>(field: &Field, stages: &'a [Stage], meeting: Meeting) -> Optio
     Some((stage, Wish::LeftOver(settled)))
 }
 
-// The bracket in which it was decided, and what is wished in it: that the two meet where both stand and pairs are kept;
-// where there is no such bracket, that the one who is settled first is left over.
+// The bracket that decides it, and what is wished there. It is the first bracket that keeps its pairs in which both
+// stand, where alone the two could meet: that they meet. If there is none, or the bye is asked for, it is the first
+// bracket behind which one of them does not stand: that this one is left over.
 fn decided_in<'a>(field: &Field, stages: &'a [Stage], meeting: Meeting) -> Option<(&'a Stage, Wish)>
     requires { AllByRecursion (IsStage field.now) stages.now }
     ensures decided { MatchOption result (decided_in stages.now meeting.player meeting.rival ≡ None)
@@ -289,8 +292,8 @@ fn decided_in<'a>(field: &Field, stages: &'a [Stage], meeting: Meeting) -> Optio
     Some((stage, Wish::Pair(first, second)))
 }
 
-// What is answered to a wish in a bracket: that what is chosen there grants it, or what a search for a candidate that
-// does finds.
+// The answer to a wish in a bracket: that what is chosen there grants it, or else what a search for a candidate that
+// grants it finds.
 fn by_wish<F: Finder>(
     alloc: Global,
     telling: &Telling<'_>,

@@ -29,7 +29,7 @@ pub fn no_pairing_because(
     because(alloc, telling, question, &found)
 }
 
-// The same of the barrier that was found, if one was.
+// No pairing, and why: by the barrier that was found, if one was.
 fn because(
     alloc: Global,
     telling: &Telling<'_>,

@@ -1,5 +1,5 @@
-//! Texts that several answers have: half points as points, the values of the keys that break ties, what a cell says, a name
-//! without control characters, and that the steps of a bracket did not suffice.
+//! Texts that several answers have: half points as points, the values of the keys that break ties, what a cell says, a
+//! name without control characters, and that the steps of a bracket did not suffice.
 #![tactic(auto)]
 
 mod cells;

@@ -11,7 +11,7 @@ pub fn undecided(alloc: Global, number: u16, used: u64) -> Result<String, AllocE
     format!(in alloc; "undecided bracket {number} steps {used}\n")
 }
 
-/// The same in a sentence.
+/// The steps of a bracket reached the limit before it was decided, in a sentence.
 pub fn undecided_words(alloc: Global, number: u16, used: u64) -> Result<String, AllocError>
     ensures { IfOk result (λ text. string_bytes text ≡ undecided_words number used) }
 {

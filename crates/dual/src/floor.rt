@@ -1,14 +1,13 @@
-// A floor: what every matching costs at least, beside what is owed, and what each pair and each player left over adds
-// that is known of it. It keeps what the check computed, so a caller asks it of one beginning after another, and
-// nothing is computed again.
+// A floor: what every matching costs at least, and what each known pair and each player known to be left over adds. It
+// keeps what the check computed: so a caller asks it about one beginning after another, and nothing is computed again.
 ghost use Rattle.std.specs.Prelude.{◌≡◌, [], slice_index_or};
 ghost use Rattle.dual.specs.Floors.{extra_in, extra_left_in};
 
 use crate::wide::Wide;
 use std::marker::Model;
 
-/// What every matching costs at least, beside what is owed, and what each pair and each player left over adds that is
-/// known of it: the base and all that is known come to no more than the debt and what the matching costs.
+/// A floor: what every matching costs at least, and what each known pair and each player known to be left over adds.
+/// The base and all that is known add up to no more than the debt and what the matching costs.
 #[derive(Drop)]
 pub struct Floor {
     pub(crate) base: Wide,
@@ -74,7 +73,7 @@ impl Floor {
         }
     }
 
-    /// The same floor, that adds nothing for players left over.
+    /// The floor without what players left over add.
     pub fn without_left(self) -> Floor
         ensures { result ≡ record {
           base = self.base;

@@ -8,10 +8,10 @@
 //! that leave any number over. `tells_incompletable` checks a barrier (after Tutte and Berge), `least_left` says how
 //! many it leaves over, `tells_completable` checks a witness. Whoever finds them need not be trusted.
 //!
-//! Nothing here knows chess: a `MatchingRule` of the caller says, by numbers, who may meet and who may be left over, and
-//! at what cost; a certificate is checked for a `Pool` of players and their rule. Only a floor takes memory, a number
-//! for each pair. A check takes time with the square of the number of players, for a certificate times the number of
-//! its sets.
+//! Nothing here knows chess: a `MatchingRule` of the caller says, by numbers, who may meet and who may be left over,
+//! and at what cost; a certificate is checked for a `Pool` of players and their rule. Only a floor takes memory, a
+//! number for each pair. A check takes time with the square of the number of players, for a certificate times the
+//! number of its sets.
 //!
 //! To mind: certificates and costs are counted in `Wide`, natural numbers below 2^512; a sum that does not fit is none.
 //! Potentials below 0, and a multiplier of the number left over, are had by giving more.

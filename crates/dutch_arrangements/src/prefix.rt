@@ -52,7 +52,7 @@ impl<'a> Prefix<'a> {
         }
     }
 
-    /// The same, with so much of the list that is being filled, S2 or S2R.
+    /// The beginning with so much of the list that is being filled, S2 or S2R.
     pub fn with<'n>(&'n self, list: &'n [u16]) -> Prefix<'n>
         ensures { result ≡ with_list self.now list.now }
     {

@@ -15,7 +15,7 @@ pub enum Answer {
 }
 
 impl Answer {
-    /// The same as a `bool`. If the limit was reached first, `?` passes that on.
+    /// The answer as a `bool`. If the limit was reached first, `?` passes that on.
     pub fn decided(self) -> Result<bool, Stopped>
         ensures { MatchAnswer self (result ≡ Ok true) (result ≡ Ok false) (IsErr result) }
     {

@@ -81,6 +81,7 @@ fn is_strong_missed(field: &Field, seat: u16, colour: Colour) -> bool
     }
 }
 
+/// Yes if the player of a seat misses so if they get this colour (C.8 to C.11).
 pub fn misses(field: &Field, miss: Miss, seat: u16, colour: Colour) -> bool
     ensures { result ≡ misses miss (seat_at field.now seat) colour }
 {

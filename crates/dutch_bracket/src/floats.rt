@@ -10,6 +10,7 @@ use crate::seated::{Pair, Seated, difference_down, goes, is_uneven};
 use dutch_arrangements::{LIMIT, Numbers};
 use dutch_player::{Field, Float};
 
+/// Yes if a player had this float in a round. `had` is the float that they had there; none if they had none.
 pub fn is_float(float: Float, had: Option<Float>) -> bool
     ensures { result ≡ is_float float had }
 {
@@ -63,7 +64,7 @@ fn put_pairs(past: FloatRound<'_>, pairs: &[Pair], by: &mut Numbers)
     }
 }
 
-/// The same of downfloaters.
+/// Puts the differences of downfloaters who float as in a round before to their places.
 fn put_down(past: FloatRound<'_>, least: u16, down: &[u16], by: &mut Numbers)
     requires { array_vec_len by.old + length down.now ≤ LIMIT }
     ensures items { by.new.items ≡ placed_all by.old.items
@@ -89,7 +90,8 @@ pub(crate) fn fill_down_again(field: &Field, candidate: &Seated, back: u8, by: &
     put_down(past, candidate.lowest, &candidate.down, by);
 }
 
-/// The same of those who go up and had an upfloat.
+/// Fills a list with the differences of those who go up and had an upfloat in the last round (1), or else in the one
+/// before it, the highest first.
 #[tactic(auto, unfolding(crate::specs::Seated::going_up))]
 pub(crate) fn fill_up_again(field: &Field, candidate: &Seated, back: u8, by: &mut Numbers)
     ensures { by.new.items ≡ differences (again field.now Up back (going_up field.now candidate.now)) }

@@ -1,6 +1,6 @@
-// A bracket that a round reaches, by the seats of its players (C.04.3 A.3, A.9). It has a bracket of `dutch_arrangements`,
-// and a rule by number. `Reached::seat` leads from a number in the bracket to a seat of the field; only `boards` turns
-// seats into start ranks.
+// A bracket that a round reaches, by the seats of its players (C.04.3 A.3, A.9). It has a bracket of
+// `dutch_arrangements`, and a rule by number. `Reached::seat` leads from a number in the bracket to a seat of the
+// field; only `boards` turns seats into start ranks.
 ghost use Rattle.std.specs.Prelude.{◌≡◌, ◌+◌, ◌*◌, ◌≤◌, ◌++◌, ℕ, length, map, slice_index};
 ghost use Rattle.arrayvec.specs.ArrayVec.{array_vec_len};
 ghost use Rattle.dutch_arrangements.specs.Prelude.{IsBracket};

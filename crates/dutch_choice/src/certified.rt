@@ -1,6 +1,6 @@
-// What a matching of least cost tells of a bracket's shape (C.04.3 B.1, C.4, C.5): by its certificate, that none that
-// can be chosen has more pairs, or as many and more moved-down players in them; and by its pairs, that one has as many
-// of both.
+// What a matching of least cost tells of a bracket's shape (C.04.3 B.1, C.4, C.5). By its certificate: no candidate
+// that can be chosen has more pairs, or as many pairs with more moved-down players in them. By its pairs: one that can
+// be chosen has as many of both.
 //
 // Whoever finds the matching is not trusted: its certificate counts only if `dual` confirms it, and its pairs only if
 // they are those of a candidate that can be chosen.
@@ -19,7 +19,7 @@ use dutch_arrangements::{Budget, Shape, Stopped, numbered_from};
 use dutch_bracket::spending::spend;
 use std::alloc::{AllocError, Global};
 
-/// What every shape that has a candidate that can be chosen costs at least, beside what is owed.
+/// A floor of shapes: the base is no more than the debt and what a shape costs that has a candidate that can be chosen.
 #[derive(Drop)]
 pub(crate) struct ShapeFloor {
     base: Wide,
@@ -110,8 +110,9 @@ fn shape_by(
 /// The steps of a listing for each player that decide nearly all brackets.
 const FIRST_STEPS: u64 = 64;
 
-/// How many steps a listing makes before a matching of so many players is looked for: those that decide nearly all
-/// brackets, and as many as the matching takes at least, an eighth of the cube of the players in looks.
+/// How many steps a listing makes before a matching of so many players is looked for: so many that nearly all brackets
+/// are decided, and at least as many as the matching takes. (It takes at least an eighth of the cube of the players in
+/// looks.)
 pub(crate) fn steps_before(players: usize) -> u64 {
     let count = players as u64;
     let least = count.saturating_mul(count).saturating_mul(count) / (8 * LOOKS_IN_A_STEP);

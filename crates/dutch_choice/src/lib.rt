@@ -1,5 +1,5 @@
-//! The choice in a bracket of a round by the FIDE (Dutch) System (C.04.3 B.1, B.8, C.4 to C.19): its shape, which is the
-//! most pairs that a candidate that can be chosen has, and then the most moved-down players in them; and of the
+//! The choice in a bracket of a round by the FIDE (Dutch) System (C.04.3 B.1, B.8, C.4 to C.19): its shape, which is
+//! the most pairs that a candidate that can be chosen has, and then the most moved-down players in them; and of the
 //! candidates of that shape the earliest whose quality none beats, also among those that grant a wish.
 //!
 //! `choose` is a call of `dutch_rounds` that stands here. It asks a finder for the best candidate of a shape, and the

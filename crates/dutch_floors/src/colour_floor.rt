@@ -49,7 +49,7 @@ fn weight(context: &Context<'_>, want: Want, seat: u16) -> u16
     }
 }
 
-/// How many players are counted.
+/// How many players of some seats are counted.
 fn in_seats(context: &Context<'_>, want: Want, seats: &[u16]) -> usize
     requires few { length seats.now ≤ LIMIT }
     ensures value { result ≡ sum_by (wanting want.firm context.now.facts want.colour) seats.now }
@@ -83,8 +83,8 @@ pub(crate) fn wants_in(context: &Context<'_>, firm: bool) -> Wants
     }
 }
 
-/// How many of a bracket's players can be served who are in none of so many pairs: each pair to make serves one of them,
-/// and each downfloater needs no colour.
+/// How many of a bracket's players who want one colour can get it at most, or need none, outside of so many pairs: one
+/// in each pair that is still to be made, and each downfloater.
 pub(crate) fn served(context: &Context<'_>, shape: Shape, pairs: usize) -> usize
     requires small { shape.pairs ≤ LIMIT }
     ensures { result ≡ (shape.pairs - pairs) + (length context.now.reached.seats - 2 * shape.pairs) }
@@ -93,16 +93,17 @@ pub(crate) fn served(context: &Context<'_>, shape: Shape, pairs: usize) -> usize
     to_make + context.len().saturating_sub(2 * shape.pairs)
 }
 
-/// How many of so many players who want a colour can be served neither in pairs in which so many want it, nor beside
-/// them.
+/// How many of those who want a colour cannot be served: all of them, without those in some pairs, and without as many
+/// as can be served outside of these.
 fn surplus(wanted: usize, in_pairs: usize, served: usize) -> usize
     ensures { result ≡ (wanted - in_pairs) - served }
 {
     wanted.saturating_sub(in_pairs).saturating_sub(served)
 }
 
-/// How many players miss their preference beside those in some pairs (C.10), by how many of all and of those in the
-/// pairs want each colour, and how many of the others can be served; or only firm preferences (C.11).
+/// How many players outside of some pairs miss their preference at least (C.10): by how many of all want each colour,
+/// how many of those in the pairs do, and how many of one colour can be served outside of the pairs. With counts of
+/// firm preferences, how many miss a firm one (C.11).
 pub(crate) fn more_missed(all: Wants, in_pairs: Wants, served: usize) -> usize
     ensures { result ≡ max ((all.white - in_pairs.white) - served) ((all.black - in_pairs.black) - served) }
 {
@@ -116,7 +117,7 @@ pub(crate) struct MissCounts {
     pub(crate) strong: u16,
 }
 
-/// How many players of a pair miss theirs.
+/// How many players of a pair miss their preference, and how many a strong one.
 #[tactic(auto, using(dutch_bracket::proofs::PairMisses::no_strong_miss))]
 pub(crate) fn missed_by(context: &Context<'_>, pair: Pair) -> MissCounts
     ensures preference { result.preference ≡ count_in context.now.facts (misses Preference) pair }

@@ -163,12 +163,13 @@ impl<'a> Floors<'a> {
         }
     }
 
-    /// The same behind arrangements with the first S1.
+    /// The best that the next bracket can be behind arrangements with the first S1 (C.7).
     pub fn awaited_first(&self) -> &NextValue {
         self.awaited(&self.first)
     }
 
-    /// A no may also say that what is awaited of the next bracket (C.7) is not known.
+    /// Yes if the best that the next bracket can be behind a beginning (C.7) is known, and is no better than a quality
+    /// says.
     fn awaits_no_better(&self, prefix: &Prefix<'_>, quality: &Quality) -> bool
         ensures of { IsOf self.now.facts self.now.reached }
         ensures outlook { IsOutlook self.now.facts self.now.reached self.now.lower self.now.shape self.now.outlook }
@@ -191,7 +192,8 @@ impl<'a> Floors<'a> {
         self.awaits_no_better(prefix, quality)
     }
 
-    /// How many more miss than in the known pairs, by counts (C.10); or of firm preferences (C.11).
+    /// How many players outside of the known pairs miss their preference at least, by counts (C.10); or how many a firm
+    /// one (C.11).
     fn more_missed(&self, known: &KnownPairs, firm: bool) -> usize
         requires known { AreKnown self.now known.now }
         ensures value { result ≡ more_in firm self.now.facts self.now.reached self.now.shape
@@ -203,8 +205,9 @@ impl<'a> Floors<'a> {
         more_missed(self.wants(firm), known.sums.wants(firm), served)
     }
 
-    /// Lonely players may make a difference: S1R is chosen, and the most that there can be reach where a floor may lose.
-    /// (A no leaves them out: the floor is lower then than it can be, and not wrong.)
+    /// Yes if lonely players may make a difference: S1R is chosen, it is not yet plain that the floor loses, and with
+    /// the most lonely players that there can be it may lose. (A no leaves them out: the floor is lower then than it
+    /// can be, and not wrong.)
     fn counts_lonely(
         &self,
         asked: &FloorQuestion<'_, '_>,
@@ -223,8 +226,8 @@ impl<'a> Floors<'a> {
         }
     }
 
-    /// So many more miss at least than in the known pairs (C.10), while such a list is filled: once S1R is chosen,
-    /// lonely players count too.
+    /// How many players outside of the known pairs miss their preference at least (C.10). Once S1R is chosen, lonely
+    /// players count too.
     #[tactic(auto, using(crate::proofs::FloorLemmas::counts_few, crate::proofs::FloorLemmas::lonely_too))]
     fn more_by(
         &self,
@@ -247,8 +250,8 @@ impl<'a> Floors<'a> {
         more.max(lonely(self.shaped.context, self.shape(), lists, &mut notes.lonely))
     }
 
-    /// What the known pairs add up to, where so many more miss their preference beside them (C.10), and by counts so many
-    /// more a strong one (C.11).
+    /// What the known pairs add up to, with so many more who miss their preference outside of them (C.10), and with
+    /// those who miss a strong one there, by counts (C.11).
     fn sums_with(&self, known: &KnownPairs, more: usize) -> PairSums
         requires known { AreKnown self.now known.now }
         requires more { more ≤ LIMIT }
@@ -261,7 +264,7 @@ impl<'a> Floors<'a> {
         sums
     }
 
-    /// Fills in the PSD: by S1, or by what is fixed (C.6).
+    /// Fills in the PSD (C.6): by S1 if all residents have one score, else by what is fixed.
     #[tactic(auto, unfolding(crate::specs::FloorOf::psd_over))]
     fn fill_psd(&self, s1: &[u16], lists: &FixedLists<'_>, room: &mut QualityLists)
         requires few { length s1.now ≤ self.now.shape.mdps }
@@ -278,7 +281,7 @@ impl<'a> Floors<'a> {
         }
     }
 
-    /// Fills in the items that S1 tells, or what is fixed (C.6, C.7).
+    /// Fills in the PSD and the value of the next bracket (C.6, C.7).
     fn fill_first(&self, s1: &[u16], lists: &FixedLists<'_>, room: &mut QualityLists)
         requires few { length s1.now ≤ self.now.shape.mdps }
         requires pairs { HasFewPairs lists.now }
@@ -308,8 +311,8 @@ impl<'a> Floors<'a> {
         fill_floats(self.shaped.context.field(), &room.seated, &mut room.quality);
     }
 
-    /// No floor of a beginning is known if its lists have no room in the shape, or if S1 is not chosen and it matters
-    /// which one is.
+    /// Yes if a floor of a beginning is known: the shape has room for its lists, and S1 is chosen, unless it does not
+    /// matter which one is.
     #[tactic(auto, using(crate::proofs::FloorLemmas::known_pairs, crate::proofs::FloorLemmas::s1_few))]
     fn is_known(&self, prefix: &Prefix<'_>, lists: &FixedLists<'_>) -> bool
         requires lists { lists.now ≡ fixed_lists prefix.now }
@@ -349,8 +352,8 @@ impl<'a> Floors<'a> {
     }
 
     /// The quality that a first pass aims at, if all residents have one score: what a beginning with the first S1
-    /// promises up to C.11. Any aim serves: the choice among the candidates that it is not better than is the choice of
-    /// all.
+    /// promises up to C.11. Any aim may be taken: what is chosen among the candidates that it is not better than is
+    /// what is chosen among all.
     #[tactic(auto, using(dutch_candidates::proofs::ShapeNumbers::first_length))]
     pub fn aim(&self) -> Option<Quality> {
         if !self.flat {

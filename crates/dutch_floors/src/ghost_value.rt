@@ -20,7 +20,7 @@ use dutch_bracket::reached::{push_all, push_scores};
 use dutch_bracket::shaped::ShapedBracket;
 use dutch_candidates::greatest::greatest_legal;
 
-/// Adds the scores of those of some numbers who are not in S1.
+/// Adds the scores of those numbers that are not in S1.
 pub(crate) fn push_left(context: &Context<'_>, numbers: &[u16], s1: &[u16], scores: &mut Numbers)
     requires { array_vec_len scores.old + length numbers.now ≤ LIMIT }
     ensures items { scores.new.items ≡ scores.old.items
@@ -47,8 +47,8 @@ pub(crate) fn first_limbo(shaped: &ShapedBracket<'_>) -> Numbers
     scores
 }
 
-/// The scores of the ghosts for a shape: those of the Limbo of its first S1, and the residents' score for each who goes
-/// down.
+/// The scores of the ghosts for a shape: those of the Limbo of its first S1, and the residents' score for each resident
+/// who goes down.
 #[tactic(auto, using(crate::proofs::C07Outlook::few_pairs, crate::proofs::GhostBrackets::ghosts_are_a_bracket, dutch_bracket::proofs::NextGroups::first_is_next))]
 fn ghost_scores(shaped: &ShapedBracket<'_>) -> Numbers
     requires { IsFlat shaped.now.context.now.facts shaped.now.context.now.reached }
@@ -78,7 +78,7 @@ fn ghost_bracket(context: &Context<'_>, ghosts: &[u16]) -> Bracket
     Bracket::new(&scores, ghosts.len(), false)
 }
 
-/// Puts the differences of scores to a lowest one to their places.
+/// Puts how much each score is above a lowest one to its place.
 fn put_above(least: u16, scores: &[u16], numbers: &mut Numbers)
     requires room { array_vec_len numbers.old + length scores.now ≤ LIMIT }
     ensures items { numbers.new.items ≡ placed_all numbers.old.items (map (λ x. x - least) scores.now) }
@@ -107,9 +107,9 @@ fn floor_held(ghosts: &[u16], least: u16, residents: usize, pairs: usize) -> Num
     numbers
 }
 
-/// What no value of the next bracket is better than (C.7), where an arrangement of a shape of an ordinary bracket
-/// leaves the Limbo of the first S1. A step is a player of the bracket with one of the next scoregroup, or one number
-/// tried at one place in the ghosts' bracket.
+/// A value that no value of the next bracket is better than (C.7), behind an arrangement of an ordinary bracket's shape
+/// whose Limbo has the scores of the first one. A step is a player of the bracket with one of the next scoregroup, or
+/// one number tried at one place in the ghosts' bracket.
 #[tactic(auto, using(crate::proofs::C07Outlook::below_ordinary))]
 pub(crate) fn ghost_value(
     shaped: &ShapedBracket<'_>,

@@ -73,8 +73,8 @@ fn read_met(field: &Field, seats: &[u16], lower: &[u16]) -> ArrayVec<bool, LIMIT
 }
 
 impl<'a> Ghosts<'a> {
-    /// Reads which players of the next lower scoregroup some player of a bracket may meet, in a step for each player of
-    /// the one with each of the other.
+    /// Reads which players of the next lower scoregroup some player of a bracket may meet. A step is a player of the
+    /// bracket with one of the scoregroup.
     pub(crate) fn read(context: &Context<'a>, budget: &mut Budget) -> Result<Ghosts<'a>, Stopped>
         ensures answer { MatchResult result
             (λ ghosts. ghosts ≡ record {

@@ -1,5 +1,5 @@
-// The pairs of a beginning and what they add up to (C.04.3 C.8 to C.11), kept from one question to the next: most
-// beginnings have the pairs of the one before but for the last few, so that few are taken back and few are added.
+// The pairs of a beginning and what they add up to (C.04.3 C.8 to C.11). They are kept from one question to the next:
+// most beginnings differ from the one before only in a few last pairs, so few are taken back and few are added.
 ghost use Rattle.std.specs.Prelude.{◌≡◌, ◌+◌, ◌<◌, ◌≤◌, ◌++◌, ◌∷◌, [], ℕ, List, filter, get_or, length, sum_by, take};
 ghost use Rattle.arrayvec.specs.ArrayVec.{array_vec_len};
 ghost use Rattle.dutch_sequence.specs.declared.numbers.TheConstants.{LIMIT};
@@ -22,8 +22,8 @@ use dutch_candidates::fixed_lists::{FixedLists, fill_fixed};
 use dutch_player::Field;
 use trf16_report::Colour;
 
-/// What pairs add up to: how many of their players want each colour, and how many want it firmly; how many miss so; and
-/// how many of the pairs have players with different scores.
+/// What pairs add up to: how many of their players want each colour, and how many want it firmly; how many players each
+/// of C.8 to C.11 counts; and how many of the pairs have players with different scores.
 #[derive(Clone, Copy, Default)]
 pub(crate) struct PairSums {
     pub(crate) white: u16,
@@ -38,7 +38,7 @@ pub(crate) struct PairSums {
 }
 
 impl PairSums {
-    /// With those of other pairs.
+    /// The sums of these and of other pairs.
     fn plus(self, more: PairSums) -> PairSums
         requires few { AreFew self }
         requires few_more { AreFew more }
@@ -57,7 +57,7 @@ impl PairSums {
         }
     }
 
-    /// Without those of some of the pairs.
+    /// The sums without some of the pairs.
     fn minus(self, less: PairSums) -> PairSums
         ensures { result ≡ minus self less }
     {
@@ -96,7 +96,7 @@ impl PairSums {
     }
 }
 
-/// How many players of a pair with a topscorer miss so; of another pair none.
+/// How many players of a pair miss so, if one of them is a topscorer; else none.
 fn with_topscorer(field: &Field, miss: Miss, pair: Pair) -> u16
     ensures value { result ≡ count_with_topscorers field.now (misses miss) (pair ∷ []) }
     ensures few { result ≤ 2 }
@@ -151,7 +151,7 @@ fn pair_at(lists: &FixedLists<'_>, place: usize) -> Pair
     }
 }
 
-/// With how many pairs of lists some begin.
+/// How many pairs, from the first on, are the same as those of lists.
 #[tactic(auto, using(crate::proofs::SumLemmas::take_more))]
 fn common(pairs: &[Pair], lists: &FixedLists<'_>) -> usize
     requires few { HasFewPairs lists.now }
@@ -209,7 +209,8 @@ impl KnownPairs {
         }
     }
 
-    /// Goes on to the pairs of lists, and tells where lonely players are looked for who is paired and who is not.
+    /// Goes on to the pairs of lists, and notes who is paired and who is not in the room where lonely players are
+    /// looked for.
     pub(crate) fn go_to(
         &mut self,
         context: &Context<'_>,
@@ -234,7 +235,7 @@ impl KnownPairs {
     }
 }
 
-/// Keeps of pairs those whose players have different scores.
+/// Keeps only those pairs whose players have different scores.
 fn keep_uneven(field: &Field, pairs: &mut ArrayVec<Pair, LIMIT>)
     ensures items { pairs.new.items ≡ filter (is_uneven field.now) pairs.old.items }
     ensures few { array_vec_len pairs.new ≤ array_vec_len pairs.old }
@@ -242,7 +243,8 @@ fn keep_uneven(field: &Field, pairs: &mut ArrayVec<Pair, LIMIT>)
     pairs.retain(|pair| is_uneven(field, *pair));
 }
 
-/// Fills in the pairs of lists whose players have different scores, of which there are so many: no others float.
+/// Fills in those pairs of lists whose players have different scores, of which there are `count`: players of other
+/// pairs do not float.
 #[tactic(auto, using(crate::proofs::SumLemmas::none_found))]
 pub(crate) fn fill_uneven(
     context: &Context<'_>,

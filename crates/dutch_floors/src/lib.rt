@@ -2,7 +2,8 @@
 //!
 //! `Floors::floor` fills a quality that no candidate with a beginning is better than, and this is all that it promises.
 //! The quality is told by what is counted: differences (C.6), ghosts in the next bracket (C.7), preferences that cannot
-//! all be served (C.10, C.11), and players whom nobody of the others suits (C.10). No list is made for a beginning.
+//! all be served (C.10, C.11), and lonely players, whom nobody of those left suits (C.10). No list is made for a
+//! beginning.
 #![tactic(auto)]
 
 mod colour_floor;

@@ -1,4 +1,5 @@
-// Once S1R is chosen: players who miss their preference, whoever of those left becomes their opponent (C.04.3 C.10).
+// Lonely players, once S1R is chosen: they miss their preference, whoever of those left becomes their opponent (C.04.3
+// C.10).
 ghost use Rattle.std.specs.Prelude.{◌≡◌, ◌+◌, ◌-◌, ◌≤◌, ◌||◌, ℕ, false, not, length, filter, max};
 ghost use Rattle.std.specs.List.{list_any};
 ghost use Rattle.dutch_sequence.specs.declared.numbers.TheConstants.{LIMIT};
@@ -100,7 +101,7 @@ impl LonelyRoom {
         }
     }
 
-    /// Whom a number leans on is free.
+    /// Yes if the one whom a number leans on is free.
     fn has_free_suitor(&self, number: u16) -> bool {
         let suitor = self.leaning.suitor(number);
         suitor > 0
@@ -110,7 +111,7 @@ impl LonelyRoom {
             }
     }
 
-    /// Two are paired: who leans on them may be lonely now.
+    /// Two are paired: whoever leans on one of them may be lonely now.
     pub(crate) fn pair_up(&mut self, pair: Pair) {
         self.set_paired(pair, true);
         self.is_clear = self.is_clear
@@ -118,7 +119,7 @@ impl LonelyRoom {
             && !self.leaning.is_leaned_on(pair.1);
     }
 
-    /// Pairs are taken back: whether their players are lonely is clear where those on whom they lean are free.
+    /// Pairs are taken back: their players may be lonely now, unless those on whom they lean are free.
     pub(crate) fn take_back(&mut self, pairs: &[Pair]) {
         for pair in pairs {
             self.set_paired(*pair, false);
@@ -203,8 +204,9 @@ impl<'m> Marked<'m> {
     }
 }
 
-/// A no says that nobody of a pool suits one who waits. (Whoever suited them last suits them still. If that were not so,
-/// the floor would be lower than it can be, and not wrong. It is looked from the end, as these are paired last.)
+/// A no says that nobody of a pool suits one who waits. (Whoever suited them last is taken to suit them still: if that
+/// were not so, the floor would be lower than it can be, and not wrong. The pool is looked at from its end, as the last
+/// ones are paired last.)
 fn is_suited(context: &Context<'_>, x: u16, pool: &Marked<'_>, leaning: &mut Leaning) -> bool
     ensures { result ≡ false
         → list_any (suits context.now.facts context.now.reached x) pool.now.numbers.now ≡ false }
@@ -244,7 +246,7 @@ fn suits_one(context: &Context<'_>, y: u16, waiting: &Marked<'_>, leaning: &mut 
     false
 }
 
-/// So many at least of those who wait suit nobody of the pool.
+/// How many of those who wait suit nobody of the pool, at least.
 fn lonely_first(
     context: &Context<'_>,
     waiting: &[u16],
@@ -264,7 +266,7 @@ fn lonely_first(
     count
 }
 
-/// So many at least of the pool suit nobody who waits.
+/// How many of the pool suit nobody who waits, at least.
 fn lonely_second(
     context: &Context<'_>,
     waiting: &Marked<'_>,
@@ -284,15 +286,15 @@ fn lonely_second(
     count
 }
 
-/// The greater of two counts of lonely players, of which so many of the second may go down: a pair may have one of
-/// each.
+/// The greater of two counts of lonely players, since a pair may have one of each. So many of the second may go down,
+/// and do not count.
 fn more_lonely(first: usize, second: usize, down: usize) -> usize
     ensures { result ≡ max first (second - down) }
 {
     first.max(second.saturating_sub(down))
 }
 
-/// So many miss at least for want of an opponent who suits.
+/// How many players miss their preference at least, as nobody who is left suits them.
 pub(crate) fn lonely(
     context: &Context<'_>,
     shape: Shape,
@@ -314,8 +316,8 @@ pub(crate) fn lonely(
     more_lonely(first, second, context.residents_down(shape))
 }
 
-/// At most so many players are lonely behind lists with an S1R: as many as wait, or as are left for them. (Nothing stands
-/// on it.)
+/// How many players are lonely at most behind lists with an S1R, by how many wait and how many are left for them. (No
+/// floor is wrong by it.)
 pub(crate) fn most_lonely(context: &Context<'_>, shape: Shape, lists: &FixedLists<'_>) -> usize
     ensures few { result ≤ LIMIT }
 {

@@ -6,9 +6,9 @@ use crate::known_pairs::KnownPairs;
 use crate::lonely::LonelyRoom;
 use dutch_arrangements::Prefix;
 
-/// A beginning whose floor is asked for, and with how many players at least and at most who miss their preference the
-/// floor may lose (C.10). By these counts it is told whether it is worth while to look for lonely players; no floor is
-/// wrong by them.
+/// A beginning whose floor is asked for. By C.10 the floor does not lose with fewer than `fewest` players who miss
+/// their preference, and loses with more than `most`: so it is told whether it is worth while to look for lonely
+/// players. No floor is wrong by these counts.
 #[derive(Drop)]
 pub struct FloorQuestion<'q, 'p> {
     pub prefix: &'q Prefix<'p>,
@@ -16,7 +16,7 @@ pub struct FloorQuestion<'q, 'p> {
     pub most: u16,
 }
 
-/// The pairs of the last beginning with what they add up to, and where lonely players were looked for. The one who asks
+/// The pairs of the last beginning with what they add up to, and where lonely players were looked for. Whoever asks
 /// lends it.
 #[derive(Default, Drop)]
 pub struct FloorNotes {

@@ -18,20 +18,20 @@ use dutch_bracket::shaped::ShapedBracket;
 /// What the next bracket can be at best.
 #[derive(Drop)]
 pub(crate) struct Outlook {
-    /// What it can be if the Limbo has the scores of the first one; none if that is not known.
+    /// What it can be at best if the Limbo has the scores of the first one; none if that is not known.
     pub(crate) first: Option<NextValue>,
-    /// What it can be in any case.
+    /// What it can be at best in any case.
     pub(crate) any: NextValue,
 }
 
-/// If so, `Outlook::first` holds behind the S1: its Limbo has the scores of the first one of the shape.
+/// Yes if the Limbo of an S1 has the scores of the first Limbo of the shape: then `Outlook::first` holds behind the S1.
 #[tactic(auto, using(dutch_bracket::proofs::ArrangementParts::next_number), unfolding(crate::specs::Outlooks::leaves_first))]
 pub(crate) fn leaves_first(shaped: &ShapedBracket<'_>, s1: &[u16]) -> bool
     ensures { let context = shaped.now.context.now
         in result ≡ leaves_first context.facts context.reached shaped.now.shape s1.now }
 {
     let moved_down = shaped.context.reached().mdps();
-    // how many numbers stand before those of the first Limbo that are to come
+    // how many numbers stand before those of the first Limbo that are still to come
     let mut passed = shaped.shape.mdps;
     for above in 0..moved_down {
         let number = above as u16 + 1;
@@ -48,7 +48,8 @@ pub(crate) fn leaves_first(shaped: &ShapedBracket<'_>, s1: &[u16]) -> bool
     passed == moved_down
 }
 
-/// What half of those who go down and of the next lower scoregroup come to in pairs.
+/// The value of the next bracket by counts: as many pairs as half of those who go down and of the next lower
+/// scoregroup.
 #[tactic(auto, using(crate::proofs::C07Outlook::few_pairs))]
 fn value_by_counts(shaped: &ShapedBracket<'_>) -> NextValue
     ensures value { let context = shaped.now.context.now in result
@@ -62,7 +63,8 @@ fn value_by_counts(shaped: &ShapedBracket<'_>) -> NextValue
     }
 }
 
-/// The residents stand by score, so the first and the last of them tell it. A bracket without residents is not flat.
+/// Yes if a bracket has residents, and all of them have one score. (They stand by score, so the first and the last of
+/// them tell it.)
 pub(crate) fn is_flat(context: &Context<'_>) -> bool
     ensures value { result ≡ is_flat context.now.facts context.now.reached }
     ensures of { IsOf context.now.facts context.now.reached }
@@ -76,8 +78,7 @@ pub(crate) fn is_flat(context: &Context<'_>) -> bool
 }
 
 impl Outlook {
-    /// The best that the next bracket of a bracket and a shape can be. In brackets that are not ordinary the next one
-    /// does not count.
+    /// The best that the next bracket can be below candidates of a shape. It counts only below an ordinary bracket.
     #[tactic(auto, using(crate::proofs::C07Outlook::none_counts))]
     pub(crate) fn find(shaped: &ShapedBracket<'_>, budget: &mut Budget) -> Result<Outlook, Stopped>
         ensures answer { MatchResult result (IsOutlookFrom shaped.now) (λ _. budget.new.used ≡ budget.new.limit) }
@@ -92,7 +93,7 @@ impl Outlook {
         }
     }
 
-    /// What counts alone tell of it.
+    /// What counts alone tell of the next bracket.
     #[tactic(auto, using(crate::proofs::C07Outlook::none_counts))]
     pub(crate) fn by_counts(shaped: &ShapedBracket<'_>) -> Outlook
         ensures { IsOutlookFrom shaped.now result }
@@ -106,7 +107,7 @@ impl Outlook {
         }
     }
 
-    /// What counts alone tell of it in an ordinary bracket.
+    /// What counts alone tell of the next bracket, below an ordinary one.
     #[tactic(auto, using(crate::proofs::C07Outlook::by_counts))]
     fn ordinary_by_counts(shaped: &ShapedBracket<'_>) -> Outlook
         requires { shaped.now.context.now.reached.kind ≡ Ordinary }
@@ -116,7 +117,7 @@ impl Outlook {
         Outlook { first: None, any }
     }
 
-    /// The same in an ordinary bracket.
+    /// The best that the next bracket can be, below an ordinary one.
     #[inline(never)]
     #[tactic(auto, using(crate::proofs::C07Outlook::by_counts, crate::proofs::C07Outlook::by_ghosts, crate::proofs::C07Outlook::flat_residents))]
     fn below_ordinary(shaped: &ShapedBracket<'_>, budget: &mut Budget) -> Result<Outlook, Stopped>

@@ -1,6 +1,7 @@
 // What can tell that all candidates with a given beginning are idle: they may be passed over. Then a listing may leave
 // them all out. A bound works its answer out in its `Room`, which the caller of the listing lends to each question: so
-// no question makes a list. What it leaves there serves the next question, whose beginning is often nearly the same.
+// no question makes a list. It may keep there what the next question can use, since the next beginning is often nearly
+// the same.
 ghost use Rattle.std.specs.Prelude.{◌≡◌, ℕ, Bool, true};
 ghost use Rattle.dutch_arrangements.specs.Arrangements.{Arrangement, Frame, candidates};
 ghost use Rattle.dutch_sequence.specs.Exchanged.{IsExchange};

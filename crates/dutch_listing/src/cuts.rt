@@ -29,7 +29,8 @@ pub trait Cuts {
         ensures ready { Ready self.new }
         ensures keeps { (a : Arrangement) → Idle self.new a → Idle self.old a };
 
-    /// The same, as the first of its questions.
+    /// Yes if all arrangements that begin so are known to be idle, as the answer to its first question. A no says
+    /// nothing.
     fn cuts_at_first(&mut self, prefix: &Prefix<'_>) -> bool
         ensures told { result ≡ true → (a : Arrangement) → Begins prefix.now a → Idle self.old a }
         ensures keeps { (a : Arrangement) → Idle self.new a → Idle self.old a }

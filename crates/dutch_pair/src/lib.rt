@@ -5,12 +5,12 @@
 //! `completes`, `quality`, `choose` and `LookAhead` give the parts. What explains a round is here too: `best_instead`,
 //! `barrier_of`, `lacks_bye`, `who_counts`. The laws that `calls` has give what some calls require.
 //!
-//! This crate is a front: it hands on what stands in `dutch_rounds` and in the crates below it, and the definitions that
-//! the clauses of its calls name, as `Rattle.dutch_pair.specs.Prelude`. So a caller names this crate alone. Calls that
-//! choose do so by the finder of `dutch_search`; those of `dutch_rounds` promise the same by any finder.
+//! This crate is a front: it hands on what stands in `dutch_rounds` and in the crates below it, and the definitions
+//! that the clauses of its calls name, as `Rattle.dutch_pair.specs.Prelude`. So a caller names this crate alone. Calls
+//! that choose do so by the finder of `dutch_search`; those of `dutch_rounds` promise the same by any finder.
 //!
-//! Each bracket may make so many steps as its budget has. If they are used up, the answer is undecided, and never another
-//! pairing. It is not proved that some number of steps decides a bracket.
+//! Each bracket may make so many steps as its budget has. If they are used up, the answer is undecided, and never
+//! another pairing. It is not proved that some number of steps decides a bracket.
 //!
 //! To mind: players are named by seat in a field, by number from 1 in a bracket, and by start rank on boards alone.
 #![tactic(auto)]

@@ -1,7 +1,7 @@
 // What draws the candidates of a bracket for a pass (C.04.3 B.8).
 //
 // A guide may pass over candidates without a look at them, by whatever it knows of those that begin alike. It passes
-// over those alone that are idle. Where much is passed over too late it may know more by what pairs weigh.
+// over only those that are idle. Where few steps do not suffice it may weigh the pairs, and so know more.
 ghost use Rattle.std.specs.Prelude.{◌≡◌, [], Option};
 ghost use Rattle.std.specs.Result.{MatchResult};
 ghost use Rattle.dutch_bracket.specs.Prelude.{Context};
@@ -29,11 +29,11 @@ pub trait Guide {
     /// What it notes of a walk.
     type Notes: Drop;
 
-    /// What it knows, it knows of the candidates of a shape in a bracket above its lower seats that grant what is
-    /// wished.
+    /// What it knows holds of the candidates that grant what is wished: those of a shape, in a bracket above its lower
+    /// seats.
     ghost knows: { Self → Context → Shape → Option Wish → Type 0 };
 
-    /// Draws the next candidate that it does not know to be idle to a pass. Those that it passes over are idle. A no
+    /// Draws the next candidate of a pass that it does not know to be idle. Those that it passes over are idle. A no
     /// says that there is no other.
     fn draw(
         &mut self,

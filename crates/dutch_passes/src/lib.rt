@@ -1,7 +1,7 @@
 //! What finds the best candidate of a shape (C.04.3 B.8, C.4 to C.19): passes over the candidates.
 //!
-//! A pass looks at the candidates one by one, as a guide draws them. Whatever leaves out some that are idle is a guide,
-//! and what the passes end with is the same by each. The last 64 values of C.7 are kept on the heap; if memory is
+//! A pass looks at the candidates one by one, as a guide draws them. A guide may leave out candidates that are idle;
+//! what the passes end with is the same with every guide. The last 64 values of C.7 are kept on the heap; if memory is
 //! refused for one, it is merely not kept.
 #![tactic(auto)]
 

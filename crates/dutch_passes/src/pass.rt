@@ -12,8 +12,8 @@ use dutch_candidates::wish::Wish;
 use dutch_choice::barred::{rules_out, rules_out_with};
 use dutch_choice::finder::Best;
 
-/// One pass over the candidates of a shape, in a bracket above all lower seats by rank. With an aim it seeks those
-/// alone that the aim is not better than, and with a wish those alone that grant it.
+/// One pass over the candidates of a shape, in a bracket above all lower seats by rank. With an aim it seeks only those
+/// that the aim is not better than, and with a wish only those that grant it.
 #[derive(Drop)]
 pub struct Pass<'a> {
     pub shaped: ShapedBracket<'a>,
@@ -21,7 +21,7 @@ pub struct Pass<'a> {
     pub aim: Option<Quality>,
 }
 
-/// A pass, beside the candidate that it has kept so far.
+/// A pass, and the candidate that it has kept so far.
 #[derive(Clone, Copy)]
 pub struct PassSoFar<'a, 'k> {
     pub pass: &'a Pass<'a>,
@@ -56,7 +56,8 @@ pub fn is_barred(pass: &Pass<'_>, prefix: &Prefix<'_>) -> bool
     }
 }
 
-/// Yes if such an S1R rules out what is wished, so that the pass may skip all that have one. A no says nothing.
+/// Yes if every S1R that is such an exchange rules out what is wished, so that the pass may skip all candidates with
+/// one. A no says nothing.
 pub fn is_barred_with(pass: &Pass<'_>, exchange: &Exchange<'_>) -> bool
     ensures { result ≡ true → (a : Arrangement) → IsIn a (candidates_in pass.now.shaped)
         → IsExchange exchange.now a.s1r → is_wished pass.now.wish a ≡ false }

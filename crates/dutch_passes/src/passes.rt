@@ -1,6 +1,7 @@
 // The choice among the candidates of a shape (C.04.3 B.8): the first of them that none is better than, by passes over a
-// listing that keep the best candidate so far. What draws the candidates is a guide, which may pass over some: passes
-// are made in few steps first, then with what pairs weigh, then with what those of the next bracket weigh too (C.7).
+// listing that keep the best candidate so far. A guide draws the candidates, and may pass over some. The passes first
+// have few steps. If these do not suffice, the pairs of the bracket are weighed, and then those of the next bracket too
+// (C.7).
 ghost use Rattle.std.specs.Prelude.{◌≡◌, None, IfSome, true};
 ghost use Rattle.std.specs.Option.{MatchOption};
 ghost use Rattle.std.specs.Result.{MatchResult};
@@ -25,8 +26,8 @@ use dutch_choice::start::Start;
 use dutch_completion::eligible::can_be_chosen;
 use std::mem::take;
 
-/// What the passes over the candidates of a shape are made with: what tells the quality of candidates, and keeps the
-/// best one; and the lister that draws them, with where it stands.
+/// What the passes over the candidates of a shape are made with: the judge, which tells the quality of candidates and
+/// keeps the best one; and the lister that draws them, with where it begins.
 #[derive(Drop)]
 pub struct PassRoom<'a, 'l, 'r, 'n, G: Guide> {
     pub judge: Judge<'a, G>,
@@ -34,8 +35,8 @@ pub struct PassRoom<'a, 'l, 'r, 'n, G: Guide> {
     pub start: Start,
 }
 
-/// Keeps a candidate in place of the one before it if it grants what is wished, does not lose and can be chosen. (It
-/// is put where that one stands, and not handed out: a candidate is large, and most are passed over.)
+/// Keeps a candidate in place of the one that is kept, if it grants what is wished, does not lose and can be chosen.
+/// (It is put where that one stands, and not handed out: a candidate is large, and most are passed over.)
 #[tactic(auto, using(crate::proofs::AimLemmas::unwished_passed, crate::proofs::AimLemmas::loser_passed, crate::proofs::AimLemmas::winner_kept, crate::proofs::AimLemmas::unfit_passed))]
 fn consider<G: Guide>(
     pass: &Pass<'_>,
@@ -69,7 +70,7 @@ fn consider<G: Guide>(
     Ok(())
 }
 
-/// Begins a pass: with the first candidate that can be chosen, if it stands drawn, or else with the listing anew.
+/// Begins a pass: with the first candidate that can be chosen, if that is drawn already, else with the listing anew.
 #[tactic(auto, using(crate::proofs::BeginLemmas::begun_anew))]
 fn begin<G: Guide>(
     pass: &Pass<'_>,
@@ -135,8 +136,8 @@ fn go_on<'a, G: Guide>(
     Ok(())
 }
 
-/// Keeps of the candidates that a pass seeks, and that can be chosen, the first that none is better than; none if there
-/// is no such candidate.
+/// Keeps the best of the candidates that a pass seeks and that can be chosen: the first that none is better than. It
+/// keeps none if there is none.
 #[tactic(auto, using(crate::proofs::BeginLemmas::lent_anew))]
 fn best_near<'a, G: Guide>(
     pass: &'a Pass<'a>,
@@ -184,7 +185,7 @@ fn best_by_aim<'a, G: Guide>(
     best_near(pass, search, budget)
 }
 
-/// Keeps what a pass with an aim ends with, or if that is nothing, the same pass without an aim.
+/// Keeps what a pass with its aim ends with; if that is nothing, what the same pass without an aim ends with.
 #[tactic(auto, using(crate::proofs::AimLemmas::without_aim))]
 fn best_in_passes<G: Guide>(
     pass: &mut Pass<'_>,
@@ -210,7 +211,7 @@ fn best_in_passes<G: Guide>(
     best_near(pass, search, budget)
 }
 
-/// How many steps passes make before the pairs of the bracket are weighed: most brackets want no more.
+/// How many steps passes make before the pairs of the bracket are weighed: most brackets need no more.
 fn few_steps(players: usize) -> u64 {
     let players = players as u64;
     players
@@ -219,8 +220,8 @@ fn few_steps(players: usize) -> u64 {
         .saturating_mul(players)
 }
 
-/// Weights can tell more of the bracket of a pass that wishes nothing where C.7 counts and the next lower scoregroup is
-/// not too large.
+/// Yes if weights can tell of the next bracket too (C.7): in an ordinary bracket, if the pass wishes nothing and the
+/// two brackets are not too large together.
 fn tells_next<G: Guide>(pass: &Pass<'_>, guide: &G) -> bool {
     match (pass.shaped.context.reached().kind(), pass.wish) {
         (BracketKind::Ordinary, None) => guide.can_weigh(true),
@@ -256,9 +257,10 @@ fn best_within<G: Guide>(
     }
 }
 
-/// Keeps what the passes end with by weights that are found now. Where C.7 counts, the first weights do not tell of the
-/// next bracket, and four times the few steps are made with them; if these do not suffice, weights that tell of it are
-/// found, and all steps that are left are made with them. (Apart from its caller, as most brackets do not come to it.)
+/// Weighs the pairs, and keeps what the passes end with. If weights can tell of the next bracket too (C.7), the first
+/// ones leave it out, and the passes have four times the few steps with them. If these do not suffice, the pairs are
+/// weighed with C.7, and the passes have all steps that are left. (Apart from its caller, as most brackets do not come
+/// to it.)
 #[inline(never)]
 fn best_by_weight<G: Guide>(
     pass: &mut Pass<'_>,
@@ -283,9 +285,9 @@ fn best_by_weight<G: Guide>(
     best_in_passes(pass, search, budget)
 }
 
-/// Keeps what the passes end with: first in few steps, since most brackets want no more; then with floors by weight;
-/// and where C.7 counts and four times the few steps do not suffice, with weights that tell of the next bracket too.
-/// (Nothing here depends on the limit: with a higher one the same way goes on.)
+/// Keeps what the passes end with. Most brackets need few steps. The others have their pairs weighed; and if four times
+/// the few steps do not suffice then, those of the next bracket too, where C.7 counts. (Nothing here depends on the
+/// limit: with a higher one the same way goes on.)
 pub fn best_in_time<G: Guide>(
     pass: &mut Pass<'_>,
     search: &mut PassRoom<'_, '_, '_, '_, G>,

@@ -93,8 +93,8 @@ fn no_values(alloc: Global) -> Result<Values, PairFault>
     Ok(LruCache::new(alloc, most)?)
 }
 
-/// Puts the value that is kept for downfloaters, who are then the last used, into a quality, with no copy between. No
-/// says that none is kept.
+/// Puts the value that is kept for downfloaters into a quality, with no copy between. It is the last used value then. A
+/// no says that none is kept.
 fn put_remembered(values: &mut Values, down: &Numbers, quality: &mut Quality) -> bool
     ensures put { lookup (is_key down.now) values.old.entries
         ≡ (if result then Some (next_in (quality_in quality.new)) else None) }
@@ -193,7 +193,7 @@ impl<'a> LookAhead<'a> {
         }
     }
 
-    /// Puts the value that is kept for downfloaters into a quality. No says that none is kept.
+    /// Puts the value that is kept for downfloaters into a quality. A no says that none is kept.
     fn put_kept(&mut self, down: &[u16], quality: &mut Quality) -> bool
         requires { AreLeft self.old.reached down.now }
         ensures { Recalls result (next_in (quality_in quality.new)) down.now self.old self.new }
@@ -259,8 +259,9 @@ pub fn look_below<'a>(context: &'a Context<'a>) -> Result<Option<LookAhead<'a>>,
     }
 }
 
-/// What tells the quality of a bracket's candidates: the look-ahead, in an ordinary bracket, and room to work it out;
-/// and a list for those whom a candidate leaves over with all lower players, filled anew for each that is asked about.
+/// What tells the quality of a bracket's candidates, and keeps the best one: the look-ahead, in an ordinary bracket;
+/// room to work the quality out; and a list for those whom a candidate leaves over and all lower players, filled anew
+/// for each candidate.
 #[derive(Drop)]
 pub struct Judge<'a, G: Guide> {
     pub look: Option<LookAhead<'a>>,

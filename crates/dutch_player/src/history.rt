@@ -52,8 +52,8 @@ pub(crate) fn opponents(alloc: Global, cells: &[Cell]) -> Result<Vec<u16>, Alloc
         .collect(alloc)
 }
 
-/// Yes if whoever has this cell may not have the pairing-allocated bye later: it is one, a forfeit win, or a requested bye
-/// of a full point (C.2).
+/// Yes if whoever has this cell may not have the pairing-allocated bye later: it is one, a forfeit win, or a requested
+/// bye of a full point (C.2).
 pub fn bars_bye(cell: &Cell) -> bool
     ensures { result ≡ bars_bye cell.now }
 {

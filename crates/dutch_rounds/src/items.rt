@@ -42,7 +42,7 @@ fn put_pair(field: &Field, miss: Miss, pair: Pair, seats: &mut Seats)
     put_if(misses(field, miss, black, Colour::Black), black, seats);
 }
 
-/// The same, if one of the pair is a topscorer.
+/// Puts those of the players of a pair who miss so to their places, if one of the two is a topscorer.
 fn put_if_topscorer(field: &Field, miss: Miss, pair: Pair, seats: &mut Seats)
     requires { array_vec_len seats.old + 2 ≤ LIMIT }
     ensures items { seats.new.items
@@ -55,7 +55,7 @@ fn put_if_topscorer(field: &Field, miss: Miss, pair: Pair, seats: &mut Seats)
     }
 }
 
-/// The same of the players in pairs.
+/// Puts the players of pairs who miss so to their places.
 #[tactic(auto, using(crate::proofs::ItemSeats::pair_put))]
 fn put_pairs(field: &Field, miss: Miss, pairs: &[Pair], seats: &mut Seats)
     requires { array_vec_len seats.old + 2 * length pairs.now ≤ LIMIT }
@@ -66,7 +66,7 @@ fn put_pairs(field: &Field, miss: Miss, pairs: &[Pair], seats: &mut Seats)
     }
 }
 
-/// The same of the players in pairs with a topscorer.
+/// Puts the players of pairs with a topscorer who miss so to their places.
 fn put_with_topscorers(field: &Field, miss: Miss, pairs: &[Pair], seats: &mut Seats)
     requires { array_vec_len seats.old + 2 * length pairs.now ≤ LIMIT }
     ensures { seats.new.items ≡ placed_all seats.old.items (those_with_topscorers field.now (misses miss) pairs.now) }
@@ -94,7 +94,7 @@ fn put_again(past: FloatRound<'_>, pairs: &[Pair], seats: &mut Seats)
     }
 }
 
-/// The same of downfloaters.
+/// Puts the downfloaters who float as in a round before to their places.
 fn put_down_again(past: FloatRound<'_>, least: u16, down: &[u16], seats: &mut Seats)
     requires { array_vec_len seats.old + length down.now ≤ LIMIT }
     ensures { seats.new.items ≡ placed_all seats.old.items

@@ -8,8 +8,8 @@ ghost use Rattle.dutch_player.specs.Prelude.{Facts, facts_of};
 ghost use Rattle.dutch_rounds.specs.Boards.{boards};
 ghost use Rattle.dutch_rounds.specs.Round.{Pairing, round};
 
-/// The boards of a round can be the next round of the report that it is paired from, if its start ranks are each a
-/// player's own, as those of every accepted report are, and a total of rounds that is asked for is within the limit.
+/// The boards that are paired from an accepted report can be its next round, if a total of rounds that is asked for is
+/// within the limit. Of the report it is enough that its start ranks are each a player's own.
 pub fn boards_can_be_the_next_round()
     ensures { (sheet : Sheet) (asked : Option ℕ) (initial : Option Colour) (facts : Facts) (pairing : Pairing)
         → HasOwnStarts sheet → IfSome asked (λ total. total ≤ MOST_ROUNDS)

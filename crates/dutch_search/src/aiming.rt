@@ -11,7 +11,7 @@ use dutch_bracket::seated::{Pair, Seated, difference_down};
 use dutch_weights::asking::Matched;
 use dutch_weights::unpaired_graph::is_in;
 
-/// Puts the pairs of a matching to others, as far as there is room.
+/// Adds the pairs of a matching to those of a candidate, as far as there is room.
 fn put_matched(context: &Context<'_>, pairs: &[Pair], seated: &mut Seated) {
     let reached = context.reached();
     for pair in pairs {
@@ -24,7 +24,7 @@ fn put_matched(context: &Context<'_>, pairs: &[Pair], seated: &mut Seated) {
     }
 }
 
-/// Puts those to others who are in no pair of a matching, as far as there is room.
+/// Adds those who are in no pair of a matching to the downfloaters of a candidate, as far as there is room.
 fn put_unmatched(context: &Context<'_>, pairs: &[Pair], seated: &mut Seated) {
     let reached = context.reached();
     for above in 0..context.len() {
@@ -64,7 +64,8 @@ fn put_below(context: &Context<'_>, matched: &Matched, psd: &mut Numbers) {
     }
 }
 
-/// The same of those who are in no pair, neither in the bracket nor in the next one.
+/// Puts the differences of those who are in no pair, neither in the bracket nor in the next one, to their places, as
+/// far as there is room.
 fn put_alone(context: &Context<'_>, matched: &Matched, psd: &mut Numbers) {
     let (field, least) = (context.field(), context.score_below());
     for above in 0..context.len_below() {
@@ -91,7 +92,7 @@ fn value_below(context: &Context<'_>, matched: &Matched) -> NextValue {
 }
 
 impl<'a> BothFloors<'a> {
-    /// What the next bracket is in a matching; where the weights do not tell of it, the best that it can be.
+    /// The value of the next bracket in a matching, if the weights tell of it; else the best that it can be.
     fn next_by(&self, context: &Context<'_>, matched: &Matched) -> NextValue {
         match &self.weights {
             Some(weights) if weights.counts_next() => value_below(context, matched),
@@ -99,8 +100,8 @@ impl<'a> BothFloors<'a> {
         }
     }
 
-    /// The quality of a matching of a bracket by number. Where the scale has not all its differences, it is a little
-    /// worse.
+    /// The quality of a matching of a bracket by number. If the scale does not have all of its differences, those of
+    /// C.16 to C.19 are left out, and it is made a little worse.
     fn aim_by(&self, context: &Context<'_>, matched: &Matched) -> Quality {
         let (mut seated, mut aim) = (Seated::default(), Quality::default());
         seat_matching(context, &matched.pairs, &mut seated);

@@ -55,7 +55,7 @@ pub(crate) fn bars_of(so_far: PassSoFar<'_, '_>, weights: &Option<WeightFloors<'
     }
 }
 
-/// Tells which beginnings a pass may skip, beside the candidate that it keeps.
+/// Tells which beginnings a pass may skip, by what it seeks and by the candidate that it keeps.
 #[derive(Drop)]
 pub(crate) struct Skipper<'a, 'k> {
     pub(crate) so_far: PassSoFar<'a, 'k>,

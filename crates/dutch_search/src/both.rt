@@ -6,17 +6,18 @@ use dutch_bracket::shaped::ShapedBracket;
 use dutch_floors::floor::Floors;
 use dutch_weights::weight_floor::WeightFloors;
 
-/// A turn is shorter by one part more for each so many pairs of the shape.
+/// The more pairs the shape has, the shorter a turn is: its steps are divided by one, and by one more for each so many
+/// pairs.
 pub(crate) const TURN_PAIRS: usize = 16;
 
-/// In a large bracket a turn is longer so many times, as many steps as the last floor took.
+/// In a large bracket a turn has so many times the steps: about as many as the last floor took.
 pub(crate) const LARGE_TURN: u64 = 16;
 
 /// The pairs of brackets with more players are not weighed.
 const MOST_WEIGHED: usize = 512;
 
-/// In a bracket with more players a floor by weight takes so many steps that the walk makes about as many before it may
-/// be told more, and that it is told more only where it is stuck.
+/// A bracket with more players is large: a floor by weight takes many steps there. So the walk makes about as many
+/// before another one may be asked for, and that only where it is stuck.
 const LARGE: usize = 400;
 
 /// Floors by counts, and floors by weight, where they were asked for.
@@ -28,7 +29,7 @@ pub(crate) struct BothFloors<'a> {
     ghost basis: { IsBasisFor shaped counts },
 }
 
-/// Pairs are not weighed where players are many: those of the bracket, with those of the next lower scoregroup if the
+/// Yes if pairs are weighed: the bracket does not have too many players, counted with the next lower scoregroup if the
 /// weights are to tell of that.
 pub(crate) fn is_weighed(context: &Context<'_>, next: bool) -> bool {
     let players = if next {
@@ -39,7 +40,7 @@ pub(crate) fn is_weighed(context: &Context<'_>, next: bool) -> bool {
     players <= MOST_WEIGHED
 }
 
-/// Yes if the players of a bracket are many, so that floors by weight take many steps.
+/// Yes if a bracket is large, so that floors by weight take many steps.
 pub(crate) fn is_large(context: &Context<'_>) -> bool {
     context.len() > LARGE
 }

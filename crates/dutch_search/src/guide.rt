@@ -1,5 +1,5 @@
-// How candidates are drawn within floors of both kinds (C.04.3 B.8): in turns of steps, behind each of which floors by
-// weight are asked for more, where the walk is stuck.
+// How candidates are drawn within floors of both kinds (C.04.3 B.8): in turns of steps. If a turn ends and nothing is
+// found, a floor by weight is asked for where the walk is stuck, and the next turn begins.
 ghost use Rattle.std.specs.Prelude.{◌≡◌, ◌+◌, ◌-◌, ◌<◌, ◌≤◌, [], None, min};
 ghost use Rattle.std.specs.Option.{ForSome};
 ghost use Rattle.std.specs.Result.{MatchResult};
@@ -25,8 +25,9 @@ use dutch_weights::scope::Scope;
 use dutch_weights::weight_floor::WeightFloors;
 
 impl<'a> BothFloors<'a> {
-    /// The steps of a turn: all that are left, or so many that it is worth while to be told more behind them. They are
-    /// the fewer, the more pairs the questions of the turn look at; in a large bracket they are as many as a floor takes.
+    /// The steps of a turn. Without floors by weight they are all that are left. With them they are so many that
+    /// another floor is worth its steps: the fewer, the more pairs a question looks at; in a large bracket about as
+    /// many as a floor takes.
     fn turn(&self, budget: &Budget) -> Budget
         ensures used { result.used ≡ 0 }
         ensures limit { result.limit ≤ budget.now.limit - budget.now.used }
@@ -64,7 +65,7 @@ impl<'a> BothFloors<'a> {
         }
     }
 
-    /// Keeps floors by weight, with that of a cheapest matching of the bracket. It answers what to aim at.
+    /// Keeps floors by weight, the first by a cheapest matching of the bracket. It answers what to aim at.
     fn weigh_by(
         &mut self,
         weights: WeightFloors<'a>,
@@ -90,8 +91,8 @@ impl<'a> BothFloors<'a> {
         Ok(self.aim_for(&found))
     }
 
-    /// Behind a turn, where steps are left: floors by weight are asked for more, if there are any. In a large bracket a
-    /// walk that is not stuck makes a turn more first.
+    /// What follows a turn that found nothing, if steps are left: if pairs are weighed, further floors by weight are
+    /// asked for where the walk is stuck. In a large bracket a walk that is not stuck makes another turn first.
     fn go_on(
         &mut self,
         notes: &mut WalkNotes,
@@ -204,7 +205,7 @@ impl<'a> Guide for BothFloors<'a> {
     ) -> Result<Option<Quality>, Stopped> {
         let (context, shape) = (self.shaped.context, self.shaped.shape);
         let count = context.len();
-        // (weights are large: those of before go first)
+        // (weights are large: the ones before are dropped first)
         self.weights = None;
         if is_weighed(context, next) {
             spend((count * count) as u64 / LOOKS_IN_A_STEP, budget)?;

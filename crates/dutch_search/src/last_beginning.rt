@@ -5,7 +5,7 @@ use dutch_bracket::seated::Pair;
 use dutch_floors::notes::FloorNotes;
 use dutch_weights::scope::Scope;
 
-/// The beginning that a walk asked about last. Behind it the walk is stuck if its steps end.
+/// The beginning that a walk asked about last. If the steps end, the walk is stuck there.
 #[derive(Default, Drop)]
 pub(crate) struct LastBeginning {
     /// The arrangements with its S1 and its S1R.
@@ -33,8 +33,8 @@ impl LastBeginning {
     }
 }
 
-/// The beginning that a walk asked about last, where it stood a turn before, and what floors by counts noted of the
-/// questions before.
+/// The beginning that a walk asked about last; where the walk stood when it was asked last whether it has moved; and
+/// what floors by counts noted of the questions before.
 #[derive(Default, Drop)]
 pub(crate) struct WalkNotes {
     pub(crate) last: LastBeginning,
@@ -43,7 +43,7 @@ pub(crate) struct WalkNotes {
 }
 
 impl WalkNotes {
-    /// Yes if the walk has come to another S1 or S1R since it was asked for the last time. Then it is not stuck.
+    /// Yes if the walk has come to another S1 or S1R since this was asked last. Then it is not stuck.
     pub(crate) fn has_moved(&mut self) -> bool {
         if self.stood.is(&self.last.scope) {
             return false;

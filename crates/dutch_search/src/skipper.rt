@@ -2,9 +2,9 @@
 //
 // A candidate is idle if it cannot be chosen, if it does not grant what is wished, or if it loses: the aim of the pass
 // is better than it, or it is not better than the candidate that is kept. The candidates are listed by the rules of the
-// bracket as they are narrowed to the wish, and none with a beginning that rules the wish out grants it. Each candidate
-// with a beginning loses if its floor does, a quality that none of these candidates is better than. With a wish, a
-// floor is enough that holds only for those that grant it, as floors by weight do.
+// bracket, narrowed to the wish; if a beginning rules the wish out, no candidate with it grants the wish. The floor of
+// a beginning is a quality that no candidate with it is better than: if the floor loses, they all lose. With a wish, a
+// floor that holds only for those that grant it is enough, as floors by weight do.
 ghost use Rattle.std.specs.Prelude.{◌≡◌, true, false};
 ghost use Rattle.dutch_bracket.specs.Prelude.{quality_here, HasNoBetter, is_better, next_in, quality_in};
 ghost use Rattle.dutch_floors.specs.KnownPairs.{AreKnown};
@@ -22,7 +22,7 @@ use dutch_listing::Bound;
 use dutch_passes::{Workroom, is_barred, is_barred_with, loses};
 
 impl<'a, 'k> Skipper<'a, 'k> {
-    /// Fills a quality that no candidate with a beginning is better than. No says that none is known.
+    /// Fills a quality that no candidate with a beginning is better than. A no says that none is known.
     fn fill_floor(&self, asked: &FloorQuestion<'_, '_>, work: &mut Workroom<WalkNotes>) -> bool
         requires known { AreKnown self.now.counts.now work.old.notes.floors.known }
         ensures floor { result ≡ true → OfEach self.now asked.now.prefix.now
@@ -33,7 +33,8 @@ impl<'a, 'k> Skipper<'a, 'k> {
             .floor(asked, &mut work.notes.floors, &mut work.room)
     }
 
-    /// C.7 by counts. A no says nothing.
+    /// Yes if by counts no candidate with a beginning has a better value of the next bracket than a quality says (C.7).
+    /// A no says nothing.
     fn has_no_better_next(&self, prefix: &Prefix<'_>, quality: &Quality) -> bool
         ensures { result ≡ true → OfEach self.now prefix.now
             (λ a. HasNoBetter (quality_here (context_of self.now) a) (next_in (quality_in quality.now))) }
@@ -41,7 +42,8 @@ impl<'a, 'k> Skipper<'a, 'k> {
         self.counts.has_no_better_next(prefix, quality)
     }
 
-    /// How many miss their preference in the aim and in the candidate that is kept: the fewer, and the more (C.10).
+    /// How many miss their preference in the aim and in the candidate that is kept (C.10): the lesser number, and the
+    /// greater one.
     fn missed_bars(&self) -> (u16, u16) {
         let aim = self.so_far.pass.aim.as_ref();
         let kept = self.so_far.kept.as_ref();
@@ -59,7 +61,7 @@ impl<'a, 'k> Skipper<'a, 'k> {
         }
     }
 
-    /// By counts.
+    /// Yes if all candidates with a beginning lose by counts. A no says nothing.
     #[tactic(auto, using(dutch_passes::proofs::AimLemmas::floor_loses))]
     fn loses_by_counts(&self, prefix: &Prefix<'_>, work: &mut Workroom<WalkNotes>) -> bool
         requires known { AreKnown self.now.counts.now work.old.notes.floors.known }
@@ -78,7 +80,8 @@ impl<'a, 'k> Skipper<'a, 'k> {
         loses(&work.room.quality, &self.so_far.pass.aim, self.so_far.kept)
     }
 
-    /// C.7: where the weights do not tell of the next bracket, the counts have to.
+    /// Yes if C.7 needs no further look: the weights tell of the next bracket, or by counts no candidate with a
+    /// beginning has a better value of it than a quality says.
     fn knows_next(&self, prefix: &Prefix<'_>, quality: &Quality) -> bool
         ensures { result ≡ true
             → OfEach self.now prefix.now (HasNoBetterNext self.now (next_in (quality_in quality.now))) }
@@ -89,8 +92,8 @@ impl<'a, 'k> Skipper<'a, 'k> {
         }
     }
 
-    /// The aim is better than a candidate that weighs more, if that has a higher PSD or no better value of the next
-    /// bracket (C.6, C.7).
+    /// Yes if the aim is better than every candidate with a beginning that weighs so much at least. The aim is better
+    /// than a candidate that weighs more, if that has a higher PSD or no better value of the next bracket (C.6, C.7).
     fn is_behind_aim(&self, prefix: &Prefix<'_>, least: Wide) -> bool
         ensures { result ≡ true
             → OfEach self.now prefix.now (λ a. Weighs self.now least a → IsBehindAim self.now a) }
@@ -104,8 +107,9 @@ impl<'a, 'k> Skipper<'a, 'k> {
         bar.is_passed(least) && (bar.is_above(least) || self.knows_next(prefix, aim))
     }
 
-    /// A candidate that weighs no less than the one that is kept is not better, if it has a higher PSD or no better
-    /// value of the next bracket (C.6, C.7).
+    /// Yes if no candidate with a beginning that weighs so much at least is better than the one that is kept. One that
+    /// weighs no less than that is not better, if it has a higher PSD or no better value of the next bracket (C.6,
+    /// C.7).
     fn is_behind_kept(&self, prefix: &Prefix<'_>, least: Wide) -> bool
         ensures { result ≡ true
             → OfEach self.now prefix.now (λ a. Weighs self.now least a → IsBehindKept self.now a) }
@@ -119,7 +123,7 @@ impl<'a, 'k> Skipper<'a, 'k> {
         bar.is_above(least) || (bar.is_reached(least) && self.knows_next(prefix, &best.quality))
     }
 
-    /// By the floor by weight at a place.
+    /// Yes if all candidates with a beginning lose by the floor by weight at a place. A no says nothing.
     fn loses_by(&self, place: usize, prefix: &Prefix<'_>) -> bool
         ensures { result ≡ true → OfEach self.now prefix.now (LosesIfOpen self.now.so_far) }
     {
@@ -132,7 +136,7 @@ impl<'a, 'k> Skipper<'a, 'k> {
         self.is_behind_kept(prefix, least) || self.is_behind_aim(prefix, least)
     }
 
-    /// By any of the floors by weight.
+    /// Yes if all candidates with a beginning lose by any of the floors by weight. A no says nothing.
     fn loses_by_weight(&self, prefix: &Prefix<'_>) -> bool
         ensures { result ≡ true → OfEach self.now prefix.now (LosesIfOpen self.now.so_far) }
     {
@@ -149,7 +153,8 @@ impl<'a, 'k> Skipper<'a, 'k> {
         false
     }
 
-    /// By the floor by weight at a place, of the candidates with such an S1R.
+    /// Yes if all candidates with a beginning and such an S1R lose by the floor by weight at a place. A no says
+    /// nothing.
     fn loses_with(&self, place: usize, prefix: &Prefix<'_>, exchange: &Exchange<'_>) -> bool
         ensures { result ≡ true → OfEachWith self.now prefix.now exchange.now (LosesIfOpen self.now.so_far) }
     {
@@ -162,7 +167,8 @@ impl<'a, 'k> Skipper<'a, 'k> {
         self.is_behind_kept(prefix, least) || self.is_behind_aim(prefix, least)
     }
 
-    /// By any of the floors that counts the order of S1R, of the candidates with such an S1R.
+    /// Yes if all candidates with a beginning and such an S1R lose by a floor that counts the order of S1R. A no says
+    /// nothing.
     fn loses_by_order(&self, prefix: &Prefix<'_>, exchange: &Exchange<'_>) -> bool
         ensures { result ≡ true → OfEachWith self.now prefix.now exchange.now (LosesIfOpen self.now.so_far) }
     {

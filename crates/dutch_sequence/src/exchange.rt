@@ -2,17 +2,17 @@
 // subsets.
 //
 // The sets are searched in stages, one for each number of exchanged players and each difference of the sums. A stage
-// fills the places of the numbers moved out, highest first, and then those of the numbers moved in, lowest first, and
-// goes on from a place only while the wanted difference lies between the least and the greatest that can still come. So
-// a stage never scans all sets. If the least is more than what is wanted, it is noted. The lowest one noted is the
-// difference of the next stage. So no stage without a set is searched, however far apart the numbers of the pool are.
+// fills the places of the numbers moved out, highest first, and then of those moved in, lowest first. It goes on from a
+// place only if the wanted difference lies between the least and the greatest that can still come. So a stage never
+// scans all sets. If the least one is more than the wanted one, it is noted. The lowest one noted is the difference of
+// the next stage. So no stage without a set is searched, however far apart the numbers of the pool are.
 //
 // A search that begins at a set begins in that set's stage, at the set's own path, and then tries the very next
 // difference, since what lies beyond the paths before the set was not seen.
 //
-// A search that its caller may leave stands still where a stage begins, and at each beginning of the stage's paths: what
-// it tells is who is in each set whose path begins so, and who is in none. What lies beyond paths that were left is not
-// known, so then it tries the very next difference too.
+// A search that its caller may leave stands still where a stage begins, and at each beginning of the stage's paths:
+// what it tells is who is in each set whose path begins so, and who is in none. What lies beyond paths that were left
+// is not known, so then it tries the very next difference too.
 ghost use Rattle.dutch_sequence.specs.declared.numbers.TheConstants.{LIMIT};
 ghost use Rattle.std.specs.Prelude.{◌≡◌, ◌+◌, ◌*◌, ◌-◌, ◌<◌, ◌≤◌, suc, true, false, Some, [], ◌∷◌, ◌++◌};
 ghost use Rattle.std.specs.Prelude.{length, map, take, drop};
@@ -324,8 +324,9 @@ fn exchange_at<'a>(sides: &Sides<'a>, state: &SearchState, numbers: &'a mut Numb
 }
 
 /// Goes on to the next beginning about which the caller is to be asked, if it wants to be, or to the next set. The
-/// descent then has the path, unless the budget or the search ends before it. The original set is not asked about: it is
-/// one set, and no stage of others. To leave a whole stage is a step, so where a stage begins the budget is asked first.
+/// descent then has the path, unless the budget or the search ends before it. The original set is not asked about: it
+/// is one set, and no stage of others. To leave a whole stage is a step, so where a stage begins the budget is asked
+/// first.
 #[tactic(auto, unfolding(crate::specs::Stages::trials_ahead))]
 fn advance_set(
     sides: &Sides<'_>,
@@ -450,11 +451,10 @@ fn put_set(sides: &Sides<'_>, state: &SearchState, numbers: &mut Numbers)
     put_moved_in(sides, ins, numbers);
 }
 
-/// The sets of `k` numbers of a pool, in the order of exchanges between the original set, which is the first `k`
-/// numbers, and the others (C.04.3 D.2): fewer numbers exchanged first; then the smaller difference between the sum of
-/// the numbers moved in and the sum of those moved out; then those moved out compared from the highest, the higher
-/// first; then those moved in compared from the lowest, the lower first. It takes no memory. A step is one place tried
-/// for a number moved out or moved in.
+/// The sets of `k` numbers of a pool in the order of exchanges (C.04.3 D.2). The original set is the first `k` numbers.
+/// Fewer exchanged numbers come first; then the smaller difference between the sum of the numbers moved in and the sum
+/// of those moved out; then the higher numbers moved out, compared from the highest; then the lower numbers moved in,
+/// compared from the lowest. It takes no memory. A step is one place tried for a number moved out or moved in.
 #[derive(Drop)]
 pub struct Exchanges {
     pool: Numbers,
@@ -497,7 +497,7 @@ impl Exchanges {
         sets
     }
 
-    /// The same from a set on. Each of its places that is tried again costs a step.
+    /// The sets of `k` numbers of a pool from a set on. Each of its places that is tried again costs a step.
     pub fn from(pool: &[u16], k: usize, set: &[u16]) -> Exchanges
         requires ascends { IsStrictlyIncreasing pool.now }
         requires few { length pool.now ≤ LIMIT }

@@ -212,7 +212,8 @@ impl LimboExchanges {
         sets
     }
 
-    /// The same from a set on. Each of its places that is tried again costs a step.
+    /// The sets of `k` of the players with these scores from a set on. Each of its places that is tried again costs a
+    /// step.
     pub fn from(scores: &[u16], k: usize, set: &[u16]) -> LimboExchanges
         requires descends { IsNonAscending scores.now }
         requires few { length scores.now ≤ LIMIT }

@@ -1,6 +1,6 @@
 // The path of a search, specified by a list of numbers. Each number has a mark, so that it need not be looked for in
-// the path at each trial. A mark is flipped, and not set, when its number is put behind the path or taken back: so it is
-// right whatever the search puts there, also where a number comes twice.
+// the path at each trial. A mark is flipped, and not set, when its number is put behind the path or taken back: so it
+// is right whatever the search puts there, also where a number comes twice.
 ghost use Rattle.std.specs.Prelude.{◌≡◌, ◌+◌, ◌*◌, ◌<◌, ℕ, [], ◌∷◌, ◌++◌, length, not, if◌then◌else◌, ◌==◌, eqb};
 ghost use Rattle.std.specs.List.{list_any};
 ghost use Rattle.std.specs.Option.{MatchOption};

@@ -30,8 +30,8 @@ fn put_over(pool: &[u16], path: &[u16], numbers: &mut [u16])
     }
 }
 
-/// Fills a list anew with the numbers at places of a pool. The list mostly has as many already, those of the path before:
-/// to write over them costs less than to clear the list and to push each.
+/// Fills a list anew with the numbers at places of a pool. The list mostly has as many already, those of the path
+/// before: to write over them costs less than to clear the list and to push each.
 fn pick(pool: &[u16], path: &[u16], numbers: &mut Numbers)
     requires within { AllByRecursion (λ place. place < length pool.now) path.now }
     requires few { length path.now ≤ LIMIT }
@@ -81,7 +81,7 @@ pub struct Meeting<'s> {
     pub ghost few: { length pool.now ≤ LIMIT },
 }
 
-/// The same, with the rule that says who may meet.
+/// First players, the pool from which each gets an opponent, and the rule that says who may meet.
 #[derive(Drop)]
 struct Opponents<'a, R> {
     first: &'a Numbers,
@@ -182,8 +182,8 @@ impl<'a, R: Rule> Transpositions<'a, R> {
         lists
     }
 
-    /// The same from a tuple of the pool on, whether the rule allows it or not. Each of its numbers that is tried again
-    /// costs a step.
+    /// The transpositions from a tuple of the pool on, whether the rule allows it or not. Each of its numbers that is
+    /// tried again costs a step.
     pub fn from(first: &[u16], pool: &[u16], rule: &'a R, tuple: &[u16]) -> Transpositions<'a, R>
         requires ascends { IsStrictlyIncreasing pool.now }
         requires few_first { length first.now ≤ LIMIT }

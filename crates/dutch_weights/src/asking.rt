@@ -31,7 +31,7 @@ pub struct Matched {
     pub next: Vec<Pair>,
 }
 
-/// Whoever is in a pair in all arrangements is left over at so many times what is more than any weight.
+/// To leave over a player who is in a pair in all arrangements costs so many times what is more than any weight.
 const NEVER_LEFT: u32 = 2048;
 
 /// A table to be checked, and the matching that it comes with.
@@ -41,7 +41,7 @@ struct Proposal {
     matched: Matched,
 }
 
-/// Where more is asked for: in the arrangements of a scope, behind some pairs by number.
+/// Where a floor is asked for: in the arrangements of a scope, behind some pairs by number.
 #[derive(Clone, Copy)]
 pub struct FloorRequest<'s> {
     pub scope: &'s Scope,
@@ -56,14 +56,14 @@ pub struct Bars {
 }
 
 impl Bars {
-    /// To be beyond one of them is enough.
+    /// Yes if a weight is beyond one of the bars: that is enough.
     fn are_passed(&self, weight: Wide) -> bool {
         self.aim.is_some_and(|bar| bar.is_passed(weight))
             || self.kept.is_some_and(|bar| bar.is_passed(weight))
     }
 }
 
-/// The pairs of a matching by number, each once: those of the bracket, or those that are not.
+/// The pairs of a matching by number, each once: those of the bracket if `inside`, else the others.
 fn made_pairs(
     graph: &UnpairedGraph<'_, '_>,
     partners: &[Option<u16>],
@@ -84,7 +84,7 @@ fn made_pairs(
     Ok(pairs)
 }
 
-/// What a matching of players tells; none if a sum does not fit.
+/// The table that the certificate of a matching gives, and the pairs of the matching; none if a sum does not fit.
 fn proposed_by(
     alloc: Global,
     graph: &UnpairedGraph<'_, '_>,
@@ -102,8 +102,8 @@ fn proposed_by(
     Ok(Some(Proposal { table, matched }))
 }
 
-/// What a cheapest matching of a graph tells, over all numbers up to a last one; none if nothing was found, or memory
-/// was refused.
+/// Looks for a cheapest matching of a graph. It answers the table that its certificate gives for all numbers up to a
+/// last one, and its pairs; none if nothing was found, or memory was refused.
 fn proposed_in(
     alloc: Global,
     graph: &UnpairedGraph<'_, '_>,
@@ -121,8 +121,8 @@ fn proposed_in(
     }
 }
 
-/// The resident at a place among those who are in none of some pairs, counted from 1; none if it is no place, or the
-/// last one.
+/// The resident at a place, counted from 1, among those who are in none of some pairs; none if there is no such place,
+/// or if it is that of the bracket's last number.
 fn nth_resident(mdps: usize, count: usize, pairs: &[Pair], place: usize) -> Option<usize>
     requires { count ≤ LIMIT }
 {
@@ -144,8 +144,8 @@ impl<'a> WeightFloors<'a> {
         Wide::power_of_two(u32::try_from(self.weighing.scale().width()).ok()?)
     }
 
-    /// What being left over costs beside half of a weight: more than any weight, so that as many pairs are made as can
-    /// be; nothing where C.7 is measured, since there the weights tell of it.
+    /// What it costs to be left over, on top of half of a weight: more than any weight, so that as many pairs are made
+    /// as can be; nothing where C.7 is measured, since there the weights tell of it.
     fn left_over_cost(&self) -> Option<LeftOverCost> {
         let most = self.above_weights()?;
         let never = most.times(NEVER_LEFT)?;
@@ -157,8 +157,8 @@ impl<'a> WeightFloors<'a> {
         Some(LeftOverCost { cost, never })
     }
 
-    /// The table that a cheapest matching of the players who are in none of some pairs gives, for the arrangements of a
-    /// scope, to be checked; none if nothing was found, or memory was refused.
+    /// Looks for a cheapest matching of the players who are in none of the pairs, for the arrangements of the scope. It
+    /// answers the table to be checked, and the matching; none if nothing was found, or memory was refused.
     fn propose(
         &self,
         request: &FloorRequest<'_>,
@@ -182,7 +182,7 @@ impl<'a> WeightFloors<'a> {
         proposed_in(self.weighing.context().alloc(), &graph, self.size(), left)
     }
 
-    /// Looks for a cheapest matching of the players who are in none of some pairs, and keeps the floor that its
+    /// Looks for a cheapest matching of the players who are in none of the pairs, and keeps the floor that its
     /// certificate gives. It answers the matching; none if nothing was confirmed, or memory was refused.
     fn ask_with(
         &mut self,
@@ -208,7 +208,8 @@ impl<'a> WeightFloors<'a> {
         }
     }
 
-    /// The same where nothing is added for the order of S1R.
+    /// Asks for a floor to which nothing is added for the order of S1R. It answers the matching; none if nothing was
+    /// confirmed, or memory was refused.
     pub fn ask(
         &mut self,
         request: &FloorRequest<'_>,
@@ -222,7 +223,7 @@ impl<'a> WeightFloors<'a> {
         self.ask_with(request, order, budget)
     }
 
-    /// By the last floor alone: all candidates with the pairs are behind one of the bars. A no says nothing.
+    /// Yes if all candidates with the pairs are beyond one of the bars, by the last floor alone. A no says nothing.
     fn rules_out(&self, pairs: &[Pair], bars: &Bars) -> bool {
         let Some(last) = self.floors.last() else {
             return false;
@@ -241,8 +242,8 @@ impl<'a> WeightFloors<'a> {
         }
     }
 
-    /// Asks behind so many of the pairs where a walk is stuck, and where that is ruled out, behind fewer, until it is
-    /// known how many are not ruled out. That number is answered.
+    /// Asks for floors where a walk is stuck: first behind so many of its pairs; while these are ruled out, behind
+    /// fewer, and then more or fewer, until it is known how many are not ruled out. It answers that number.
     fn ask_behind(
         &mut self,
         stuck: &Stuck<'_>,
@@ -274,8 +275,8 @@ impl<'a> WeightFloors<'a> {
         Ok(sound)
     }
 
-    /// The order of the S1R behind the pairs of an S1 and its S2 (D.2); none if there is no choice of S1R, or no room
-    /// for it below the weights.
+    /// What the order of S1R adds behind the pairs of an S1 and its S2 (D.2); none if there is no choice of S1R, or no
+    /// room for the order below the weights.
     fn order_behind(&self, front: &[Pair]) -> Option<Order> {
         let context = self.weighing.context();
         let mdps = context.reached().mdps();
@@ -290,7 +291,7 @@ impl<'a> WeightFloors<'a> {
         Order::by_exchanges(context.alloc(), &halves).unwrap_or(None)
     }
 
-    /// Asks for a floor that counts the order of S1R where a walk has chosen all of S2, once behind each. A no says
+    /// If a walk has chosen all of S2, asks for a floor that counts the order of S1R: once behind each S2. A no says
     /// that nothing was asked.
     fn tell_order(
         &mut self,
@@ -322,8 +323,8 @@ impl<'a> WeightFloors<'a> {
         Ok(true)
     }
 
-    /// Tells a walk more that is stuck at the beginning with some pairs, among the arrangements of a scope. It takes no
-    /// more than the steps that it counts.
+    /// Asks for floors where a walk is stuck: behind the pairs of its beginning, or the first of them, in the
+    /// arrangements of a scope. It takes no more steps than it counts.
     pub fn tell_more(
         &mut self,
         stuck: &FloorRequest<'_>,

@@ -1,9 +1,9 @@
 // Tables for the check, made of the certificate that comes with a cheapest matching (C.04.3 C.6 to C.19).
 //
-// The certificate is of the players who are in none of some pairs; in the table all players stand over whom the
-// matching goes. Whoever is in one of the pairs has a potential of 0, while all others have more, and pairs are given
-// more. So nothing is wanted of the pairs that those players make with others, and what the known pairs add is all that
-// they cost. Nobody relies on a table that was not checked.
+// The certificate is of the players who are in none of some known pairs. In the table stand all players over whom
+// matchings can go. Whoever is in a known pair has a potential of 0 there; all others have more than in the
+// certificate, and each pair is given more. So nothing is demanded of pairs of a player in a known pair with others,
+// and a known pair adds all that it costs. Nobody relies on a table that was not checked.
 ghost use Rattle.std.specs.Prelude.{◌<◌};
 
 use crate::unpaired_graph::UnpairedGraph;
@@ -58,8 +58,8 @@ fn sets(
     Ok(all)
 }
 
-/// A potential for each number up to the last one, by those of the vertices and so much more; 0 for whoever is no
-/// vertex.
+/// A potential for each number up to the last one: that of the vertex with the greatest potential on top, and 0 for
+/// whoever is no vertex.
 fn potentials(
     alloc: Global,
     graph: &UnpairedGraph<'_, '_>,
@@ -84,7 +84,8 @@ fn given(certificate: &Table, more: Wide) -> Option<Wide> {
     certificate.given.plus(more)?.plus(more)
 }
 
-/// The same of one who is left over, who is also given twice what that costs beside half of the weight.
+/// What one who is left over is given, where each vertex has so much more, with twice what it costs to be left over on
+/// top of half of the weight; none if it does not fit.
 fn given_left(certificate: &Table, more: Wide, alone: Wide) -> Option<Wide> {
     certificate.given_left.plus(more)?.plus(alone)?.plus(alone)
 }

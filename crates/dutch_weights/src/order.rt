@@ -1,6 +1,6 @@
-// What the numbers of a bracket add to what an arrangement costs, if they are in S1R, and the most that those of an S1R
-// add of which is known how it differs from the original one (C.04.3 D.2). So a floor of costs tells of places in the
-// order of D.2 as well.
+// What each number of a bracket adds to the cost of an arrangement if it is in S1R (C.04.3 D.2): so a floor of costs
+// tells of places in the order of D.2 too. And the most that the members of an S1R add, if it is known how it differs
+// from the original one.
 ghost use Rattle.std.specs.Prelude.{◌≡◌, ℕ, ◌+◌, ◌*◌, ◌<◌, ◌≤◌, ◌^◌, if◌then◌else◌, List, [], All, IfOk, IfSome};
 ghost use Rattle.std.specs.Prelude.{min, sum_by, true};
 ghost use Rattle.std.specs.Option.{SomeIff};
@@ -14,16 +14,16 @@ use dutch_weighing::bits_for;
 use std::alloc::{AllocError, Global};
 use std::marker::Model;
 
-/// What each number of a bracket adds where it is in S1R (C.04.3 D.2): so many units for each number, and for each
-/// number something more.
+/// What each number of a bracket adds if it is in S1R (C.04.3 D.2): as many units as the number says, and something on
+/// top.
 #[derive(Drop)]
 pub(crate) struct Order {
     unit: Wide,
-    // of each number, from 1 on
+    // what each number adds on top, from 1 on
     more: Vec<Wide>,
     // what each of the first numbers adds, from 1 on: a walk asks for it again and again
     table: Vec<Wide>,
-    // no number has more
+    // no number adds more on top
     top: Wide,
 }
 
@@ -39,13 +39,13 @@ impl Model for Order {
         × AreAdded (record { unit = o.unit; more = o.more.items }) o.table.items };
 }
 
-/// The two halves of a bracket's residents, by which their numbers are given what they add. The upper one is the
-/// original S1R where nobody above its end is in S2.
+/// The two halves of a bracket's residents, by which it is told what each of their numbers adds. The upper half is the
+/// original S1R if nobody of it is in S2.
 #[derive(Clone, Copy)]
 pub(crate) struct Halves {
-    // so many numbers there are
+    // how many numbers there are
     count: u32,
-    // so many of them are moved-down players, who are never in S1R
+    // how many of them are moved-down players, who are never in S1R
     mdps: u32,
     // the last number of the upper half
     half: u32,
@@ -115,7 +115,7 @@ impl Order {
         self.unit == Wide::zero() && self.more.is_empty()
     }
 
-    /// What is more of a number.
+    /// What a number adds on top.
     fn order_bonus(&self, number: u16) -> Wide
         ensures { result ≡ more_of self.now number }
     {
@@ -127,7 +127,7 @@ impl Order {
         }
     }
 
-    /// What no number has more than.
+    /// The most that a number adds on top.
     fn top(&self) -> Wide
         ensures { (x : ℕ) → more_of self.now x ≤ result }
     {
@@ -200,7 +200,7 @@ impl Order {
 }
 
 impl Order {
-    /// The most that a number of the original S1R adds beside its units, if these are not in S1R.
+    /// The most that a number of the original S1R adds on top of its units, if the barred ones are not in S1R.
     fn more_kept(&self, barred: &[u16], number: u16) -> Wide
         ensures { result ≡ (if is_member number barred.now then 0 else more_of self.now number) }
     {
@@ -211,7 +211,7 @@ impl Order {
         }
     }
 
-    /// The most that a number of the original S1R adds, if these are not in S1R; none if it does not fit.
+    /// The most that a number of the original S1R adds, if the barred ones are not in S1R; none if it does not fit.
     fn kept(&self, barred: &[u16], number: u16) -> Option<Wide>
         ensures { IfSome result (λ n. n ≡ kept self.now barred.now number) }
     {
@@ -219,7 +219,7 @@ impl Order {
         units.plus(self.more_kept(barred, number))
     }
 
-    /// The most that the original S1R adds, if these are not in S1R; none if it does not fit.
+    /// The most that the original S1R adds, if the barred ones are not in S1R; none if it does not fit.
     fn all_kept(&self, original: &[u16], barred: &[u16]) -> Option<Wide>
         ensures { IfSome result (λ n. n ≡ sum_by (kept self.now barred.now) original.now) }
     {
@@ -230,7 +230,7 @@ impl Order {
         Some(sum)
     }
 
-    /// By how much a number has less than the most, if it is held.
+    /// By how much less than the most a number adds on top, if it is held; 0 if it is not.
     fn short_of(&self, top: Wide, held: &[u16], number: u16) -> Option<Wide>
         ensures { IfSome result (λ n. n ≡ short_of self.now top held.now number) }
     {
@@ -241,7 +241,7 @@ impl Order {
         }
     }
 
-    /// By how much all of the others who are held have less than the most; none if it does not fit.
+    /// By how much less than the most all of the others who are held add on top; none if it does not fit.
     fn all_short(&self, top: Wide, others: &[u16], held: &[u16]) -> Option<Wide>
         ensures { IfSome result (λ n. n ≡ sum_by (short_of self.now top held.now) others.now) }
     {
@@ -252,11 +252,11 @@ impl Order {
         Some(sum)
     }
 
-    /// The most that the members of an S1R add that is such an exchange; none if it does not fit.
+    /// The most that the members of an S1R add, if it is such an exchange; none if it does not fit.
     ///
-    /// Its units are those of the original S1R and of the difference. Beside them each member of the original S1R who
-    /// is not barred adds what is more of it, and each of the others the most that any has, or what it has itself if it
-    /// is held.
+    /// Its units are those of the original S1R and of the difference. On top of them come: of each member of the
+    /// original S1R who is not barred, what it adds on top; of each one moved in, the most that any number adds on top,
+    /// or if it is held, what it adds itself.
     pub(crate) fn most(&self, exchange: &Exchange<'_>) -> Option<Wide>
         ensures { IfSome result (λ n. (s1r : List ℕ) → IsExchange exchange.now s1r → sum_by (added self.now) s1r ≤ n) }
     {
@@ -270,8 +270,8 @@ impl Order {
 }
 
 impl Halves {
-    /// So many numbers, so many of them of moved-down players, and the last one of the upper half; none if there are
-    /// too many, or if they do not follow each other so.
+    /// The halves of so many numbers, of which so many are moved-down players; `half` is the last one of the upper
+    /// half. None if there are too many numbers, or if `half` is no resident's number.
     pub(crate) fn new(count: usize, mdps: usize, half: usize) -> Option<Halves> {
         if mdps < half && half <= count && count <= LIMIT {
             Some(Halves {
@@ -284,7 +284,7 @@ impl Halves {
         }
     }
 
-    /// So many bits have room for each number.
+    /// How many bits a number takes.
     fn bits(&self) -> u32
         ensures { result ≤ 11 }
     {
@@ -298,14 +298,14 @@ impl Halves {
         self.count - self.half
     }
 
-    /// So many bits have room for all that tells the members of the lower half apart.
+    /// How many bits tell the members of the lower half apart.
     fn lower_bits(&self) -> u32
         ensures { result ≤ 1035 }
     {
         self.lower() + self.bits()
     }
 
-    /// So many bits have room for all that tells the members of both halves apart.
+    /// How many bits tell the members of both halves apart.
     fn fine_bits(&self) -> u32
         ensures { result ≤ 2060 }
     {
@@ -317,15 +317,15 @@ impl Halves {
         3 * self.bits() + 2 + self.fine_bits()
     }
 
-    /// What is more of a number of the upper half: the higher ones have more, since D.2 moves them out first.
+    /// What a number of the upper half adds on top. Higher numbers add more, since D.2 moves them out first.
     fn more_of_upper(&self, number: u32) -> Option<Wide>
         requires { number ≤ 1024 }
     {
         Wide::power_of_two(number.saturating_sub(self.mdps) + self.lower_bits())
     }
 
-    /// What is more of a number of the lower half: for each of them as much as no difference of sums comes to, since
-    /// D.2 goes by the number of players exchanged first; and the lower ones have less, since D.2 moves them in first.
+    /// What a number of the lower half adds on top. It is more than any difference of sums, since D.2 looks at the
+    /// number of exchanged players first. Lower numbers add less, since D.2 moves them in first.
     fn more_of_lower(&self, number: u32) -> Option<Wide> {
         let entered = Wide::power_of_two(2 * self.bits() + 2 + self.fine_bits())?;
         let most = Wide::power_of_two(self.lower() + 1)?;
@@ -333,7 +333,7 @@ impl Halves {
         entered.plus(most)?.minus(less)
     }
 
-    /// What is more of a number.
+    /// What a number adds on top.
     fn order_bonus(&self, number: u32) -> Option<Wide> {
         if number <= self.mdps {
             Some(Wide::zero())
@@ -344,7 +344,7 @@ impl Halves {
         }
     }
 
-    /// What is more of each number, from 1 on; none if it does not fit.
+    /// What each number adds on top, from 1 on; none if it does not fit.
     fn all_bonuses(&self, alloc: Global) -> Result<Option<Vec<Wide>>, AllocError> {
         let mut all = Vec::new(alloc);
         for above in 0..self.count {
@@ -358,8 +358,8 @@ impl Halves {
 }
 
 impl Order {
-    /// What numbers add, so that of two S1R the one that D.2 takes first adds less, where the upper half is the
-    /// original S1R; none if it does not fit. Bounds hold whatever is added: this makes them say the most.
+    /// What numbers have to add so that of two S1R the one that D.2 takes first adds less, if the upper half is the
+    /// original S1R; none if it does not fit. Floors hold whatever is added; so they say the most.
     pub(crate) fn by_exchanges(
         alloc: Global,
         halves: &Halves,

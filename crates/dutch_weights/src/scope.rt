@@ -1,8 +1,8 @@
 // Which arrangements of a bracket a floor is for (C.04.3 B.3, B.6, B.7): all of them, those with an S1, or those with
 // an S1 and an S1R.
 //
-// Behind an S1 no other moved-down player is in a pair. Behind an S1R each pair of residents is one of a member and one
-// of another resident. So fewer pairs are possible than in all arrangements, and a floor can be higher.
+// Behind an S1 no other moved-down player is in a pair. Behind an S1R each pair of residents has one in S1R and one
+// outside of it. So fewer pairs are possible than in all arrangements, and a floor can be higher.
 ghost use Rattle.std.specs.Prelude.{◌≡◌, ◌<◌, ◌≤◌, IfSome, true};
 ghost use Rattle.dutch_arrangements.specs.declared.prefix.Filling.TheVariants.{S2r};
 ghost use Rattle.dutch_bracket.specs.Beginnings.{has_s1};
@@ -51,7 +51,7 @@ impl Standing {
         }
     }
 
-    /// Yes if one who stands so may be in no pair. Those of S1 and of S1R are each in one.
+    /// Yes if one who stands so may be in no pair. Members of S1 and of S1R are each in one.
     pub fn may_stay(self) -> bool
         ensures { result ≡ may_stay self }
     {

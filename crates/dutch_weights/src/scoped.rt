@@ -4,11 +4,11 @@
 // players (C.4). There the matchings go over these too. Whoever goes down is paired out in them, and weighs what a
 // downfloater does; lower players weigh nothing.
 //
-// In an ordinary bracket they can go over the next lower scoregroup (C.7). There those who go down meet its members,
-// and what is in no pair, and the differences, weigh by the digits of C.7.
+// In an ordinary bracket the matchings can go over the next lower scoregroup too (C.7). There those who go down meet
+// its members; whoever is in no pair then weighs by the digits of C.7, and so do the differences.
 //
-// Where something is wished, the bracket's pairs and those left over are those that fit the wish alone. So the floor is
-// one for candidates that grant it.
+// Where something is wished, a matching has only such pairs of the bracket, and leaves over only such players, as fit
+// the wish. So the floor is for candidates that grant it.
 ghost use Rattle.std.specs.Prelude.{◌≡◌, ◌+◌, ◌<◌, ◌≤◌, ◌^◌, true, All, IfOk, IfSome, length, min, slice_index};
 ghost use Rattle.std.specs.Prelude.{if◌then◌else◌, nat_lt};
 ghost use Rattle.dutch_sequence.specs.declared.numbers.TheConstants.{LIMIT};
@@ -45,7 +45,8 @@ pub enum Reach {
 }
 
 impl Reach {
-    /// What is kept of a floor: nothing for those left over where who goes down may be in a pair of a matching.
+    /// What is kept of a floor. If the matchings go over lower players too, those who go down may be in a pair of a
+    /// matching: then players left over add nothing.
     pub(crate) fn kept(self, floor: Floor) -> Floor
         ensures { result ≡ kept_by self floor }
     {
@@ -188,9 +189,9 @@ impl<'a, 'b> Scoped<'a, 'b> {
         numbered_from(1, self.size())
     }
 
-    /// The floor of a certificate by its matchings: by those of the bracket alone that leave so many over, with all
-    /// lower players by those that leave one over at most, and with the next lower scoregroup by all. None says that
-    /// the certificate gives no floor.
+    /// The floor that a certificate gives for matchings: over the bracket alone, for those that leave so many over;
+    /// with all lower players, for those that leave over one at most; with the next lower scoregroup, for all. None
+    /// says that the certificate gives no floor.
     pub(crate) fn floor(&self, table: &Table, left: usize) -> Result<Option<Floor>, AllocError>
         requires { left ≤ length self.now.weighing.reached.seats }
         ensures { IfOk result (λ found. IfSome found (IsFloorBy self.now.reach self.now left)) }
@@ -239,7 +240,7 @@ impl<'a, 'b> Scoped<'a, 'b> {
         self.weighing.context().reached().mdps() < usize::from(number)
     }
 
-    /// 0, which is nobody's number, is inside too.
+    /// Yes if a number is one of the bracket. (0, which is nobody's number, counts as one too.)
     fn is_inside(&self, number: u16) -> bool
         ensures { result ≡ is_inside self.now number }
     {
@@ -260,7 +261,7 @@ impl<'a, 'b> Scoped<'a, 'b> {
         self.are_joined(a, b) && self.weighing.may_meet(a, b)
     }
 
-    /// Lower players count as going down.
+    /// Yes if a number may be one who goes down. (Lower players count as going down too.)
     fn goes_down(&self, number: u16) -> bool
         ensures { result ≡ goes_down self.now number }
     {
@@ -317,7 +318,7 @@ impl<'a, 'b> Scoped<'a, 'b> {
         }
     }
 
-    /// What two of the bracket cost as a pair.
+    /// What two of the bracket weigh as a pair, with what the order adds if both are residents.
     fn ordered(&self, a: u16, b: u16) -> Wide
         requires first { IsNumber self.now.weighing.reached a }
         requires second { IsNumber self.now.weighing.reached b }
@@ -337,14 +338,14 @@ impl<'a, 'b> Scoped<'a, 'b> {
         self.is_inside(a) && self.is_inside(b)
     }
 
-    /// The numbers of the next lower scoregroup stand behind those of the bracket, and both count.
+    /// Yes if a number is one of the bracket, or one of the next lower scoregroup, which stand behind those.
     fn is_number_below(&self, a: u16) -> bool
         ensures { result ≡ is_number_below self.now.weighing a }
     {
         0 < a && usize::from(a) <= self.weighing.context().len_below()
     }
 
-    /// C.1 and C.3 hold in the next bracket too (C.7).
+    /// Yes if two may meet in the next bracket (C.7): both may be there, and C.1 and C.3 allow it.
     fn may_meet_below(&self, a: u16, b: u16) -> bool
         ensures { result ≡ may_meet_below self.now a b }
     {

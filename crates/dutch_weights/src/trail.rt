@@ -8,8 +8,8 @@ use crate::scope::Scope;
 use dutch_bracket::seated::Pair;
 use std::alloc::{AllocError, Global};
 
-/// The pairs of a beginning by number, and behind how many of them a floor was asked for that did not rule them out.
-/// And for which arrangements it was asked, when, and in how many steps.
+/// The beginning where a floor was asked for last: its scope, its pairs by number, and how many of them a floor did not
+/// rule out. And when that floor was asked for, and how many steps it took.
 #[derive(Drop)]
 pub(crate) struct Trail {
     scope: Scope,
@@ -21,8 +21,8 @@ pub(crate) struct Trail {
     ordered: Option<Vec<Pair>>,
 }
 
-/// Pairs behind which a floor is to be asked for in the arrangements of a scope, and how many of them are known not to
-/// be ruled out.
+/// The pairs of a beginning, in the arrangements of a scope: a floor is to be asked for behind so many of them
+/// (`depth`), and a floor did not rule out so many (`sound`).
 #[derive(Clone, Copy)]
 pub(crate) struct Stuck<'s> {
     pub(crate) scope: &'s Scope,
@@ -65,14 +65,14 @@ impl Trail {
         }
     }
 
-    /// How many steps a walk still makes before it is told more, that has made so many: the more, the dearer the last
-    /// answer was.
+    /// How many steps a walk that has made so many still makes before a floor is asked for. The more steps the last
+    /// floor took, the more these are.
     pub(crate) fn patience(&self, players: usize, made: u64) -> u64 {
         let steps = (self.steps / 16).max(players as u64);
         self.told_at.saturating_add(steps).saturating_sub(made)
     }
 
-    /// Only the pairs of S1 and S2 behind which the order of S1R was asked for last are kept.
+    /// Yes if the order of S1R was asked for last behind these pairs of S1 and S2. (Earlier ones are not kept.)
     pub(crate) fn knows_order_behind(&self, pairs: &[Pair]) -> bool {
         match &self.ordered {
             Some(ordered) => ordered.as_slice() == pairs,
@@ -100,8 +100,9 @@ impl Trail {
         }
     }
 
-    /// Where a walk through the arrangements of a scope is stuck that is at the beginning with these pairs: behind
-    /// those that stood since it was told last. If that is where it was told, it is to be told one pair further on.
+    /// Where a walk that is at the beginning with these pairs, in the arrangements of a scope, is stuck: behind those
+    /// of the pairs that have not changed since a floor was asked for last. If that floor was asked for just there, the
+    /// next one is asked for one pair further on.
     pub(crate) fn stuck_at<'s>(&self, scope: &'s Scope, pairs: &'s [Pair]) -> Stuck<'s> {
         let stood = common(&self.pairs, pairs);
         let sound = if stood < self.asked { 0 } else { self.asked };
@@ -119,8 +120,8 @@ impl Trail {
         }
     }
 
-    /// Goes on from where a walk is, behind so many of whose pairs a floor did not rule them out. (Where memory is
-    /// refused, it is as if the walk had not been told.)
+    /// Notes the pairs of the beginning where a walk is, and how many of them a floor did not rule out. (Where memory
+    /// is refused, it is as if no floor had been asked for.)
     pub(crate) fn go_on(&mut self, pairs: &[Pair], asked: usize) {
         self.asked = 0;
         self.pairs.clear();
@@ -132,7 +133,7 @@ impl Trail {
         self.asked = asked;
     }
 
-    /// Notes that a walk was told more between two numbers of steps.
+    /// Notes that floors were asked for between two numbers of steps.
     pub(crate) fn note(&mut self, from: u64, to: u64) {
         self.told_at = to;
         self.steps = to.saturating_sub(from);

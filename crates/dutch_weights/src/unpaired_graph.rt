@@ -1,9 +1,10 @@
-// The players of a bracket, and all lower ones or those of the next lower scoregroup too, who are in none of some
-// pairs, as a graph with costs, for whoever looks for a cheapest matching of them (C.04.3 C.4, C.6 to C.19).
+// A graph with costs, of which a cheapest matching is looked for (C.04.3 C.4, C.6 to C.19). Its vertices are the
+// players of a bracket, perhaps with all lower ones or with the next lower scoregroup, but without those who are in
+// some known pairs.
 //
-// A pair costs half of what it weighs: whoever looks for the matching counts all costs twice. Whoever is left over
-// costs so much more that as many pairs are made as can be, or no more where the weights tell of the next bracket
-// (C.7); and far more whoever is in a pair in all arrangements that are looked at.
+// A pair costs half of what it weighs: whoever looks for the matching counts all costs twice. To be left over costs
+// something on top, so that as many pairs are made as can be; nothing where the weights tell of the next bracket (C.7).
+// It costs far more to leave over a player who is in a pair in all arrangements that are looked at.
 ghost use Rattle.std.specs.Prelude.{◌≡◌, ◌≤◌, All, IfOk, length};
 ghost use Rattle.dutch_sequence.specs.declared.numbers.TheConstants.{LIMIT};
 ghost use Rattle.dutch_weights.specs.ScopedCosts.{IsReached};
@@ -15,8 +16,8 @@ use dutch_bracket::seated::Pair;
 use std::alloc::AllocError;
 use std::marker::Model;
 
-/// What it costs to be left over, beside half of the weight, and what it costs whoever is in a pair in all
-/// arrangements.
+/// What it costs to be left over, on top of half of the weight; and what it costs to leave over a player who is in a
+/// pair in all arrangements.
 #[derive(Clone, Copy)]
 pub(crate) struct LeftOverCost {
     pub(crate) cost: Wide,
@@ -49,7 +50,7 @@ pub fn is_in(pairs: &[Pair], number: u16) -> bool {
         .any(|pair| pair.0 == number || pair.1 == number)
 }
 
-/// The numbers over which the matchings go that are in none of some pairs.
+/// The numbers of those over whom the matchings go and who are in none of some pairs.
 fn numbers_beside(scoped: &Scoped<'_, '_>, pairs: &[Pair]) -> Result<Vec<u16>, AllocError>
     ensures inside { IfOk result (λ numbers. All (IsReached scoped.now) numbers.items) }
     ensures few { IfOk result (λ numbers. length numbers.items ≤ LIMIT) }
@@ -90,7 +91,7 @@ impl<'a, 'b> UnpairedGraph<'a, 'b> {
         self.scoped.may_pair(a, b)
     }
 
-    /// What it costs to be left over, beside half of the weight.
+    /// What it costs to be left over, on top of half of the weight.
     pub(crate) fn left_over_cost(&self) -> Wide {
         self.left_over.cost
     }

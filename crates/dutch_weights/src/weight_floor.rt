@@ -30,11 +30,12 @@ use std::marker::Model;
 /// So many floors are kept. Each is asked at each beginning.
 const KEPT: usize = 4;
 
-/// The matchings go over lower players too only if all together are no more than so many: each floor takes steps with
-/// the square of their number.
+/// The matchings go over all lower players too only if all together are no more than so many: the steps of a floor grow
+/// with the square of their number.
 const MOST_REACHED: usize = 400;
 
-/// Weights with so many bits leave room for what a matching of all players comes to.
+/// Weights of at most so many bits leave room for their sum over all players, for twice that sum, and for what it costs
+/// to be left over.
 const MOST_BITS: usize = 482;
 
 /// What a quality weighs, and what all with a higher PSD weigh at least.
@@ -158,7 +159,7 @@ fn bound_behind(floor: &Floor, mdps: usize, prefix: &Prefix<'_>) -> Option<Wide>
 }
 
 impl ScopedFloor {
-    /// At most so much of what the floor says behind a beginning is of the order; none if that is not known.
+    /// How much of what the floor says behind a beginning is added by the order at most; none if that is not known.
     #[tactic(auto, using(crate::proofs::D02Orders::nothing_added))]
     fn of_order(&self, prefix: &Prefix<'_>) -> Option<Wide>
         ensures { IfSome result (IsMostAdded self.now.order prefix.now) }
@@ -173,7 +174,7 @@ impl ScopedFloor {
     }
 }
 
-/// Lets the floor go that counts an order, if there is one.
+/// Drops the floor that counts an order, if there is one.
 fn drop_ordered(floors: &mut Vec<ScopedFloor>)
     ensures { (w : Weighed) → All (IsWeightFloor w) floors.old.items → All (IsWeightFloor w) floors.new.items }
 {
@@ -183,7 +184,7 @@ fn drop_ordered(floors: &mut Vec<ScopedFloor>)
     floors.remove(place);
 }
 
-/// Lets the oldest floor go that counts no order, but for the first one, if there is no room for one more.
+/// If there is no room for one more, drops the oldest floor that counts no order, but never the first floor.
 fn drop_oldest(floors: &mut Vec<ScopedFloor>)
     ensures { (w : Weighed) → All (IsWeightFloor w) floors.old.items → All (IsWeightFloor w) floors.new.items }
 {
@@ -246,8 +247,8 @@ fn order_bits(context: &Context<'_>) -> u32 {
     }
 }
 
-/// A scale with digits for C.16 to C.19 and room for the order of S1R (D.2), as far as sums of the weights of all
-/// players fit, those twice over, and what it costs to be left over.
+/// A scale with digits for C.16 to C.19 and room for the order of S1R (D.2), if its weights have at most `MOST_BITS`
+/// bits; else one without that room, or without those digits, or without both.
 fn scale_for(context: &Context<'_>, shape: Shape, next: bool) -> Scale
     ensures { IsScaleHere context.now shape result }
 {
@@ -286,8 +287,8 @@ impl<'a> WeightFloors<'a> {
         }
     }
 
-    /// Weighs a bracket's pairs and downfloaters on a scale for floors of a shape, of which there are none so far; none
-    /// if a weight does not fit. It takes steps with the square of the number of players.
+    /// Weighs a bracket's pairs and downfloaters on a scale, for floors of a shape. No floor is kept yet. None says
+    /// that a weight does not fit. The time grows with the square of the number of players.
     pub(crate) fn read(
         context: &'a Context<'a>,
         shape: Shape,
@@ -303,7 +304,8 @@ impl<'a> WeightFloors<'a> {
         }
     }
 
-    /// The same on a scale with as many digits as there is room for, and with those of C.7 if they are wanted.
+    /// Weighs a bracket's pairs and downfloaters for floors of a shape, on a scale with as many digits as there is room
+    /// for, and with those of C.7 if they are wanted. None says that a weight does not fit.
     #[inline(never)]
     pub fn weighed(
         context: &'a Context<'a>,
@@ -316,12 +318,12 @@ impl<'a> WeightFloors<'a> {
         WeightFloors::read(context, shape, wish, scale_for(context, shape, next))
     }
 
-    /// How many steps a walk still makes before it is told more, that has made so many.
+    /// How many steps a walk that has made so many still makes before a floor is asked for.
     pub fn patience(&self, made: u64) -> u64 {
         self.trail.patience(self.weighing.context().len(), made)
     }
 
-    /// Notes that it was told more between two numbers of steps.
+    /// Notes that floors were asked for between two numbers of steps.
     pub fn note(&mut self, from: u64, to: u64)
         ensures { self.new ≡ self.old }
     {
@@ -452,8 +454,8 @@ impl<'a> WeightFloors<'a> {
         self.least_less(kept, prefix, kept.of_order(prefix)?)
     }
 
-    /// The same behind a beginning of which more is known of the S1R that are to come; none if the floor counts no
-    /// order.
+    /// The bound that the floor at a place gives behind a beginning for candidates with such an S1R; none if there is
+    /// no floor there, if it tells nothing, or if it counts no order.
     pub fn least_with(
         &self,
         place: usize,

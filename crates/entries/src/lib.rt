@@ -9,8 +9,8 @@
 //! For each entry the cells that were put so far are looked through, of which there are at most two for each entry, and
 //! then for each player once more.
 //!
-//! To mind: rounds count from 1, points are half points, and a player is named by a start rank. A call that takes memory
-//! says so if it is refused.
+//! To mind: rounds count from 1, points are half points, and a player is named by a start rank. A call that takes
+//! memory says so if it is refused.
 #![tactic(auto)]
 
 mod all_entries;

@@ -69,7 +69,7 @@ fn cell_with(opponent: u16, score: Option<GameResult>, colour: Colour) -> Cell
     }
 }
 
-// The same of one who has none: it must not have been played.
+// The cell of a game of a player who has no colour: it must not have been played.
 fn cell_without(opponent: u16, score: Option<GameResult>) -> Option<Cell>
     ensures { result ≡ cell_without opponent score }
 {
@@ -83,7 +83,7 @@ fn cell_without(opponent: u16, score: Option<GameResult>) -> Option<Cell>
     }
 }
 
-// The same of one who has a colour or none.
+// The cell of a game of a player who has a colour or none.
 fn cell_of_game(opponent: u16, score: Option<GameResult>, colour: Option<Colour>) -> Option<Cell>
     ensures { result ≡ cell_of_game opponent score colour }
 {

@@ -39,9 +39,9 @@ pub fn entries_for_different_games_commute()
         → entered options (a ∷ b ∷ []) sheet ≡ Ok new → entered options (b ∷ a ∷ []) sheet ≡ Ok new }
 {}
 
-/// The canonical text of a report with entries is accepted, and reads back as that report, by what the pairing-allocated
-/// bye gives in it, unless it is too long: if the points fields are summed, or if the report without the entries was
-/// accepted with them.
+/// The canonical text of a report with entries is accepted, and reads back as that report, by what the
+/// pairing-allocated bye gives in it, unless it is too long: if the points fields are summed, or if the report without
+/// the entries was accepted with them.
 pub fn an_entered_report_is_accepted()
     ensures summed { (bytes : List ℕ) (bye : ℕ) (options : EntryOptions) (entries : List HandEntry) (sheet new : Sheet)
         → bye ≤ 2 → verdict_unsummed bytes bye ≡ Ok sheet → has_other_points sheet ≡ false

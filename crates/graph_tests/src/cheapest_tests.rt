@@ -243,7 +243,8 @@ fn draw_left(alloc: Global, state: &mut u64, some: u32, below: u32) -> Result<Ve
 
 const BOUNDS: [u32; 4] = [2, 4, 12, 1_000];
 
-// The same of a graph of up to eight vertices that looks like a drawn one.
+// How many priced sets a certificate has, as `sets_of` tells, for a graph of up to eight vertices that looks like a
+// drawn one.
 fn sets_of_drawn(alloc: Global, state: &mut u64, turn: usize) -> Result<Option<usize>, Fail> {
     let below = BOUNDS[turn / 5 % 4];
     let costs = draw_costs(alloc, state, 1 + (turn % 4) as u32, below)?;

@@ -1,6 +1,6 @@
-// Tests of the searches of `matching` and `cheapest`: that what they find is as great or as cheap as can be, and that the
-// labels and certificates show it, which no clause says. They stand in a crate of their own, since a crate with tests is
-// proved twice.
+// Tests of the searches of `matching` and `cheapest`: that what they find is as great or as cheap as can be, and that
+// the labels and certificates show it, which no clause says. They stand in a crate of their own, since a crate with
+// tests is proved twice.
 #![tactic(auto)]
 
 #[cfg(test)]

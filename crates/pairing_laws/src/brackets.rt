@@ -74,9 +74,10 @@ pub fn completable_by_test()
         → Completable meets may_be_left players ↔ (can_complete meets may_be_left players ≡ true) }
 {}
 
-/// The most steps that it takes to tell whether n + 2 players are completable. Where nobody may be left out: for each of
-/// the n + 1 partners of the first player the question, and the most steps of the n others. Where somebody may: the same,
-/// and the question about the first player's bye with the most steps of the n + 1 others, none of whom may be left out.
+/// The most steps that it takes to tell whether n + 2 players are completable. Where nobody may be left out: for each
+/// of the n + 1 partners of the first player the question, and the most steps of the n others. Where somebody may: the
+/// same, and the question about the first player's bye with the most steps of the n + 1 others, none of whom may be
+/// left out.
 pub fn most_of_two_more()
     ensures nobody_left { (n : ℕ) → most (n + 2) false ≡ (n + 1) * (1 + most n false) }
     ensures one_left { (n : ℕ) → most (n + 2) true ≡ (n + 1) * (1 + most n true) + (1 + most (n + 1) false) }

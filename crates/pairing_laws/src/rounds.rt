@@ -1,5 +1,5 @@
-// Laws of a round and its boards (C.04.3 A.9, B.8): who stands on a board and in a bracket, in which order boards stand,
-// where two can meet, why no bracket is a dead end, and when a round is paired.
+// Laws of a round and its boards (C.04.3 A.9, B.8): who stands on a board and in a bracket, in which order boards
+// stand, where two can meet, why no bracket is a dead end, and when a round is paired.
 ghost use Rattle.std.specs.Prelude.{◌≡◌, ◌++◌, ◌<◌, ◌≤◌, ◌↔◌, ℕ, List, None, Some, false, true, is_some, length};
 ghost use Rattle.std.specs.List.{find};
 ghost use Rattle.dutch_arrangements.specs.Prelude.{IsIn};

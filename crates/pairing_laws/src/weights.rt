@@ -39,8 +39,9 @@ pub fn the_lighter_is_better()
 {}
 
 /// C.6 to C.19: on a scale that measures the next bracket (C.7), a candidate of an ordinary bracket that grants what is
-/// wished, if something is, weighs no less than a floor says that goes over the next lower scoregroup too, however many
-/// are left over there: its base, and what the pairs of the beginning add, each once, without its debt.
+/// wished, if something is, weighs no less than a floor over the next lower scoregroup too says. The floor has to hold
+/// however many are left over there. It says its base, and what the pairs of the beginning add, each once, less its
+/// debt.
 #[tactic(auto, using(dutch_weights::proofs::C07NextWeights::weighs_more_next))]
 pub fn a_floor_for_the_next_group_bounds_the_weight()
     ensures { (context : Context) (scale : Scale) (scope : Scope) (wish : Option Wish) (order : Order) (shape : Shape)

@@ -34,7 +34,8 @@ pub fn ranked_text(alloc: Global, report: &Report<'_>, keys: &[Key]) -> Result<V
     text_of(alloc, &with_texts(alloc, report, &texts)?)
 }
 
-/// The same of the report with new start ranks: the places are those in its own standings.
+/// The canonical text of the report with new start ranks, with the players' places in columns 86 to 89: those in its
+/// own standings.
 ///
 /// # Errors
 /// Memory was refused.

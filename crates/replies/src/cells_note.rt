@@ -25,7 +25,7 @@ pub(crate) fn cells_note(
     cells_text(alloc, bytes, player, round)
 }
 
-// The same of a round that there can be.
+// What a player's line and that of the opponent hold of a round that there can be.
 fn cells_text(alloc: Global, bytes: &[u8], player: u16, round: usize) -> Result<Vec<u8>, AllocError>
     requires { round ≤ MOST_ROUNDS }
     ensures { IfOk result (λ note. note.items ≡ cells_text bytes.now player round) }

@@ -52,7 +52,7 @@ fn as_it_is(
     }
 }
 
-// The same with its points fields summed, whatever they say.
+// The report as it was read, or as it stood before a round, with its points fields summed, whatever they say.
 fn with_sums(
     alloc: Global,
     options: &FormatOptions,
@@ -70,7 +70,7 @@ fn with_sums(
     }
 }
 
-// The same of a report that was read.
+// A report that was read, with its points fields summed.
 fn with_its_sums(
     alloc: Global,
     options: &FormatOptions,
@@ -112,7 +112,7 @@ fn numbered_as_it_is(
     }
 }
 
-// The same with its players' places, unless it has no standings.
+// A report with its own start ranks and its players' places, unless it has no standings.
 fn ranked(alloc: Global, keys: &Keys, report: &Report<'_>) -> Result<Reply, AllocError>
     ensures { IfOk result (λ reply. answer_of reply ≡ ranked_answer (Some keys.now) report.now report.now) }
 {
@@ -139,7 +139,7 @@ fn renumbered(
     }
 }
 
-// The same with its players' places, unless the report has no standings.
+// A report with new start ranks and its players' places, unless it has no standings.
 fn renumbered_and_ranked(
     alloc: Global,
     keys: &Keys,

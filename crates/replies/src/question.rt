@@ -26,7 +26,7 @@ pub fn question_fault(report: &Report<'_>, question: Option<Question>) -> Option
     instead_fault(report, player, instead)
 }
 
-// The same of one who might have been met; 0 is the bye.
+// What is wrong with the one who is asked for instead; 0 is the bye.
 fn instead_fault(report: &Report<'_>, player: u16, instead: Option<u16>) -> Option<QuestionFault>
     ensures { result ≡ instead_fault report.now player instead }
 {

@@ -54,7 +54,7 @@ fn refusal_note(alloc: Global, fault: Fault, bytes: &[u8], bye: u16) -> Result<V
     }
 }
 
-// The same of a text without the mark of UTF-16.
+// What was found in a text without the mark of UTF-16.
 fn unmarked_note(alloc: Global, fault: Fault, bytes: &[u8], bye: u16) -> Result<Vec<u8>, AllocError>
     requires { bye ≤ 2 }
     ensures { IfOk result (λ note. note.items ≡ unmarked_note fault bytes.now bye) }
@@ -82,7 +82,7 @@ fn order_text(order: ByteOrder) -> &'static str
     }
 }
 
-// The same of a text that is no UTF-16.
+// What was found in a text that is not UTF-16.
 fn found(alloc: Global, fault: Fault, bytes: &[u8], bye: u16) -> Result<Vec<u8>, AllocError>
     requires { bye ≤ 2 }
     ensures { IfOk result (λ note. note.items ≡ found fault bytes.now bye) }

@@ -110,7 +110,7 @@ impl Reply {
         }
     }
 
-    /// The same of a text that the program has.
+    /// A status, and a text that the program has.
     pub fn fixed(status: Status, text: &'static str) -> Reply
         ensures { answer_of result ≡ plain status text.entry.now }
     {
@@ -120,7 +120,7 @@ impl Reply {
         }
     }
 
-    /// The same of a text that is bytes.
+    /// A status, and a text as bytes.
     pub fn bytes(status: Status, text: Vec<u8>) -> Reply
         ensures { answer_of result ≡ plain status text.items }
     {

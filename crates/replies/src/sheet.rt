@@ -29,7 +29,7 @@ pub fn sheet(
     }
 }
 
-// The same of an accepted report.
+// What `sheet` says of an accepted report.
 fn of_report(
     alloc: Global,
     options: &SheetOptions,

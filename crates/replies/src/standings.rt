@@ -35,7 +35,7 @@ pub fn standings(
     }
 }
 
-// The same of an accepted report.
+// What `standings` says of an accepted report.
 fn of_report(
     alloc: Global,
     options: &StandingsOptions,

@@ -43,7 +43,7 @@ pub fn read_before<'a>(
     }
 }
 
-/// The same of a report whose points fields are not compared.
+/// The report that some bytes are, as `read_before` gives it, but without a comparison of its points fields.
 ///
 /// # Errors
 /// Memory was refused.

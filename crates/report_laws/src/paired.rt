@@ -16,9 +16,9 @@ pub fn all_who_play_stand_on_one_board()
         → EachOnOne sheet round (boards_of sheet round) }
 {}
 
-/// The boards by which the next round of a report is paired, once they are put into the report, are the boards of that
-/// round as they stand in it, in the same order, if its start ranks are each a player's own, as those of every accepted
-/// report are, and a total of rounds that is asked for is within the limit.
+/// The boards of an accepted report's next round, once they are put into the report, are those of that round as they
+/// stand in it, in the same order, if a total of rounds that is asked for is within the limit. Of the report it is
+/// enough that its start ranks are each a player's own.
 #[tactic(auto, using(crate::proofs::PairedBoards::paired_boards))]
 pub fn boards_of_a_paired_round_stand_in_the_report()
     ensures { (sheet : Sheet) (asked : Option ℕ) (initial : Option Colour) (facts : Facts) (pairing : Pairing)

@@ -8,22 +8,20 @@ ghost use Rattle.trf16_report.specs.Prelude.{with_round, written};
 ghost use Rattle.trf16_report.specs.declared.cell.Colour.{Colour};
 ghost use Rattle.trf16_report.specs.declared.limits.TheConstants.{MOST_BYTES, MOST_ROUNDS};
 
-/// If boards that name each present player, and nobody else, are put into a report as its next round, then the report
-/// that comes of it has a view before that round, and the next round of the view is paired from what that of the first
-/// report was: the same players are present, with the same scores, floats, colours and opponents, the same ones are
-/// kept apart, and the total of rounds and the initial colour are the same. If no further round can be paired, the
-/// reason is the same.
+/// Put boards into a report as its next round that name each present player, and nobody else, and view it before that
+/// round: its next round is paired from the same as that of the report. The same players are present, with the same
+/// scores, floats, colours and opponents, the same ones are kept apart, and the total of rounds and the initial colour
+/// are the same. If no further round can be paired, the reason is the same.
 pub fn a_paired_round_has_its_field_back()
     ensures { (report : Sheet) (boards : List (ℕ × ℕ)) → HasOwnStarts report → CanBePaired boards report
         → NameAllPresent boards report → 0 < length boards
         → GivesFieldOf (before_round (with_round boards report) (rounds_played report + 1)) report }
 {}
 
-/// If boards that name each player of some facts, once, and nobody else, are put into the accepted report that these are
-/// the facts of, then the report that comes of it has a view before that round, and the next round of the view is paired
-/// from the very same facts, if the same total of rounds and the same initial colour are asked for, or none. The boards
-/// of a round are such boards (`everybody_is_named_once` of `pairing_laws`). A total that is asked for is at most
-/// `MOST_ROUNDS`.
+/// Put boards into an accepted report as its next round that name each player of its facts once, and nobody else, and
+/// view it before that round: its next round is paired from the very same facts, at the same total of rounds and
+/// initial colour. The boards of a round are such boards (`everybody_is_named_once` of `pairing_laws`). A total that is
+/// asked for is at most `MOST_ROUNDS`.
 pub fn the_round_is_asked_back()
     ensures { (bytes : List ℕ) (bye : ℕ) (sheet : Sheet) (asked : Option ℕ) (initial : Option Colour) (facts : Facts)
         (boards : List (ℕ × ℕ))

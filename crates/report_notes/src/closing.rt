@@ -1,5 +1,5 @@
-// What stands behind the lines of a report: its rounds, the next one, the order of the start ranks, and that nobody says
-// how many rounds there are.
+// What stands behind the lines of a report: its rounds, the next one, the order of the start ranks, and that nobody
+// says how many rounds there are.
 ghost use Rattle.std.specs.Prelude.{◌≡◌, ◌∷◌, [], MatchOption};
 ghost use Rattle.trf16_report.specs.Prelude.{Sheet};
 ghost use Rattle.report_notes.specs.Notes.{closing_notes};

@@ -27,7 +27,8 @@ fn kind_note<'a>(line: &'a [u8], utf8: bool, n: usize) -> Option<Note<'a>>
     }
 }
 
-// The same of the first line of a text without marks of which it is so.
+// Of the first line of a text without marks that is no player's, that its kind is not known, or that blanks stand
+// before it: which of both it is.
 fn kind_note_in(text: &[u8], utf8: bool) -> Option<Note<'_>>
     ensures { option_map noted result ≡ kind_note_from utf8 1 (lines text.now) }
 {

@@ -53,7 +53,7 @@ pub(crate) fn next_left<'a>(
     }
 }
 
-// The same of the words of a line `XXP`.
+// The first note that is left of the words of a line `XXP`, and what is left behind it.
 fn next_name<'a>(
     report: &Report<'_>,
     n: usize,
@@ -89,7 +89,7 @@ pub(crate) fn line_left<'a>(report: &Report<'_>, n: usize, line: &'a [u8]) -> Le
     }
 }
 
-// The same of a line that is carried.
+// All that is to be told of line n, if it is carried.
 fn carried_left<'a>(report: &Report<'_>, n: usize, line: &'a [u8]) -> Left<'a>
     ensures { left_notes report.now n result ≡ carried_notes report.now n line.now }
 {
@@ -105,7 +105,8 @@ fn carried_left<'a>(report: &Report<'_>, n: usize, line: &'a [u8]) -> Left<'a>
     }
 }
 
-// The same of a line of a known kind: what `XXZ` and `XXP` name, how many rounds `XXR`, and how many players `062`.
+// All that is to be told of line n, if its kind is known: of what `XXZ` and `XXP` name, of how many rounds `XXR` says,
+// and of how many players `062` says.
 fn extension_left<'a>(report: &Report<'_>, n: usize, line: &'a [u8]) -> Left<'a>
     ensures { left_notes report.now n result ≡ extension_notes report.now n (columns report.now.utf8 line.now) }
 {
@@ -124,7 +125,7 @@ fn extension_left<'a>(report: &Report<'_>, n: usize, line: &'a [u8]) -> Left<'a>
     }
 }
 
-// The same of a line `XXR`.
+// All that is to be told of a line `XXR`: as many rounds as there are players, or more.
 fn rounds_left<'a>(report: &Report<'_>, n: usize) -> Left<'a>
     ensures { left_notes report.now n result ≡ note_if (has_many_rounds report.now) (ManyRounds n) }
 {
@@ -135,7 +136,8 @@ fn rounds_left<'a>(report: &Report<'_>, n: usize) -> Left<'a>
     }
 }
 
-// The same of a line `062`, by what stands behind its kind: a number of players that is not that of the report.
+// All that is to be told of a line `062`, by what stands behind its kind: a number of players that is not that of the
+// report.
 fn count_left<'a>(report: &Report<'_>, n: usize, count: &[u8]) -> Left<'a>
     ensures { left_notes report.now n result ≡ count_notes report.now n (other_count report.now (words count.now)) }
 {

@@ -51,7 +51,7 @@ pub(crate) fn next_of_player<'a>(
     Some((note, PlayerLeft { cells, ..left }))
 }
 
-// The same of its cells.
+// The first note that is left of the cells of a player's line, line n, and what is left behind it.
 fn next_of_cells<'a>(
     report: &Report<'_>,
     n: usize,

@@ -74,7 +74,8 @@ fn rated_above(report: &Report<'_>, player: &Player<'_>) -> Option<RatedAbove>
     Some(RatedAbove { rating, player })
 }
 
-/// The same of the player with a start rank, if they come late.
+/// The rating of the player with a start rank, if they come late, and of the players who are rated below, though with a
+/// smaller start rank, the first by start rank.
 pub(crate) fn late_above(report: &Report<'_>, start: u16) -> Option<RatedAbove>
     ensures { result ≡ option_and_then (late_above report.now) (player_of report.now.players start) }
 {
@@ -99,7 +100,7 @@ pub(crate) fn start_ranks_note<'a>(report: &Report<'_>) -> Option<Note<'a>>
     first_above(report)
 }
 
-// The same, whatever was paired.
+// That start ranks do not follow the ratings, whatever was paired: of the first player by line of whom it is so.
 fn first_above<'a>(report: &Report<'_>) -> Option<Note<'a>>
     ensures { MatchOption result (first_above report.now report.now.players ≡ [])
         (λ note. first_above report.now report.now.players ≡ noted note ∷ []) }

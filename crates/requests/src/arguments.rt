@@ -267,7 +267,7 @@ fn players<'a>() -> ValueParser<'a>
     value_parser!(u16).range(1..=9999)
 }
 
-// The same, and 0 for the bye.
+// The start ranks that an opponent may have, and 0 for the bye.
 fn opponents<'a>() -> ValueParser<'a>
     ensures { result ≡ Signed (pos 0) (pos 9999) }
 {

@@ -46,7 +46,8 @@ pub struct FormatOptions {
     pub points: bool,
     /// If set, the players get the start ranks that rating and title give.
     pub renumber: bool,
-    /// If set, the players' places are written into their rank columns, and players of one score are told apart by these.
+    /// If set, the players' places are written into their rank columns, and players of one score are told apart by
+    /// these.
     pub ranks: Option<Keys>,
     /// The round before which the report is taken as it stood, where the words name one: at most `MOST_ROUNDS`.
     pub round: Option<u8>,

@@ -350,8 +350,8 @@ fn named<'a>(alloc: Global) -> CommandResult<'a>
     .bin_name("arbiter")
 }
 
-// A command that takes all words as arguments, and wants a command among them. clap adds the command `help` to those that
-// help lists; `meant` leaves it no words to answer.
+// A command that takes all words as arguments, and wants a command among them. clap adds the command `help` to those
+// that help lists; `meant` leaves it no words to answer.
 #[tactic(auto, unfolding(crate::specs::Words::settled))]
 fn with_settings<'a>(command: Command<'a>) -> Command<'a>
     ensures app { app_of result ≡ settled (app_of command.entry) }

@@ -30,7 +30,7 @@ pub fn boards(
     }
 }
 
-// The same of an accepted report.
+// What `boards` says of an accepted report.
 fn of_report(
     alloc: Global,
     options: BoardsOptions,

@@ -40,7 +40,7 @@ pub fn candidates<F: Finder>(
     }
 }
 
-// The same of an accepted report.
+// What `candidates` says of an accepted report.
 fn of_report<F: Finder>(
     alloc: Global,
     options: &CandidatesOptions<'_>,
@@ -55,7 +55,7 @@ fn of_report<F: Finder>(
     }
 }
 
-// The same of those whom the next round is paired from.
+// What `candidates` says of those whom the next round is paired from.
 #[tactic(auto, using(crate::proofs::CandidateLemmas::told, crate::proofs::CandidateLemmas::can_be_listed))]
 fn of_field<F: Finder>(
     alloc: Global,

@@ -40,7 +40,7 @@ pub fn pair<F: Finder>(
     }
 }
 
-// The same of an accepted report, or of one as it stood before a round.
+// What `pair` says of an accepted report, or of one as it stood before a round.
 fn of_report<F: Finder>(
     alloc: Global,
     options: PairOptions,
@@ -57,7 +57,7 @@ fn of_report<F: Finder>(
     }
 }
 
-// The same of those whom the next round is paired from.
+// What `pair` says of those whom the next round is paired from.
 #[tactic(auto, using(crate::proofs::PairLemmas::can_be_told))]
 fn of_field<F: Finder>(
     alloc: Global,

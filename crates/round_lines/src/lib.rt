@@ -1,8 +1,8 @@
 //! Lines on what a round is chosen from, as text for people: the round, a bracket, its candidates, the items of a
 //! quality. Specified by the texts, and by the first candidates to come.
 //!
-//! `listing::lines` lists candidates, as many as are asked for, within a budget of steps. `item_texts` and `value_texts`
-//! have the items that count against a choice (C.6 to C.19). `pieces` puts lines and sentences together.
+//! `listing::lines` lists candidates, as many as are asked for, within a budget of steps. `item_texts` and
+//! `value_texts` have the items that count against a choice (C.6 to C.19). `pieces` puts lines and sentences together.
 //!
 //! To mind: no round is paired here. A call that makes a text needs memory for it, and fails if that is refused.
 #![tactic(auto)]

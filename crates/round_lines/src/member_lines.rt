@@ -39,7 +39,7 @@ pub fn put_members(
     }
 }
 
-// The same as a sentence.
+// Puts the players of a bracket as sentences.
 #[tactic(auto, unfolding(crate::specs::RoundTexts::members_words))]
 fn put_members_words(
     text: &mut Page,

@@ -42,7 +42,7 @@ impl Page {
         self.push_bytes(piece.as_bytes())
     }
 
-    /// The same of bytes.
+    /// Puts bytes behind what is there.
     pub fn push_bytes(&mut self, piece: &[u8]) -> Result<(), AllocError>
         ensures { OnOk result (self.new ≡ self.old ++ piece.now) }
     {

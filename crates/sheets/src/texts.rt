@@ -48,7 +48,7 @@ pub(crate) fn plain(alloc: Global, utf8: bool, bytes: &[u8]) -> Result<Vec<u8>, 
     without_controls(alloc, text.as_slice())
 }
 
-/// The same of a name, or a dash where it is blank.
+/// A name in UTF-8, with a question mark in place of each control character; a dash where it is blank.
 pub(crate) fn shown_name(alloc: Global, utf8: bool, bytes: &[u8]) -> Result<Vec<u8>, AllocError>
     ensures { IfOk result (λ text. text.items ≡ shown (in_utf8 utf8 bytes.now)) }
 {

@@ -31,7 +31,7 @@ pub fn put_choice(text: &mut Page, telling: &Telling<'_>, stage: &Stage) -> Resu
     }
 }
 
-// The same as a plain line.
+// Puts what is chosen in a bracket as a plain line.
 fn put_choice_line(text: &mut Page, telling: &Telling<'_>, stage: &Stage) -> Result<(), AllocError>
     ensures { OnOk result (text.new ≡ text.old ++ candidate_line telling.now stage.now) }
 {
@@ -44,7 +44,7 @@ fn put_choice_line(text: &mut Page, telling: &Telling<'_>, stage: &Stage) -> Res
     text.push_str(line.as_str())
 }
 
-// The same as a sentence.
+// Puts what is chosen in a bracket as sentences.
 #[tactic(auto, unfolding(crate::specs::ExplainTexts::candidate_words))]
 fn put_choice_words(
     text: &mut Page,

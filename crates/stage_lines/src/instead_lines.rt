@@ -1,4 +1,5 @@
-// The line that tells why a player does not meet another one in the next round, or does not have the bye, piece by piece.
+// The line that tells why a player does not meet another one in the next round, or does not have the bye, piece by
+// piece.
 ghost use Rattle.std.specs.Prelude.{◌≡◌, ◌++◌, OnOk};
 ghost use Rattle.dutch_bracket.specs.Prelude.{quality_in};
 ghost use Rattle.stage_lines.specs.InsteadTexts.{best_front, bracket_front, bracket_text, found_text, front_text};

@@ -93,8 +93,8 @@ pub fn table(alloc: Global, report: &Report<'_>, keys: &[Key]) -> Result<Standin
     Ok(rows_of(alloc, report, keys)?)
 }
 
-/// The same rows whether or not the report has standings: a game without a result gives no points and counts as a round
-/// without a game, and a line `XXS` changes nothing.
+/// The rows of the standings, whether or not the report has any: a game without a result gives no points and counts as
+/// a round without a game, and a line `XXS` changes nothing.
 ///
 /// # Errors
 /// Memory was refused.

@@ -1,9 +1,9 @@
 //! Tournament reports in TRF16 columns: read with every refusal named, asked what they say, and written again, by one
 //! name. Specified by the grammar of the columns and by what a report's lines say.
 //!
-//! `read` gives the report that a text is, or the first rule that it breaks; a question to a `Report` gives the value of
-//! its definition over the lines; `write` gives the canonical text. `before_round`, `summed` and `Pairs::with_round` make
-//! another report of one, and `renumbered_text` the text of one with the right start ranks.
+//! `read` gives the report that a text is, or the first rule that it breaks; a question to a `Report` gives the value
+//! of its definition over the lines; `write` gives the canonical text. `before_round`, `summed` and `Pairs::with_round`
+//! make another report of one, and `renumbered_text` the text of one with the right start ranks.
 //!
 //! This crate is a front: it hands on what stands in `trf16_report`, `trf16_reader` and `trf16_writer`, and the
 //! definitions that the clauses of its calls name, as `Rattle.trf16.specs.Prelude`. So a caller names this crate alone.

@@ -1,7 +1,7 @@
 //! Reading tournament reports in TRF16 columns, with every refusal named.
 //!
-//! `read` gives the report that a text is, or the first rule that it breaks, in one stated order. The text is walked over
-//! once to read it, or twice if a line `XXP` names players.
+//! `read` gives the report that a text is, or the first rule that it breaks, in one stated order. The text is walked
+//! over once to read it, or twice if a line `XXP` names players.
 //!
 //! `all_cells_fit` looks at a report that was made of another one by the rules on two players.
 //!

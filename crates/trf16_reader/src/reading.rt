@@ -64,7 +64,7 @@ fn start_number_at(n: usize, line: &Line<'_>) -> Result<u16, Fault>
     }
 }
 
-// The same, which no line before may have named.
+// The start rank that line n names, which no line before may have named.
 #[tactic(auto, unfolding(trf16_report::specs::Verdict::start_at))]
 fn start_at(draft: &Draft<'_>, n: usize, line: &Line<'_>) -> Result<u16, Fault>
     ensures given { Gives (λ x. x) result (start_at draft.now n line.now) }

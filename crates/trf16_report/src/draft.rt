@@ -76,6 +76,7 @@ impl<'a> Draft<'a> {
         self.utf8
     }
 
+    /// Yes if a player of the lines so far has this start rank.
     pub fn knows(&self, start: u16) -> bool
         ensures { result ≡ known self.now start }
     {
@@ -98,6 +99,7 @@ impl<'a> Draft<'a> {
         Ok(())
     }
 
+    /// Yes if the lines so far name the total of rounds.
     pub fn has_total(&self) -> bool
         ensures { result ≡ is_some self.now.total }
     {
@@ -125,6 +127,7 @@ impl<'a> Draft<'a> {
         self.initial = initial;
     }
 
+    /// Yes if the lines so far name a total of more than `MOST_ROUNDS` rounds.
     pub fn names_too_many_rounds(&self) -> bool
         ensures { result ≡ names_too_many_rounds self.now }
     {

@@ -39,7 +39,7 @@ impl Apart {
         }
     }
 
-    // The same with room for a mark for each two.
+    // Nobody is named together with another, with room for a mark for each two.
     fn with_room(alloc: Global, count: usize) -> Result<Apart, AllocError>
         requires { count ≤ MOST_PLAYERS }
         ensures none { IfOk result (λ apart. (i j : ℕ) → are_marked apart i j ≡ false) }

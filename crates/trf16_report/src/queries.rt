@@ -41,7 +41,7 @@ impl<'a> Report<'a> {
         self.notes.first(kind)
     }
 
-    // A line `XXS` gives games other points: then a points field need not be the sum of the cells.
+    /// Yes if a line `XXS` gives games other points: then a points field need not be the sum of the cells.
     pub fn has_other_points(&self) -> bool
         ensures { result ≡ has_other_points self.now }
     {
@@ -65,7 +65,7 @@ impl<'a> Report<'a> {
         self.players.get_index_of(&start)
     }
 
-    // Found by walking the text, for a number that no player has.
+    // Yes if a line `XXP` names both numbers, found by walking the text.
     fn are_named_together(&self, a: u16, b: u16) -> bool
         ensures { result ≡ some_carried (names_both a b) self.now }
     {
@@ -80,7 +80,7 @@ impl<'a> Report<'a> {
         false
     }
 
-    // The same, looked up where both are start ranks of players.
+    // Yes if a line `XXP` names both numbers: looked up where both are start ranks of players, else found in the text.
     fn are_together(&self, a: u16, b: u16) -> bool
         ensures { result ≡ some_carried (names_both a b) self.now }
     {

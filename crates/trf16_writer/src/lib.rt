@@ -5,16 +5,15 @@
 //! waits for this crate who only asks a report.
 //!
 //! A report that is made of another one borrows the same text. A call that takes memory says so if it is refused. The
-//! definitions of what is written, and of the reports that are made, stand in `trf16_report/specs`, since what is asked of a
-//! report speaks of them too.
+//! definitions of what is written, and of the reports that are made, stand in `trf16_report/specs`, since what is asked
+//! of a report speaks of them too.
 //!
 //! The right start ranks are 1, 2 and so on by rating, then title, then the start rank that a player has (article
-//! C.04.2). `renumbered_text` gives the canonical text of the report `renumbered`: each start rank on a player's line, in
-//! a cell and on a line `XXZ` or `XXP` is the new one, and everything else stays. `renumbered_players_alone` gives the
-//! players of that report without its other lines. `first_unread` gives the first line
-//! that names players in a way that is not read, behind which a report cannot be renumbered. Laws in `report_laws` say
-//! what is kept. The time grows with the text, and with the square of the number of players, of whom there are at most
-//! 1,024.
+//! C.04.2). `renumbered_text` gives the canonical text of the report `renumbered`: each start rank on a player's line,
+//! in a cell and on a line `XXZ` or `XXP` is the new one, and everything else stays. `renumbered_players_alone` gives
+//! the players of that report without its other lines. `first_unread` gives the first line that names players in a way
+//! that is not read, behind which a report cannot be renumbered. Laws in `report_laws` say what is kept. The time grows
+//! with the text, and with the square of the number of players, of whom there are at most 1,024.
 #![tactic(auto)]
 
 mod alone;

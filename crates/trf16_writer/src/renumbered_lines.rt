@@ -63,7 +63,7 @@ fn renumbered(
     Vec::from_slice(alloc, line)
 }
 
-/// The same of a line if it is carried; nothing of a player's line.
+/// A line with the new start ranks, if it is carried; none for a player's line.
 pub(crate) fn renumbered_line(
     alloc: Global,
     utf8: bool,

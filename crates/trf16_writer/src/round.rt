@@ -47,7 +47,7 @@ fn cell_by(boards: &[(u16, u16)], start: u16) -> Option<Cell>
     None
 }
 
-// The same cells, with that of the round behind the first `before` set.
+// The cells of a player with one more set: that of the round behind the first `before`.
 pub(crate) fn with_cell(
     alloc: Global,
     cells: &[Cell],
