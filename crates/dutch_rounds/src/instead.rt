@@ -282,9 +282,9 @@ fn look_for<F: Finder>(wished: &Wished<'_>, budget: &mut Budget) -> Result<Inste
     }
 }
 
-/// What would stand in a bracket in place of what is chosen there, were a wish granted: the best candidate of its shape
-/// that grants it and can be chosen (B.8, C.4), or why there is none. The wish names players by their numbers in the
-/// bracket; no candidate pairs a number that the bracket has not. The search has a budget of its own, of `limit` steps.
+/// The best candidate of a bracket's shape that grants a wish and can be chosen (B.8, C.4), or why there is none: what
+/// would stand there if the wish were granted. The wish names players by their numbers in the bracket; no candidate
+/// pairs a number that the bracket has not. The search has a budget of its own, of `limit` steps.
 #[tactic(auto, using(crate::proofs::InsteadLemmas::read_shape))]
 #[inline(never)]
 pub fn best_instead<F: Finder>(

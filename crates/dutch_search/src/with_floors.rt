@@ -19,14 +19,15 @@ use dutch_choice::finder::{Best, Finder, FinderRequest};
 use dutch_floors::floor::Floors;
 use dutch_passes::{Judge, Pass, PassRoom, Workroom, best_in_time, look_below};
 
-/// In how many steps it is looked for what the next bracket can be at best: a step for each player of the bracket with
-/// each of the next scoregroup, and a listing.
+/// How many steps are spent on what the next bracket can be at best: a step for each player of the bracket with each of
+/// the next scoregroup, and a listing.
 fn steps_for_outlook(players: usize) -> u64 {
     let players = players as u64;
     players.saturating_add(128).saturating_mul(players)
 }
 
-/// The floors of a bracket, which know of the next bracket what so many steps tell of it.
+/// The floors of a bracket, with what so many steps tell of the next bracket; if these do not suffice, with what counts
+/// tell of it.
 #[inline(never)]
 fn floors_of<'a>(shaped: &ShapedBracket<'a>, budget: &mut Budget) -> Result<Floors<'a>, Stopped>
     ensures answer { MatchResult result (IsBasisFor shaped.now) (λ _. budget.new.used ≡ budget.new.limit) }
@@ -69,8 +70,8 @@ fn best_in_passes(
     }
 }
 
-/// Who finds within floors by counts and by weight: what a pass with an aim ends with, or if that is nothing, one
-/// without.
+/// The finder with floors by counts and by weight. It answers what a pass with an aim finds; if that finds nothing, what
+/// a pass without one finds.
 #[derive(Drop)]
 pub struct WithFloors;
 

@@ -15,7 +15,7 @@ loop-candidate-init c =
     let wish = c.args.wished.now.wish in
     let listing = c.restart.new.self in
     let lists : ListsHere context (Some wish) listing
-        = lists_stay context (Some wish) c.args.candidates.now c.requires.lists listing c.restart.ensures.frame c.restart.ensures.rule in
+    = lists_stay context (Some wish) c.args.candidates.now c.requires.lists listing c.restart.ensures.frame c.restart.ensures.rule in
     record {
       same = granted_listed context shaped.shape wish listing.coming (sound_here context (Some wish) listing lists) shaped.fits
           (listed_narrowed context (Some wish) c.args.candidates.now c.requires.lists shaped.shape listing.coming c.restart.ensures.coming);
