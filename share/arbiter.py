@@ -1,0 +1,103 @@
+"""Pairs chess tournaments by the FIDE (Dutch) System: the engine of arbiter, by its library libarbiter.so.
+
+    from arbiter import Arbiter
+
+    engine = Arbiter()
+    print(engine.ask(open("club.trf", "rb").read(), "pair", "--names").decode())
+
+A report is bytes, and so is what comes back. Nothing is kept between calls, and threads may call at the same time: a call lets the others run.
+A thread that calls needs the stack that arbiter.h tells, which threads of Python have unless threading.stack_size() sets less."""
+import ctypes
+import os
+from typing import NamedTuple, Optional, Union
+
+
+class ArbiterError(Exception):
+    """A call did not end with status 0. It has the status, the output and the message of the call, the last two as bytes."""
+
+    status: int = -1
+
+    def __init__(self, output: bytes, message: bytes) -> None:
+        super().__init__((message or output).decode(errors="replace").strip())
+        self.output = output
+        self.message = message
+
+
+class ReportRefused(ArbiterError):
+    """The report is refused, and the message says why. Another try does not help."""
+
+    status = 1
+
+
+class BadWords(ArbiterError):
+    """The words are refused, and the message says why."""
+
+    status = 2
+
+
+class NoPairing(ArbiterError):
+    """No pairing meets the absolute criteria. The arbiter decides; `explain` says why."""
+
+    status = 3
+
+
+class Undecided(ArbiterError):
+    """The limit of steps was reached first. Call again with a larger --steps; the round is not decided."""
+
+    status = 4
+
+
+class Trouble(ArbiterError):
+    """Memory was refused."""
+
+    status = 5
+
+
+class Answer(NamedTuple):
+    """What a call answers: the exit status, and what the program would write to its two outputs."""
+
+    status: int
+    output: bytes
+    message: bytes
+
+
+class _Lengths(ctypes.Structure):
+    _fields_ = [("output", ctypes.c_size_t), ("message", ctypes.c_size_t)]
+
+
+_ERRORS = {it.status: it for it in (ReportRefused, BadWords, NoPairing, Undecided, Trouble)}
+# what most texts fit into; a longer one is asked for again
+_ROOM = 1 << 16
+
+
+class Arbiter:
+    """The engine. One object serves any number of calls and threads."""
+
+    def __init__(self, library: Optional[Union[str, "os.PathLike[str]"]] = None) -> None:
+        """Loads the library: the one that is named, or libarbiter.so beside this file."""
+        beside = os.path.join(os.path.dirname(os.path.abspath(__file__)), "libarbiter.so")
+        self._run = ctypes.CDLL(os.fspath(library or beside)).arbiter_run
+        self._run.restype = ctypes.c_uint8
+        self._run.argtypes = [ctypes.c_char_p, ctypes.c_size_t] * 4 + [ctypes.POINTER(_Lengths)]
+
+    def call(self, report: bytes, *words: str) -> Answer:
+        """Runs the words of a command line over a report, and returns what comes, whatever the status. A word has no line end."""
+        for word in words:
+            if "\n" in word or "\r" in word:
+                raise ValueError(f"a word with a line end: {word!r}")
+        text = "".join(f"{word}\n" for word in words).encode(errors="surrogateescape")
+        rooms = _ROOM, _ROOM
+        while True:
+            output, message = (ctypes.create_string_buffer(room) for room in rooms)
+            lengths = _Lengths()
+            status = self._run(text, len(text), report, len(report), output, rooms[0], message, rooms[1], lengths)
+            if lengths.output <= rooms[0] and lengths.message <= rooms[1]:
+                return Answer(status, ctypes.string_at(output, lengths.output), ctypes.string_at(message, lengths.message))
+            rooms = max(rooms[0], lengths.output), max(rooms[1], lengths.message)
+
+    def ask(self, report: bytes, *words: str) -> bytes:
+        """Runs the words over a report, and returns the output; raises the error of the status, if that is not 0."""
+        status, output, message = self.call(report, *words)
+        if status:
+            raise _ERRORS[status](output, message)
+        return output
