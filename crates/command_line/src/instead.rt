@@ -337,6 +337,7 @@ fn by_search<F: Finder>(
 }
 
 // What is told of what a search in a bracket found.
+#[inline(never)]
 fn tell(
     alloc: Global,
     telling: &Telling<'_>,

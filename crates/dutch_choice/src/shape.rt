@@ -106,6 +106,7 @@ fn drawn(
 /// The shape: by a listing of few steps, then by a matching of least cost, and where that does not tell it, by the
 /// whole listing above its floor. A listing that finds it leaves its first candidate drawn.
 #[tactic(auto, unfolding(dutch_bracket::specs::Brackets::shape_of))]
+#[inline(never)]
 pub(crate) fn found_shape<'b>(
     context: &Context<'_>,
     lister: &mut Lister<'_, NarrowedRule<'b>>,

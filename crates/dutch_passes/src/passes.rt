@@ -2,7 +2,7 @@
 // listing that keep the best candidate so far. A guide draws the candidates, and may pass over some. The passes first
 // have few steps. If these do not suffice, the pairs of the bracket are weighed, and then those of the next bracket too
 // (C.7).
-ghost use Rattle.std.specs.Prelude.{◌≡◌, None, IfSome, true};
+ghost use Rattle.std.specs.Prelude.{◌≡◌, None, Some, IfSome, true};
 ghost use Rattle.std.specs.Option.{MatchOption};
 ghost use Rattle.std.specs.Result.{MatchResult};
 ghost use Rattle.dutch_arrangements.specs.Prelude.{Spends};
@@ -16,6 +16,7 @@ use crate::guide::Guide;
 use crate::pass::{Pass, PassSoFar, loses};
 use crate::remembered::{Judge, judge_candidate};
 use dutch_arrangements::{Budget, Candidate, Stopped};
+use dutch_bracket::quality::Quality;
 use dutch_bracket::reached::BracketKind;
 use dutch_bracket::spending::at_most;
 use dutch_candidates::greatest::Lister;
@@ -33,6 +34,18 @@ pub struct PassRoom<'a, 'l, 'r, 'n, G: Guide> {
     pub judge: Judge<'a, G>,
     pub lister: &'l mut Lister<'r, NarrowedRule<'n>>,
     pub start: Start,
+}
+
+/// Keeps a candidate, with the quality that was worked out for it. (Apart from its caller, which passes most candidates
+/// over: both are large.)
+#[inline(never)]
+fn keep(candidate: &Candidate, quality: &mut Quality, kept: &mut Option<Best>)
+    ensures { kept.new ≡ Some (record { candidate = candidate.now; quality = quality.old }) }
+{
+    *kept = Some(Best {
+        candidate: candidate.copied(),
+        quality: take(quality),
+    });
 }
 
 /// Keeps a candidate in place of the one that is kept, if it grants what is wished, does not lose and can be chosen.
@@ -63,9 +76,7 @@ fn consider<G: Guide>(
         return Ok(());
     }
     if can_be_chosen(pass.shaped.context, candidate, &mut judge.left, budget)? {
-        let quality = take(&mut judge.work.room.quality);
-        let candidate = candidate.copied();
-        judge.kept = Some(Best { candidate, quality });
+        keep(candidate, &mut judge.work.room.quality, &mut judge.kept);
     }
     Ok(())
 }

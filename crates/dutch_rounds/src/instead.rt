@@ -241,6 +241,7 @@ fn is_granted_above(wished: &Wished<'_>, budget: &mut Budget) -> Result<bool, St
 
 /// Why no candidate of a bracket's shape that can be chosen grants a wish: the first reason that stands.
 #[tactic(auto, using(crate::proofs::InsteadLemmas::none_upto, crate::proofs::InsteadLemmas::none_at_all), unfolding(crate::specs::Instead::IsInstead))]
+#[inline(never)]
 fn why_none(wished: &Wished<'_>, budget: &mut Budget) -> Result<Instead, Stopped>
     requires greatest { shape_here wished.now.shaped.context.now ≡ Some wished.now.shaped.shape }
     requires none { list_any (grants wished.now.wish) (eligible_in wished.now.shaped) ≡ false }

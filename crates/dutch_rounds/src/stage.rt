@@ -120,6 +120,7 @@ impl Stage {
 
     /// Puts its pairs by seat behind others: none if it is paired again.
     #[tactic(auto, using(crate::proofs::WalkEnds::candidate_is))]
+    #[inline(never)]
     pub fn put_pairs(&self, field: &Field, pairs: &mut Vec<Pair>) -> Result<(), PairFault>
         requires { IsStage field.now self.now }
         ensures { OnOk result (pairs.new.items ≡ pairs.old.items ++ own_pairs self.now) }

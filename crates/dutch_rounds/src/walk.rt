@@ -153,6 +153,7 @@ fn first_group<'a>(
 }
 
 /// What comes next behind a stage, which is settled above these lower seats, of which so many are the next scoregroup.
+#[inline(never)]
 fn behind<'a>(field: &Field, stage: &Stage, lower: &'a [u16], group: usize) -> Next<'a>
     requires stands { StandsBefore field.now stage.now.reached.number stage.now.reached lower.now }
     requires group { group ≡ length (first_group field.now (scoregroups field.now lower.now)) }

@@ -116,6 +116,7 @@ impl<'a> BothFloors<'a> {
 
     /// What a pass aims at: the quality of a matching, if one was found that has as many pairs as the shape; else what
     /// floors by counts tell.
+    #[inline(never)]
     pub(crate) fn aim_for(&self, found: &Option<Matched>) -> Option<Quality> {
         match found {
             Some(matched) if matched.pairs.len() == self.shaped.shape.pairs => {

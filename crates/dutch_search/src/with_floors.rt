@@ -1,5 +1,5 @@
 // The best candidate of a shape (C.04.3 B.8), found within floors of both kinds.
-ghost use Rattle.std.specs.Prelude.{◌≡◌, None};
+ghost use Rattle.std.specs.Prelude.{◌≡◌, IfOk, None};
 ghost use Rattle.std.specs.Result.{MatchResult};
 ghost use Rattle.dutch_arrangements.specs.Prelude.{MatchStep, Spends};
 ghost use Rattle.dutch_choice.specs.Prelude.{IsBest};
@@ -18,6 +18,7 @@ use dutch_candidates::narrowed::NarrowedRule;
 use dutch_choice::finder::{Best, Finder, FinderRequest};
 use dutch_floors::floor::Floors;
 use dutch_passes::{Judge, Pass, PassRoom, Workroom, best_in_time, look_below};
+use std::alloc::{AllocError, Global};
 
 /// How many steps are spent on what the next bracket can be at best: a step for each player of the bracket with each of
 /// the next scoregroup, and a listing.
@@ -44,6 +45,15 @@ fn floors_of<'a>(shaped: &ShapedBracket<'a>, budget: &mut Budget) -> Result<Floo
         return Err(Stopped);
     }
     Ok(Floors::by_counts(shaped))
+}
+
+/// A large value, moved to the heap, since a function pays at its entry for the size of its locals. (Apart from its
+/// caller, whose own place for the value is one too many already.)
+#[inline(never)]
+fn boxed<T: Drop>(alloc: Global, value: T) -> Result<Box<T>, AllocError>
+    ensures { IfOk result (λ kept. kept.value ≡ value) }
+{
+    Ok(Box::new(alloc, value)?)
 }
 
 /// What the passes end with. (Apart from where the search is made ready, as that owns much.)
@@ -91,23 +101,20 @@ impl Finder for WithFloors {
             wish: asked.wish,
             aim: counts.aim(),
         };
-        let guide = BothFloors {
-            shaped,
-            counts,
-            weights: None,
-        };
-        let judge = Judge {
-            look,
-            work: Workroom::default(),
-            left: Seats::new(),
-            kept: None,
-            guide,
-        };
-        // (on the heap, as a function pays at its entry for the size of its locals)
-        let mut search = Box::new(
+        let mut search = boxed(
             shaped.context.alloc(),
             PassRoom {
-                judge,
+                judge: Judge {
+                    look,
+                    work: Workroom::default(),
+                    left: Seats::new(),
+                    kept: None,
+                    guide: BothFloors {
+                        shaped,
+                        counts,
+                        weights: None,
+                    },
+                },
                 lister,
                 start: asked.start,
             },
