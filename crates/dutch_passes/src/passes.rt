@@ -31,7 +31,8 @@ use std::mem::take;
 /// keeps the best one; and the lister that draws them, with where it begins.
 #[derive(Drop)]
 pub struct PassRoom<'a, 'l, 'r, 'n, G: Guide> {
-    pub judge: Judge<'a, G>,
+    // (on the heap, as it is large)
+    pub judge: Box<Judge<'a, G>>,
     pub lister: &'l mut Lister<'r, NarrowedRule<'n>>,
     pub start: Start,
 }
@@ -89,21 +90,22 @@ fn begin<G: Guide>(
     budget: &mut Budget,
 ) -> Result<(), Stopped>
     requires lister { IsLentFor pass.now search.old.start search.old.lister.now }
-    requires look { LooksFor pass.now search.old.judge.look }
+    requires look { LooksFor pass.now search.old.judge.value.look }
     ensures answer { MatchResult result
-        (λ _. LooksThrough pass.now search.new.judge.kept search.new.lister.now.listing)
+        (λ _. LooksThrough pass.now search.new.judge.value.kept search.new.lister.now.listing)
         (λ _. budget.new.used ≡ budget.new.limit) }
     ensures lists { ListsFor pass.now search.new.lister.now.listing }
     ensures start { search.new.start ≡ Anew }
-    ensures look { LooksFor pass.now search.new.judge.look }
-    ensures guide { search.new.judge.guide ≡ search.old.judge.guide }
+    ensures look { LooksFor pass.now search.new.judge.value.look }
+    ensures guide { search.new.judge.value.guide ≡ search.old.judge.value.guide }
     ensures spends { Spends budget.old budget.new }
 {
-    search.judge.kept = None;
+    let judge = &mut *search.judge;
+    judge.kept = None;
     match search.start {
         Start::Drawn => {
             search.start = Start::Anew;
-            consider(pass, &search.lister.drawn, &mut search.judge, budget)?;
+            consider(pass, &search.lister.drawn, judge, budget)?;
             Ok(())
         }
         Start::Anew => {
@@ -156,19 +158,19 @@ fn best_near<'a, G: Guide>(
     budget: &mut Budget,
 ) -> Result<(), Stopped>
     requires lister { IsLentFor pass.now search.old.start search.old.lister.now }
-    requires look { LooksFor pass.now search.old.judge.look }
-    requires guide { G.knows search.old.judge.guide pass.now.shaped.context.now pass.now.shaped.shape pass.now.wish }
+    requires look { LooksFor pass.now search.old.judge.value.look }
+    requires guide { G.knows search.old.judge.value.guide pass.now.shaped.context.now pass.now.shaped.shape pass.now.wish }
     ensures answer { MatchResult result
-        (λ _. MatchOption search.new.judge.kept (near_of pass.now ≡ None)
+        (λ _. MatchOption search.new.judge.value.kept (near_of pass.now ≡ None)
         (IsBest pass.now.shaped.context.now (near_of pass.now)))
         (λ _. budget.new.used ≡ budget.new.limit) }
     ensures lister { IsLentFor pass.now search.new.start search.new.lister.now }
-    ensures look { LooksFor pass.now search.new.judge.look }
-    ensures guide { G.knows search.new.judge.guide pass.now.shaped.context.now pass.now.shaped.shape pass.now.wish }
+    ensures look { LooksFor pass.now search.new.judge.value.look }
+    ensures guide { G.knows search.new.judge.value.guide pass.now.shaped.context.now pass.now.shaped.shape pass.now.wish }
     ensures spends { Spends budget.old budget.new }
 {
     begin(pass, search, budget)?;
-    go_on(pass, search.lister, &mut search.judge, budget)
+    go_on(pass, search.lister, &mut *search.judge, budget)
 }
 
 /// Keeps what a pass with an aim chooses: the best of all. It keeps none if there is no aim, or if the pass finds none
@@ -179,14 +181,14 @@ fn best_by_aim<'a, G: Guide>(
     budget: &mut Budget,
 ) -> Result<(), Stopped>
     requires lister { IsLentFor pass.now search.old.start search.old.lister.now }
-    requires look { LooksFor pass.now search.old.judge.look }
-    requires guide { G.knows search.old.judge.guide pass.now.shaped.context.now pass.now.shaped.shape pass.now.wish }
+    requires look { LooksFor pass.now search.old.judge.value.look }
+    requires guide { G.knows search.old.judge.value.guide pass.now.shaped.context.now pass.now.shaped.shape pass.now.wish }
     ensures answer { MatchResult result
-        (λ _. IfSome search.new.judge.kept (IsBest pass.now.shaped.context.now (wished_of pass.now)))
+        (λ _. IfSome search.new.judge.value.kept (IsBest pass.now.shaped.context.now (wished_of pass.now)))
         (λ _. budget.new.used ≡ budget.new.limit) }
     ensures lister { IsLentFor pass.now search.new.start search.new.lister.now }
-    ensures look { LooksFor pass.now search.new.judge.look }
-    ensures guide { G.knows search.new.judge.guide pass.now.shaped.context.now pass.now.shaped.shape pass.now.wish }
+    ensures look { LooksFor pass.now search.new.judge.value.look }
+    ensures guide { G.knows search.new.judge.value.guide pass.now.shaped.context.now pass.now.shaped.shape pass.now.wish }
     ensures spends { Spends budget.old budget.new }
 {
     if pass.aim.is_none() {
@@ -204,13 +206,13 @@ fn best_in_passes<G: Guide>(
     budget: &mut Budget,
 ) -> Result<(), Stopped>
     requires lister { IsLentFor pass.old search.old.start search.old.lister.now }
-    requires look { LooksFor pass.old search.old.judge.look }
-    requires guide { G.knows search.old.judge.guide pass.old.shaped.context.now pass.old.shaped.shape pass.old.wish }
-    ensures answer { MatchResult result (λ _. IsEnd pass.old search.new.judge.kept)
+    requires look { LooksFor pass.old search.old.judge.value.look }
+    requires guide { G.knows search.old.judge.value.guide pass.old.shaped.context.now pass.old.shaped.shape pass.old.wish }
+    ensures answer { MatchResult result (λ _. IsEnd pass.old search.new.judge.value.kept)
         (λ _. budget.new.used ≡ budget.new.limit) }
     ensures lister { IsLentFor pass.old search.new.start search.new.lister.now }
-    ensures look { LooksFor pass.old search.new.judge.look }
-    ensures guide { G.knows search.new.judge.guide pass.old.shaped.context.now pass.old.shaped.shape pass.old.wish }
+    ensures look { LooksFor pass.old search.new.judge.value.look }
+    ensures guide { G.knows search.new.judge.value.guide pass.old.shaped.context.now pass.old.shaped.shape pass.old.wish }
     ensures pass { SeeksTheSame pass.old pass.new }
     ensures spends { Spends budget.old budget.new }
 {
@@ -248,13 +250,13 @@ fn best_within<G: Guide>(
     budget: &mut Budget,
 ) -> Result<bool, Stopped>
     requires lister { IsLentFor pass.old search.old.start search.old.lister.now }
-    requires look { LooksFor pass.old search.old.judge.look }
-    requires guide { G.knows search.old.judge.guide pass.old.shaped.context.now pass.old.shaped.shape pass.old.wish }
-    ensures answer { MatchResult result (λ ended. ended ≡ true → IsEnd pass.old search.new.judge.kept)
+    requires look { LooksFor pass.old search.old.judge.value.look }
+    requires guide { G.knows search.old.judge.value.guide pass.old.shaped.context.now pass.old.shaped.shape pass.old.wish }
+    ensures answer { MatchResult result (λ ended. ended ≡ true → IsEnd pass.old search.new.judge.value.kept)
         (λ _. budget.new.used ≡ budget.new.limit) }
     ensures lister { IsLentFor pass.old search.new.start search.new.lister.now }
-    ensures look { LooksFor pass.old search.new.judge.look }
-    ensures guide { G.knows search.new.judge.guide pass.old.shaped.context.now pass.old.shaped.shape pass.old.wish }
+    ensures look { LooksFor pass.old search.new.judge.value.look }
+    ensures guide { G.knows search.new.judge.value.guide pass.old.shaped.context.now pass.old.shaped.shape pass.old.wish }
     ensures pass { SeeksTheSame pass.old pass.new }
     ensures spends { Spends budget.old budget.new }
 {
@@ -280,9 +282,9 @@ fn best_by_weight<G: Guide>(
     budget: &mut Budget,
 ) -> Result<(), Stopped>
     requires lister { IsLentFor pass.old search.old.start search.old.lister.now }
-    requires look { LooksFor pass.old search.old.judge.look }
-    requires guide { G.knows search.old.judge.guide pass.old.shaped.context.now pass.old.shaped.shape pass.old.wish }
-    ensures answer { MatchResult result (λ _. IsEnd pass.old search.new.judge.kept)
+    requires look { LooksFor pass.old search.old.judge.value.look }
+    requires guide { G.knows search.old.judge.value.guide pass.old.shaped.context.now pass.old.shaped.shape pass.old.wish }
+    ensures answer { MatchResult result (λ _. IsEnd pass.old search.new.judge.value.kept)
         (λ _. budget.new.used ≡ budget.new.limit) }
     ensures spends { Spends budget.old budget.new }
 {
@@ -305,9 +307,9 @@ pub fn best_in_time<G: Guide>(
     budget: &mut Budget,
 ) -> Result<(), Stopped>
     requires lister { IsLentFor pass.old search.old.start search.old.lister.now }
-    requires look { LooksFor pass.old search.old.judge.look }
-    requires guide { G.knows search.old.judge.guide pass.old.shaped.context.now pass.old.shaped.shape pass.old.wish }
-    ensures answer { MatchResult result (λ _. IsEnd pass.old search.new.judge.kept)
+    requires look { LooksFor pass.old search.old.judge.value.look }
+    requires guide { G.knows search.old.judge.value.guide pass.old.shaped.context.now pass.old.shaped.shape pass.old.wish }
+    ensures answer { MatchResult result (λ _. IsEnd pass.old search.new.judge.value.kept)
         (λ _. budget.new.used ≡ budget.new.limit) }
     ensures spends { Spends budget.old budget.new }
 {

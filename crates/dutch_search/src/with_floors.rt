@@ -1,5 +1,5 @@
 // The best candidate of a shape (C.04.3 B.8), found within floors of both kinds.
-ghost use Rattle.std.specs.Prelude.{◌≡◌, IfOk, None};
+ghost use Rattle.std.specs.Prelude.{◌≡◌, IfNone, IfOk, IfSome, None};
 ghost use Rattle.std.specs.Result.{MatchResult};
 ghost use Rattle.dutch_arrangements.specs.Prelude.{MatchStep, Spends};
 ghost use Rattle.dutch_choice.specs.Prelude.{IsBest};
@@ -18,7 +18,6 @@ use dutch_candidates::narrowed::NarrowedRule;
 use dutch_choice::finder::{Best, Finder, FinderRequest};
 use dutch_floors::floor::Floors;
 use dutch_passes::{Judge, Pass, PassRoom, Workroom, best_in_time, look_below};
-use std::alloc::{AllocError, Global};
 
 /// How many steps are spent on what the next bracket can be at best: a step for each player of the bracket with each of
 /// the next scoregroup, and a listing.
@@ -47,13 +46,39 @@ fn floors_of<'a>(shaped: &ShapedBracket<'a>, budget: &mut Budget) -> Result<Floo
     Ok(Floors::by_counts(shaped))
 }
 
-/// A large value, moved to the heap, since a function pays at its entry for the size of its locals. (Apart from its
-/// caller, whose own place for the value is one too many already.)
+/// What judges the candidates of a pass: the look-ahead of its bracket, floors by counts, and room to work in. None says
+/// that the steps ended. (Apart from its caller, as it is large until it stands on the heap.)
 #[inline(never)]
-fn boxed<T: Drop>(alloc: Global, value: T) -> Result<Box<T>, AllocError>
-    ensures { IfOk result (λ kept. kept.value ≡ value) }
+fn judge_for<'a>(
+    pass: &Pass<'a>,
+    budget: &mut Budget,
+) -> Result<Option<Box<Judge<'a, BothFloors<'a>>>>, PairFault>
+    ensures stopped { IfOk result (λ found. IfNone found (budget.new.used ≡ budget.new.limit)) }
+    ensures look { IfOk result (λ found. IfSome found (λ judge. LooksFor pass.now judge.value.look)) }
+    ensures context { IfOk result (λ found. IfSome found
+        (λ judge. judge.value.guide.shaped.context.now ≡ pass.now.shaped.context.now)) }
+    ensures shape { IfOk result (λ found. IfSome found
+        (λ judge. judge.value.guide.shaped.shape ≡ pass.now.shaped.shape)) }
+    ensures guide { IfOk result (λ found. IfSome found (λ judge. AreFor pass.now judge.value.guide)) }
+    ensures spends { Spends budget.old budget.new }
 {
-    Ok(Box::new(alloc, value)?)
+    let shaped = pass.shaped;
+    let look = look_below(shaped.context)?;
+    let Ok(counts) = floors_of(&shaped, budget) else {
+        return Ok(None);
+    };
+    let judge = Judge {
+        look,
+        work: Workroom::default(),
+        left: Seats::new(),
+        kept: None,
+        guide: BothFloors {
+            shaped,
+            counts,
+            weights: None,
+        },
+    };
+    Ok(Some(Box::new(shaped.context.alloc(), judge)?))
 }
 
 /// What the passes end with. (Apart from where the search is made ready, as that owns much.)
@@ -63,10 +88,10 @@ fn best_in_passes(
     budget: &mut Budget,
 ) -> Step<Best>
     requires lister { IsLentFor pass.old search.old.start search.old.lister.now }
-    requires look { LooksFor pass.old search.old.judge.look }
-    requires context { search.old.judge.guide.shaped.context.now ≡ pass.old.shaped.context.now }
-    requires shape { search.old.judge.guide.shaped.shape ≡ pass.old.shaped.shape }
-    requires guide { AreFor pass.old search.old.judge.guide }
+    requires look { LooksFor pass.old search.old.judge.value.look }
+    requires context { search.old.judge.value.guide.shaped.context.now ≡ pass.old.shaped.context.now }
+    requires shape { search.old.judge.value.guide.shaped.shape ≡ pass.old.shaped.shape }
+    requires guide { AreFor pass.old search.old.judge.value.guide }
     ensures answer { MatchStep result (IsBest pass.old.shaped.context.now (wished_of pass.old))
         (wished_of pass.old ≡ None) (budget.new.used ≡ budget.new.limit) }
     ensures spends { Spends budget.old budget.new }
@@ -91,34 +116,20 @@ impl Finder for WithFloors {
         lister: &mut Lister<'_, NarrowedRule<'_>>,
         budget: &mut Budget,
     ) -> Result<Step<Best>, PairFault> {
-        let shaped = asked.shaped;
-        let look = look_below(shaped.context)?;
-        let Ok(counts) = floors_of(&shaped, budget) else {
+        let mut pass = Pass {
+            shaped: asked.shaped,
+            wish: asked.wish,
+            aim: None,
+        };
+        let Some(judge) = judge_for(&pass, budget)? else {
             return Ok(Step::Undecided);
         };
-        let mut pass = Pass {
-            shaped,
-            wish: asked.wish,
-            aim: counts.aim(),
+        pass.aim = judge.guide.counts.aim();
+        let mut search = PassRoom {
+            judge,
+            lister,
+            start: asked.start,
         };
-        let mut search = boxed(
-            shaped.context.alloc(),
-            PassRoom {
-                judge: Judge {
-                    look,
-                    work: Workroom::default(),
-                    left: Seats::new(),
-                    kept: None,
-                    guide: BothFloors {
-                        shaped,
-                        counts,
-                        weights: None,
-                    },
-                },
-                lister,
-                start: asked.start,
-            },
-        )?;
         Ok(best_in_passes(&mut pass, &mut search, budget))
     }
 }
