@@ -46,39 +46,50 @@ fn floors_of<'a>(shaped: &ShapedBracket<'a>, budget: &mut Budget) -> Result<Floo
     Ok(Floors::by_counts(shaped))
 }
 
-/// What judges the candidates of a pass: the look-ahead of its bracket, floors by counts, and room to work in. None says
-/// that the steps ended. (Apart from its caller, as it is large until it stands on the heap.)
+/// The same on the heap. None says that the steps ended.
+#[inline(never)]
+fn boxed_floors<'a>(
+    shaped: &ShapedBracket<'a>,
+    budget: &mut Budget,
+) -> Result<Option<Box<Floors<'a>>>, PairFault>
+    ensures stopped { IfOk result (λ found. IfNone found (budget.new.used ≡ budget.new.limit)) }
+    ensures floors { IfOk result (λ found. IfSome found (λ floors. IsBasisFor shaped.now floors.value)) }
+    ensures spends { Spends budget.old budget.new }
+{
+    let Ok(floors) = floors_of(shaped, budget) else {
+        return Ok(None);
+    };
+    Ok(Some(Box::new(shaped.context.alloc(), floors)?))
+}
+
+/// What judges the candidates of a pass: the look-ahead of its bracket, floors by counts, and room to work in. (Apart
+/// from its caller, as it is large until it stands on the heap.)
 #[inline(never)]
 fn judge_for<'a>(
     pass: &Pass<'a>,
-    budget: &mut Budget,
-) -> Result<Option<Box<Judge<'a, BothFloors<'a>>>>, PairFault>
-    ensures stopped { IfOk result (λ found. IfNone found (budget.new.used ≡ budget.new.limit)) }
-    ensures look { IfOk result (λ found. IfSome found (λ judge. LooksFor pass.now judge.value.look)) }
-    ensures context { IfOk result (λ found. IfSome found
-        (λ judge. judge.value.guide.shaped.context.now ≡ pass.now.shaped.context.now)) }
-    ensures shape { IfOk result (λ found. IfSome found
-        (λ judge. judge.value.guide.shaped.shape ≡ pass.now.shaped.shape)) }
-    ensures guide { IfOk result (λ found. IfSome found (λ judge. AreFor pass.now judge.value.guide)) }
-    ensures spends { Spends budget.old budget.new }
+    floors: Box<Floors<'a>>,
+) -> Result<Box<Judge<'a, BothFloors<'a>>>, PairFault>
+    requires floors { IsBasisFor pass.now.shaped floors.value }
+    ensures look { IfOk result (λ judge. LooksFor pass.now judge.value.look) }
+    ensures context { IfOk result
+        (λ judge. judge.value.guide.shaped.context.now ≡ pass.now.shaped.context.now) }
+    ensures shape { IfOk result (λ judge. judge.value.guide.shaped.shape ≡ pass.now.shaped.shape) }
+    ensures guide { IfOk result (λ judge. AreFor pass.now judge.value.guide) }
 {
     let shaped = pass.shaped;
-    let look = look_below(shaped.context)?;
-    let Ok(counts) = floors_of(&shaped, budget) else {
-        return Ok(None);
+    let guide = BothFloors {
+        shaped,
+        counts: Box::into_inner(floors),
+        weights: None,
     };
     let judge = Judge {
-        look,
+        look: look_below(shaped.context)?,
         work: Workroom::default(),
         left: Seats::new(),
         kept: None,
-        guide: BothFloors {
-            shaped,
-            counts,
-            weights: None,
-        },
+        guide,
     };
-    Ok(Some(Box::new(shaped.context.alloc(), judge)?))
+    Ok(Box::new(shaped.context.alloc(), judge)?)
 }
 
 /// What the passes end with. (Apart from where the search is made ready, as that owns much.)
@@ -116,15 +127,15 @@ impl Finder for WithFloors {
         lister: &mut Lister<'_, NarrowedRule<'_>>,
         budget: &mut Budget,
     ) -> Result<Step<Best>, PairFault> {
+        let Some(floors) = boxed_floors(&asked.shaped, budget)? else {
+            return Ok(Step::Undecided);
+        };
         let mut pass = Pass {
             shaped: asked.shaped,
             wish: asked.wish,
-            aim: None,
+            aim: floors.aim(),
         };
-        let Some(judge) = judge_for(&pass, budget)? else {
-            return Ok(Step::Undecided);
-        };
-        pass.aim = judge.guide.counts.aim();
+        let judge = judge_for(&pass, floors)?;
         let mut search = PassRoom {
             judge,
             lister,

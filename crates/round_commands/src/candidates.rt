@@ -102,7 +102,8 @@ struct ListedBracket<'a> {
     shape: Shape,
 }
 
-// A bracket and its candidates, all or those behind the cursor.
+// A bracket and its candidates, all or those behind the cursor. (Apart from its caller, as it holds a listing.)
+#[inline(never)]
 #[tactic(auto, using(crate::proofs::CandidateLemmas::cursor_is_in, crate::proofs::CandidateLemmas::not_listed))]
 fn list(
     alloc: Global,
@@ -123,13 +124,13 @@ fn list(
     let rule = reached.rule(field);
     match &options.from {
         None => {
-            let coming = Candidates::new(&frame, shape, &rule);
-            list_coming(alloc, options, asked, coming)
+            let mut coming = Candidates::new(&frame, shape, &rule);
+            list_coming(alloc, options, asked, &mut coming)
         }
         Some(from) => match Cursor::read(from.as_str(), &frame, shape) {
             Ok(cursor) => {
-                let coming = Candidates::from(&frame, shape, &rule, cursor);
-                list_coming(alloc, options, asked, coming)
+                let mut coming = Candidates::from(&frame, shape, &rule, cursor);
+                list_coming(alloc, options, asked, &mut coming)
             }
             Err(_) => not_of_bracket(alloc, options.bracket),
         },
@@ -142,11 +143,11 @@ fn list_coming<'a, R: Rule>(
     alloc: Global,
     options: &CandidatesOptions<'_>,
     asked: &ListedBracket<'a>,
-    candidates: Candidates<'a, R>,
+    candidates: &mut Candidates<'a, R>,
 ) -> Result<Reply, AllocError>
-    requires frame { candidates.frame ≡ frame_of asked.now.field.now asked.now.reached.now }
+    requires frame { candidates.old.frame ≡ frame_of asked.now.field.now asked.now.reached.now }
     requires coming { coming_of asked.now.field.now asked.now.reached.now asked.now.shape options.now.from
-        ≡ Ok candidates.coming }
+        ≡ Ok candidates.old.coming }
     ensures { IfOk result (λ reply. Lists options.now asked.now.field.now asked.now.reached.now asked.now.shape
         (coming_of asked.now.field.now asked.now.reached.now asked.now.shape options.now.from) (answer_of reply)) }
 {

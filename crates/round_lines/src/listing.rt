@@ -39,11 +39,11 @@ pub struct Bracket<'a> {
     pub reached: &'a Reached,
 }
 
-/// A bracket, and its candidates that are to come.
+/// A bracket, and its candidates that are to come. (They are lent, as a listing is large.)
 #[derive(Drop)]
-pub struct RemainingCandidates<'a, R: Rule> {
+pub struct RemainingCandidates<'a, 'c, R: Rule> {
     pub bracket: Bracket<'a>,
-    pub candidates: Candidates<'a, R>,
+    pub candidates: &'c mut Candidates<'a, R>,
 }
 
 /// The lines of the next `count` candidates, or of fewer if no more are left or all steps of the budget are used up
@@ -51,20 +51,20 @@ pub struct RemainingCandidates<'a, R: Rule> {
 #[tactic(auto, using(crate::proofs::ListingLemmas::underway_none, crate::proofs::ListingLemmas::underway_line, crate::proofs::ListingLemmas::underway_end, crate::proofs::ListingLemmas::underway_stopped, crate::proofs::ListingLemmas::underway_count))]
 pub fn lines<R: Rule>(
     alloc: Global,
-    coming: RemainingCandidates<'_, R>,
+    coming: RemainingCandidates<'_, '_, R>,
     count: usize,
     budget: &mut Budget,
 ) -> Result<Listed, AllocError>
-    requires { coming.candidates.frame ≡ frame_of coming.bracket.field.now coming.bracket.reached.now }
+    requires { coming.candidates.now.frame ≡ frame_of coming.bracket.field.now coming.bracket.reached.now }
     ensures listing { IfOk result (λ listed.
         IsListing (line_text coming.entry.bracket.field.now coming.entry.bracket.reached.now)
-        coming.entry.candidates.coming count budget.old.limit listed.ending (string_bytes listed.text)) }
+        coming.entry.candidates.now.coming count budget.old.limit listed.ending (string_bytes listed.text)) }
     ensures stopped { IfOk result (λ listed. StopsAtLimit listed.ending budget.new) }
     ensures spends { Spends budget.old budget.new }
 {
     let RemainingCandidates {
         bracket,
-        mut candidates,
+        candidates,
     } = coming;
     let mut text = String::new(alloc);
     let mut done = 0;
