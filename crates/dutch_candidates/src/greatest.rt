@@ -32,7 +32,7 @@ impl<'a, R: Rule> Lister<'a, R> {
         }
     }
 
-    /// The same on the heap, so that it is no local of who holds it.
+    /// A lister on the heap, so that it is no local of who holds it.
     #[inline(never)]
     pub fn boxed(
         alloc: Global,

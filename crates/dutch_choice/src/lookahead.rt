@@ -164,8 +164,8 @@ fn value_by<'b>(
     Ok(value_drawn(legal, found, &lister.drawn))
 }
 
-/// The same with a lister on the stack, where no memory is lent or it is refused. (Apart from its caller, as a lister is
-/// large.)
+/// What a bracket can be (C.7), with a lister on the stack, where no memory is lent or it is refused. (Apart from its
+/// caller, as a lister is large.)
 #[inline(never)]
 fn value_on_stack(
     alloc: Option<Global>,

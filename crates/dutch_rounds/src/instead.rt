@@ -123,7 +123,8 @@ fn is_granted_by(
     }
 }
 
-/// The same with a listing on the stack, where memory is refused. (Apart from its caller, as a listing is large.)
+/// Yes if a legal candidate grants the wish, with a listing on the stack, where memory is refused. (Apart from its
+/// caller, as a listing is large.)
 #[inline(never)]
 fn is_granted_on_stack(
     wished: &Wished<'_>,

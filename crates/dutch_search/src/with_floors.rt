@@ -46,7 +46,7 @@ fn floors_of<'a>(shaped: &ShapedBracket<'a>, budget: &mut Budget) -> Result<Floo
     Ok(Floors::by_counts(shaped))
 }
 
-/// The same on the heap. None says that the steps ended.
+/// The floors of a bracket, on the heap. None says that the steps ended.
 #[inline(never)]
 fn boxed_floors<'a>(
     shaped: &ShapedBracket<'a>,
