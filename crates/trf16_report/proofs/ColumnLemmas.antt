@@ -1,10 +1,12 @@
 -- How a line falls into columns, step by step.
 use Rattle.std.proofs.Common.{◌≡◌, ℕ, zero, suc, ◌+◌, ◌-◌, ◌<◌, ◌≤◌, Bool, true, false, ◌&&◌, cond, get_or, inl, inr, subst, List, [], ◌∷◌, ◌++◌, length, take, drop, refl, sym, ap, ◌∙◌, append_assoc, arith}
-use Rattle.std.proofs.lemmas.List.{append-nil, length-append, length-drop, drop-drop, drop_at, length-take-le, drop_all, take-append-drop, take_all, get_or_past}
+use Rattle.std.proofs.lemmas.List.{append-nil, length-append, length-drop, drop-drop, drop_at, length-take-le, drop_all, take-append-drop, take_all}
 use Rattle.std.proofs.Math.Seq.{take-add, get_or-append_seam}
 use Rattle.std.proofs.lemmas.Bool.{cases_lt}
 use Rattle.std.proofs.Math.ListN.{get_or-append}
-use Rattle.trf16_report.specs.Prelude.{onto_first, goes_on, columns, joined, IsStart, AllStart}
+use Rattle.std.proofs.lemmas.Bool.Decides.{nat_tests}
+use Rattle.std.specs.Str.{IsAscii}
+use Rattle.trf16_report.specs.Prelude.{onto_first, goes_on, columns, joined, IsStart, AllStart, place}
 
 pub columns-bytes : (b : ℕ) (rest : List ℕ) → columns false (b ∷ rest) ≡ (b ∷ []) ∷ columns false rest
 columns-bytes b [] = refl
@@ -59,17 +61,49 @@ first_character bytes b rest n e within inside behind =
     let one_more : 1 + n ≡ suc n = omega arith in
     rw (e, one_more) (IsFirst-from true (b ∷ rest) (b ∷ take n rest) (suc n) (drop n rest) refl refl (columns-character b rest n within inside behind))
 
+-- behind a column, a further one begins where it would if the line began there
+pub IsStart-behind : (utf8 : Bool) (bytes : List ℕ) (before at more len : ℕ) → IsStart utf8 bytes before at → IsStart utf8 (drop at bytes) more len
+    → IsStart utf8 bytes (before + more) (at + len)
+IsStart-behind utf8 bytes before at more len start further =
+    let cols = columns utf8 bytes in
+    let within : len ≤ length (drop at bytes) = further.within in
+    let together : take at bytes ++ take len (drop at bytes) ≡ joined (take before cols ++ take more (drop before cols)) =
+    rw (start.front, further.front, start.back) (sym (joined-append (take before cols) (take more (drop before cols)))) in
+    record {
+      within = omega (arith, length-drop at bytes);
+      front = take-add at len bytes ∙ together ∙ ap joined (sym (take-add before more (columns utf8 bytes)));
+      back = ap (columns utf8) (sym (drop-drop len at bytes)) ∙ further.back ∙ ap (λ (cols : List (List ℕ)). drop more cols) start.back ∙ drop-drop more before (columns utf8 bytes);
+    }
+
 -- the next column begins behind the first of the rest
 pub IsStart-next : (utf8 : Bool) (bytes : List ℕ) (before at len : ℕ) → IsStart utf8 bytes before at → len ≤ length (drop at bytes)
     → IsFirst utf8 (drop at bytes) len → IsStart utf8 bytes (before + 1) (at + len)
 IsStart-next utf8 bytes before at len start within one =
-    let cols = columns utf8 bytes in
-    let together : take at bytes ++ take len (drop at bytes) ≡ joined (take before cols ++ take 1 (drop before cols)) =
-    rw (start.front, one.first, start.back) (sym (joined-append (take before cols) (take 1 (drop before cols)))) in
+    IsStart-behind utf8 bytes before at 1 len start (record { within = within; front = one.first; back = one.rest })
+
+-- each byte of a line is a column: the text is not UTF-8, or the line is ASCII
+abbrev pub IsPlain : Bool → List ℕ → Type 0
+IsPlain utf8 bytes = utf8 ≡ true → IsAscii bytes
+
+stops : (b : ℕ) → b < 128 → goes_on b ≡ false
+stops b h = grind (arith, nat_tests)
+
+columns-plain : (utf8 : Bool) (b : ℕ) (rest : List ℕ) → IsPlain utf8 rest → columns utf8 (b ∷ rest) ≡ (b ∷ []) ∷ columns utf8 rest
+columns-plain false b rest plain = columns-bytes b rest
+columns-plain true b rest plain = columns-character b rest 0 (omega arith) (λ k lt. absurd (omega arith)) (λ _. stops (get_or rest 0 0) (plain refl 0))
+
+-- where each byte is a column, one begins at each byte
+IsStart-plain : (utf8 : Bool) (bytes : List ℕ) (k : ℕ) → IsPlain utf8 bytes → k ≤ length bytes → IsStart utf8 bytes k k
+IsStart-plain utf8 bytes zero plain le = record { within = le; front = refl; back = refl }
+IsStart-plain utf8 [] (suc k) plain le = absurd (omega arith)
+IsStart-plain utf8 (b ∷ rest) (suc k) plain le =
+    let others_plain : IsPlain utf8 rest = λ e i. plain e (suc i) in
+    let others = IsStart-plain utf8 rest k others_plain (omega arith) in
+    let first = columns-plain utf8 b rest others_plain in
     record {
-      within = omega (arith, length-drop at bytes);
-      front = take-add at len bytes ∙ together ∙ ap joined (sym (take-add before 1 (columns utf8 bytes)));
-      back = ap (columns utf8) (sym (drop-drop len at bytes)) ∙ one.rest ∙ ap (λ (cols : List (List ℕ)). drop 1 cols) start.back ∙ drop-drop 1 before (columns utf8 bytes);
+      within = le;
+      front = rw first (ap (λ (bs : List ℕ). b ∷ bs) others.front);
+      back = rw first others.back;
     }
 
 -- the bytes of some columns lie between where they begin and where they end
@@ -87,15 +121,19 @@ text_between utf8 bytes i j a b le start end =
     let total : length (take b bytes) ≡ length (take a bytes) + length middle = ap length parts ∙ length-append (take a bytes) middle in
     (omega arith, ap (λ (bs : List ℕ). drop a bs) parts ∙ drop_at (take a bytes) middle a first)
 
--- one more place is noted
-pub AllStart-push : (utf8 : Bool) (bytes starts : List ℕ) (at : ℕ) → AllStart utf8 bytes starts (length starts) → IsStart utf8 bytes (length starts) at
-    → AllStart utf8 bytes (starts ++ at ∷ []) (length starts + 1)
-AllStart-push utf8 bytes starts at before here j lt =
+-- these places are where the first columns begin
+abbrev pub AreStarts : Bool → List ℕ → List ℕ → Type 0
+AreStarts utf8 bytes starts = (k : ℕ) → k < length starts → IsStart utf8 bytes k (get_or starts k 0)
+
+-- one more place is listed
+pub AreStarts-push : (utf8 : Bool) (bytes starts : List ℕ) (at : ℕ) → AreStarts utf8 bytes starts → IsStart utf8 bytes (length starts) at
+    → AreStarts utf8 bytes (starts ++ at ∷ [])
+AreStarts-push utf8 bytes starts at before here j lt =
     elim (cases_lt j (length starts)) [
-      | inl below ↦ rw (get_or-append starts (at ∷ []) (length bytes) j below) (before j below)
+      | inl below ↦ rw (get_or-append starts (at ∷ []) 0 j below) (before j below)
       | inr above ↦
-          let same : length starts ≡ j = omega arith in
-          subst (λ n. IsStart utf8 bytes n (get_or (starts ++ at ∷ []) n (length bytes))) same (rw (get_or-append_seam starts at [] (length bytes)) here)
+          let same : length starts ≡ j = omega (arith, length-append starts (at ∷ [])) in
+          subst (λ n. IsStart utf8 bytes n (get_or (starts ++ at ∷ []) n 0)) same (rw (get_or-append_seam starts at [] 0) here)
     ]
 
 -- where a column would begin at the end of the line, so would each further one
@@ -113,17 +151,52 @@ IsStart-further utf8 bytes n k start le =
       back = ap (columns utf8) end ∙ sym further;
     }
 
--- the places that are noted are enough: the line ends where the next column would begin
-pub AllStart-whole : (utf8 : Bool) (bytes starts : List ℕ) (at count : ℕ) → AllStart utf8 bytes starts (length starts) → IsStart utf8 bytes (length starts) at
-    → length bytes ≤ at → AllStart utf8 bytes starts count
-AllStart-whole utf8 bytes starts at count before here ended j lt =
-    elim (cases_lt j (length starts)) [
-      | inl below ↦ before j below
-      | inr above ↦
-          let within : at ≤ length bytes = here.within in
-          let same : at ≡ length bytes = omega arith in
-          rw (get_or_past starts j (length bytes) above)
-          (IsStart-further utf8 bytes (length starts) j (subst (λ a. IsStart utf8 bytes (length starts) a) same here) above)
+-- the three cases of a place: it is listed; it is a byte behind the one before it; or it is at the end of the line
+place-below : (starts : List ℕ) (next end k : ℕ) → k < length starts → get_or starts k 0 ≡ place starts next end k
+place-below starts next end k below = grind (arith, nat_tests)
+
+place-within : (starts : List ℕ) (next end k : ℕ) → length starts ≤ k → next + (k - length starts) ≤ end → next + (k - length starts) ≡ place starts next end k
+place-within starts next end k above within = grind (arith, nat_tests)
+
+place-past : (starts : List ℕ) (next end k : ℕ) → length starts ≤ k → end ≤ next + (k - length starts) → end ≡ place starts next end k
+place-past starts next end k above past = grind (arith, nat_tests)
+
+-- a column whose place is listed
+IsStart-listed : (utf8 : Bool) (bytes starts : List ℕ) (next k : ℕ) → AreStarts utf8 bytes starts → k < length starts
+    → IsStart utf8 bytes k (place starts next (length bytes) k)
+IsStart-listed utf8 bytes starts next k listed below = subst (IsStart utf8 bytes k) (place-below starts next (length bytes) k below) (listed k below)
+
+-- a column behind these, where each byte behind them is a column
+IsStart-rest : (utf8 : Bool) (bytes starts : List ℕ) (next k : ℕ) → IsStart utf8 bytes (length starts) next → IsPlain utf8 (drop next bytes) → length starts ≤ k
+    → IsStart utf8 bytes k (place starts next (length bytes) k)
+IsStart-rest utf8 bytes starts next k here plain above =
+    let n = length starts in
+    let end = length bytes in
+    let len : length (drop next bytes) ≡ end - next = length-drop next bytes in
+    let within : next ≤ end = here.within in
+    let at = λ (i : ℕ) (le : i ≤ end - next). IsStart-behind utf8 bytes n next i i here (IsStart-plain utf8 (drop next bytes) i plain (omega arith)) in
+    elim (cases_lt (end - next) (k - n)) [
+      | inl past ↦
+          let whole : next + (end - next) ≡ end = omega arith in
+          subst (IsStart utf8 bytes k) (place-past starts next end k above (omega arith))
+          (IsStart-further utf8 bytes (n + (end - next)) k (subst (IsStart utf8 bytes (n + (end - next))) whole (at (end - next) (omega arith))) (omega arith))
+      | inr inside ↦
+          let sum : n + (k - n) ≡ k = omega arith in
+          subst (IsStart utf8 bytes k) (place-within starts next end k above (omega arith))
+          (subst (λ i. IsStart utf8 bytes i (next + (k - n))) sum (at (k - n) (omega arith)))
+    ]
+
+-- the places that are listed are enough, because there are so many, or because each byte behind them is a column
+pub AllStart-listed : (utf8 : Bool) (bytes starts : List ℕ) (next count : ℕ) → AreStarts utf8 bytes starts → count ≤ length starts
+    → AllStart utf8 bytes starts next count
+AllStart-listed utf8 bytes starts next count listed le k lt = IsStart-listed utf8 bytes starts next k listed (omega arith)
+
+pub AllStart-whole : (utf8 : Bool) (bytes starts : List ℕ) (next count : ℕ) → AreStarts utf8 bytes starts → IsStart utf8 bytes (length starts) next
+    → IsPlain utf8 (drop next bytes) → AllStart utf8 bytes starts next count
+AllStart-whole utf8 bytes starts next count listed here plain k lt =
+    elim (cases_lt k (length starts)) [
+      | inl below ↦ IsStart-listed utf8 bytes starts next k listed below
+      | inr above ↦ IsStart-rest utf8 bytes starts next k here plain above
     ]
 
 -- a column that would begin at the end of the line is missing

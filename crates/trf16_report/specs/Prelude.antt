@@ -19,7 +19,7 @@ pub use Rattle.trf16_report.specs.Unfinished.{first_unfinished, is_unfinished, u
 pub use Rattle.trf16_report.specs.Written.{blanks, bye_letter, cell_text, colour_letter, left_in, lines_text, meeting_text, outcome_letter, player_text, points_field, points_text, right_in_four, round_text, written}
 pub use Rattle.trf16_report.specs.Round.{CanBePaired, cell_by, cell_on, cells_with, entry_with, named_by, with_cell, with_round}
 pub use Rattle.trf16_report.specs.BeforeRound.{before_round, cell_back, cells_back, entry_back, line_back, taken_back}
-pub use Rattle.trf16_report.specs.Steps.{AllStart, IsStart, behind_end, carried_as, lines_carried}
+pub use Rattle.trf16_report.specs.Steps.{AllStart, IsStart, behind_end, carried_as, lines_carried, place}
 unfoldable pub use Rattle.trf16_report.specs.Steps.{whole_report}
 pub use Rattle.trf16_report.specs.StartRanks.{HasOwnStarts, starts_of}
 pub use Rattle.trf16_report.specs.Points.{SpellsHalf, SpellsPoints}

@@ -1,5 +1,5 @@
 -- What the inner functions cut off a text, one step at a time.
-use Rattle.std.specs.Prelude.{◌≡◌, ℕ, ◌<◌, ◌≤◌, Bool, ◌&&◌, ◌==◌, if◌then◌else◌, List, [], ◌∷◌, length, take, drop, map, slice_index_or, Option, option_map, Result}
+use Rattle.std.specs.Prelude.{◌≡◌, ℕ, ◌+◌, ◌-◌, ◌<◌, ◌≤◌, Bool, ◌&&◌, ◌==◌, nat_lt, min, if◌then◌else◌, List, [], ◌∷◌, length, take, drop, map, slice_index, Option, option_map, Result}
 use Rattle.trf16_report.specs.Lines.{columns, joined}
 use Rattle.std.specs.Str.{byte}
 use Rattle.trf16_report.specs.Sheet.{Sheet}
@@ -20,10 +20,14 @@ pub record IsStart (utf8 : Bool) (bytes : List ℕ) (before at : ℕ) : Type 0 w
   pub front : take at bytes ≡ joined (take before (columns utf8 bytes))
   pub back : columns utf8 (drop at bytes) ≡ drop before (columns utf8 bytes)
 
--- the first `count` of these places are where columns begin, one after the other; where there are fewer places, each further column
--- begins at the end of the line
-abbrev pub AllStart : Bool → List ℕ → List ℕ → ℕ → Type 0
-AllStart utf8 bytes starts count = (k : ℕ) → k < count → IsStart utf8 bytes k (slice_index_or starts k (length bytes))
+-- where a column begins, of which k stand in front: the first places are listed, `next` is the one behind them, and each further column
+-- begins a byte behind the one before it, up to the end of the line
+abbrev pub place : List ℕ → ℕ → ℕ → ℕ → ℕ
+place starts next end k = if nat_lt k (length starts) then slice_index starts k else min end (next + (k - length starts))
+
+-- the first `count` of these places are where columns begin, one after the other
+abbrev pub AllStart : Bool → List ℕ → List ℕ → ℕ → ℕ → Type 0
+AllStart utf8 bytes starts next count = (k : ℕ) → k < count → IsStart utf8 bytes k (place starts next (length bytes) k)
 
 -- a line as it is carried: not where it is a player's; and if absences are bare, of a line XXZ the kind alone
 abbrev pub carried_as : Bool → Bool → List ℕ → Option (List ℕ)

@@ -1,9 +1,9 @@
 // The columns of a line: its characters if the text is UTF-8, otherwise its bytes. They are found once for each
 // player's line, up to the last that is read.
-ghost use Rattle.std.specs.Prelude.{◌≡◌, ℕ, ◌+◌, ◌-◌, ◌<◌, ◌≤◌, List, [], length, slice_index, slice_index_or, take, drop};
+ghost use Rattle.std.specs.Prelude.{◌≡◌, ℕ, ◌+◌, ◌-◌, ◌<◌, ◌≤◌, List, [], length, slice_index, take, drop};
 ghost use Rattle.std.specs.Prelude.{true, false, not, IfOk};
 ghost use Rattle.trf16_report.specs.Lines.{columns, goes_on, text, joined, is_blank};
-ghost use Rattle.trf16_report.specs.Steps.{AllStart};
+ghost use Rattle.trf16_report.specs.Steps.{AllStart, place};
 ghost use Rattle.trf16_report.specs.declared.limits.TheConstants.{LAST_COLUMN};
 
 use crate::limits::LAST_COLUMN;
@@ -15,8 +15,10 @@ use std::marker::Model;
 pub struct Line<'a> {
     bytes: &'a [u8],
     utf8: bool,
-    // where each of these columns begins, and the one behind them; where the line ends before, no further place
+    // where the first columns begin, one after the other; none where each byte of the line is a column
     starts: Vec<usize>,
+    // where the column behind these begins; from there on each column that is read is a byte
+    next: usize,
 }
 
 impl<'a> Model for Line<'a> {
@@ -24,7 +26,7 @@ impl<'a> Model for Line<'a> {
 
     ghost view = { λ l. columns l.utf8 l.bytes.now };
 
-    ghost invariant = { λ l. AllStart l.utf8 l.bytes.now l.starts.items (LAST_COLUMN + 1) };
+    ghost invariant = { λ l. AllStart l.utf8 l.bytes.now l.starts.items l.next (LAST_COLUMN + 1) };
 }
 
 // How many bytes in front go on with a character.
@@ -51,11 +53,30 @@ pub(crate) fn column_len(bytes: &[u8], utf8: bool) -> usize
     if utf8 { 1 + follow_len(rest) } else { 1 }
 }
 
-// The place of a column, of some; each further one begins at the end of the line.
-fn place_at(starts: &[usize], k: usize, end: usize) -> usize
-    ensures { result ≡ slice_index_or starts.now k end }
+// How many bytes in front may belong to characters of several bytes; behind them each byte is a column. Most lines have
+// no such character, and then no place has to be listed.
+fn mixed_len(bytes: &[u8], utf8: bool) -> usize
+    ensures within { result ≤ length bytes.now }
+    ensures behind { utf8 ≡ true → (k : ℕ) → result ≤ k → slice_index bytes.now k < 0x80 }
 {
-    starts.get(k).copied().unwrap_or(end)
+    if !utf8 || bytes.is_ascii() {
+        return 0;
+    }
+    bytes
+        .iter()
+        .rposition(|byte| 0x80 <= *byte)
+        .map_or(0, |last| last + 1)
+}
+
+// The place of the column of which k stand in front: the first places are listed, and each further column begins a byte
+// behind the one before it, up to the end of the line.
+fn place_at(starts: &[usize], next: usize, end: usize, k: usize) -> usize
+    ensures { result ≡ place starts.now next end k }
+{
+    if k < starts.len() {
+        return starts[k];
+    }
+    end.min(next.saturating_add(k - starts.len()))
 }
 
 impl<'a> Line<'a> {
@@ -63,17 +84,19 @@ impl<'a> Line<'a> {
     pub fn new(alloc: Global, bytes: &'a [u8], utf8: bool) -> Result<Line<'a>, AllocError>
         ensures { IfOk result (λ line. line ≡ columns utf8 bytes.now) }
     {
-        let mut starts = Vec::with_capacity(alloc, bytes.len().min(LAST_COLUMN + 1))?;
-        let mut at = 0;
-        while at < bytes.len() && starts.len() <= LAST_COLUMN {
-            starts.push(at)?;
-            let (_, rest) = bytes.split_at(at);
-            at += column_len(rest, utf8);
+        let mixed = mixed_len(bytes, utf8);
+        let mut starts = Vec::with_capacity(alloc, mixed.min(LAST_COLUMN + 1))?;
+        let mut next = 0;
+        while next < mixed && starts.len() <= LAST_COLUMN {
+            starts.push(next)?;
+            let (_, rest) = bytes.split_at(next);
+            next += column_len(rest, utf8);
         }
         Ok(Line {
             bytes,
             utf8,
             starts,
+            next,
         })
     }
 
@@ -85,8 +108,9 @@ impl<'a> Line<'a> {
         ensures { result.now ≡ text self.now first last }
     {
         let len = self.bytes.len();
-        let (front, _) = self.bytes.split_at(place_at(&self.starts, last, len));
-        front.split_at(place_at(&self.starts, first - 1, len)).1
+        let start = place_at(&self.starts, self.next, len, first - 1);
+        let end = place_at(&self.starts, self.next, len, last);
+        self.bytes.split_at(end).0.split_at(start).1
     }
 
     /// A no is certain; a column that is not known to be missing is taken to be there.
@@ -96,14 +120,14 @@ impl<'a> Line<'a> {
         ensures { result ≡ false → drop (column - 1) self.now ≡ [] }
     {
         let len = self.bytes.len();
-        place_at(&self.starts, column - 1, len) < len
+        place_at(&self.starts, self.next, len, column - 1) < len
     }
 
     /// Blanks behind the last column that is read are allowed.
     pub fn is_too_long(&self) -> bool
         ensures { result ≡ not (is_blank (joined (drop LAST_COLUMN self.now))) }
     {
-        let end = place_at(&self.starts, LAST_COLUMN, self.bytes.len());
+        let end = place_at(&self.starts, self.next, self.bytes.len(), LAST_COLUMN);
         let (_, rest) = self.bytes.split_at(end);
         !is_blank(rest)
     }
