@@ -6,7 +6,7 @@ use Rattle.std.proofs.lemmas.List.{take_more, drop_more, get_or-drop, length-dro
 use Rattle.std.proofs.lemmas.Bool.Decides.{eqb_tells}
 use Rattle.std.proofs.lemmas.List.Folds.{list_all-append}
 use Rattle.std.proofs.Math.Bool.{and-true}
-use Rattle.trf16_report.specs.Prelude.{words, without_last}
+use Rattle.trf16_report.specs.Prelude.{words, without_last, trimmed}
 
 pub words-blank : (rest : List ℕ) → words (32 ∷ rest) ≡ words rest
 words-blank [] = refl
@@ -71,6 +71,13 @@ without_last-push test (y ∷ xs) x =
 pub without_last-more : {X : Type 0} (test : X → Bool) (xs : List X) (i : ℕ) (d : X) → i < length xs
     → without_last test (take (i + 1) xs) ≡ cond (test (get_or xs i d)) (without_last test (take i xs)) (take (i + 1) xs)
 without_last-more test xs i d lt = rw (take_more xs i d lt) (without_last-push test (take i xs) (get_or xs i d))
+
+-- the last byte of a text is looked at
+pub trimmed-blank : (text front : List ℕ) (last : ℕ) → text ≡ front ++ last ∷ [] → last ≡ 32 → trimmed text ≡ trimmed front
+trimmed-blank text front last e blank = ap trimmed e ∙ without_last-push (λ b. b == 32) front last ∙ rw blank refl
+
+pub trimmed-stays : (text front : List ℕ) (last : ℕ) → text ≡ front ++ last ∷ [] → last ≢ 32 → trimmed text ≡ text
+trimmed-stays text front last e other = ap trimmed e ∙ without_last-push (λ b. b == 32) front last ∙ rw (not_blank last other) (sym e)
 
 -- a number of few digits is small
 pub below-power : (whole i most : ℕ) → whole + 1 ≤ 10 ^ i → i ≤ most → whole + 1 ≤ 10 ^ most

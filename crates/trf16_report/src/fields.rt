@@ -159,13 +159,14 @@ pub fn points_in(field: &[u8]) -> Option<Option<u16>>
 pub fn trimmed(bytes: &[u8]) -> &[u8]
     ensures { result.now ≡ trimmed bytes.now }
 {
-    let mut len = 0;
-    for (i, byte) in bytes.iter().enumerate() {
-        if *byte != b' ' {
-            len = i + 1;
+    let mut rest = bytes;
+    while let Some((last, front)) = rest.split_last() {
+        if *last != b' ' {
+            return rest;
         }
+        rest = front;
     }
-    bytes.split_at(len).0
+    rest
 }
 
 /// A text without the blanks at its ends.
