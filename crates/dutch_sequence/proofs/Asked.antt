@@ -6,8 +6,11 @@ use Rattle.std.proofs.lemmas.List.Kept.{AllPairs-from_increasing}
 use Rattle.std.proofs.lemmas.List.{take_all, drop_all, length-map, length-take-le, take-append-drop}
 use Rattle.std.proofs.lemmas.List.Elements.{filter-append}
 use Rattle.std.proofs.lemmas.List.Folds.{list_any-append}
-use Rattle.std.proofs.lemmas.Bool.{true≢false, cases_Bool, and_parts, or_from, or_left, ltb-true, ltb-false}
+use Rattle.std.proofs.Math.Bool.{and-false}
+use Rattle.std.proofs.lemmas.Bool.{true≢false, cases_Bool, and_parts, not-true, or_from, or_left, ltb-true, ltb-false}
 use Rattle.dutch_sequence.specs.Prelude.{is_member, numbers_from, subsets, moved_in, sum_of, IsExchange, GoesOn, count_of, half_start, IsIn, IsOfStage, fixed_numbers, is_fixed, kept_of, exchange_class, out_limit, in_limit, set_of, total, value_of}
+use Rattle.dutch_sequence.specs.declared.exchange.Known.{Known}
+use Rattle.dutch_sequence.specs.declared.exchange.Known.TheVariants.{Chosen, PassedOver}
 use Rattle.dutch_sequence.specs.declared.exchange.Side.{Side}
 use Rattle.dutch_sequence.specs.declared.exchange.Side.TheVariants.{Out, In}
 use Rattle.dutch_sequence.proofs.Orders.{in-member, member-in, IsIn-filter, IsIn-map}
@@ -113,22 +116,19 @@ module _ (pool : List ℕ) (k size : ℕ) (outs ins beginning rest : List ℕ) (
             )
       ]
 
-chosen-false : (chosen : Bool) → not chosen ≡ true → chosen ≡ false
-chosen-false true h = absurd (true≢false (sym h))
-chosen-false false h = refl
+-- whether a place of which that is known is chosen
+abbrev is_chosen : Known → Bool
+is_chosen Chosen = true
+is_chosen PassedOver = false
 
 -- what is told of a place is so
-pub told-decides : (taken more : List ℕ) (limit : ℕ) (chosen : Bool) (place : ℕ) → (place < limit → is_member place more ≡ false) → is_fixed taken limit chosen place ≡ true → is_member place (taken ++ more) ≡ chosen
-told-decides taken more limit chosen place barred told =
-    elim (cases_Bool (is_member place taken)) [
-      | inl yes' ↦
-          list_any-append (λ y. eqb y place) taken more ∙ or_left (is_member place taken) (is_member place more) yes'
-          ∙ sym (sym (ap (λ b. if b then chosen else (not chosen && nat_lt place limit)) yes') ∙ told)
-      | inr no' ↦
-          let parts = and_parts (not chosen) (nat_lt place limit) (sym (ap (λ b. if b then chosen else (not chosen && nat_lt place limit)) no') ∙ told) in
-          list_any-append (λ y. eqb y place) taken more ∙ or_from (is_member place taken) (is_member place more) no' (barred (ltb-true place limit parts.1))
-          ∙ sym (chosen-false chosen parts.0)
-    ]
+pub told-decides : (taken more : List ℕ) (limit : ℕ) (known : Known) (place : ℕ) → (place < limit → is_member place more ≡ false) → is_fixed taken limit known place ≡ true → is_member place (taken ++ more) ≡ is_chosen known
+told-decides taken more limit Chosen place barred told =
+    list_any-append (λ y. eqb y place) taken more ∙ or_left (is_member place taken) (is_member place more) told
+told-decides taken more limit PassedOver place barred told =
+    let parts = and_parts (nat_lt place limit) (not (is_member place taken)) told in
+    list_any-append (λ y. eqb y place) taken more
+    ∙ or_from (is_member place taken) (is_member place more) (not-true (is_member place taken) parts.1) (barred (ltb-true place limit parts.0))
 
 numbers-in : (x first count : ℕ) → IsIn x (numbers_from first count) → (first ≤ x) × (x < first + count)
 numbers-in x first zero m = absurd m
@@ -222,17 +222,17 @@ module _ (pool : List ℕ) (k : ℕ) (rises : IsStrictlyIncreasing pool) (enough
         ∙ ap (is_member place) (places-of_exchange pool k rises enough set outs ins e.outs_climb e.ins_climb e.is_set).1
 
     module _ (beginning rest : List ℕ) (same : outs ++ ins ≡ beginning ++ rest) where
-      out-told : (chosen : Bool) (place : ℕ) → place < k → is_fixed (take size beginning) (out_limit pool k size beginning) chosen place ≡ true → is_member (out place) set ≡ not chosen
-      out-told chosen place low told =
+      out-told : (known : Known) (place : ℕ) → place < k → is_fixed (take size beginning) (out_limit pool k size beginning) known place ≡ true → is_member (out place) set ≡ not (is_chosen known)
+      out-told known place low told =
           let from = beginning-outs pool k size outs ins beginning rest same e.outs_size e.ins_size e.outs_climb in
-          let is : not (is_member (out place) set) ≡ chosen =
-          out-member place low ∙ ap (is_member place) from.1 ∙ told-decides (take size beginning) from.0 (out_limit pool k size beginning) chosen place (from.2 place) told in
+          let is : not (is_member (out place) set) ≡ is_chosen known =
+          out-member place low ∙ ap (is_member place) from.1 ∙ told-decides (take size beginning) from.0 (out_limit pool k size beginning) known place (from.2 place) told in
           sym (not-not (is_member (out place) set)) ∙ ap not is
 
-      in-told : (chosen : Bool) (place : ℕ) → place < length pool - k → is_fixed (drop size beginning) (in_limit pool k size beginning) chosen place ≡ true → is_member (inn place) set ≡ chosen
-      in-told chosen place low told =
+      in-told : (known : Known) (place : ℕ) → place < length pool - k → is_fixed (drop size beginning) (in_limit pool k size beginning) known place ≡ true → is_member (inn place) set ≡ is_chosen known
+      in-told known place low told =
           let from = beginning-ins pool k size outs ins beginning rest same e.outs_size e.ins_size e.ins_climb in
-          in-member-of place low ∙ ap (is_member place) from.1 ∙ told-decides (drop size beginning) from.0 (in_limit pool k size beginning) chosen place (from.2 place) told
+          in-member-of place low ∙ ap (is_member place) from.1 ∙ told-decides (drop size beginning) from.0 (in_limit pool k size beginning) known place (from.2 place) told
 
       barred-out : (x : ℕ) → is_member x set ≡ false → ¬ IsIn x set
       barred-out x no' m = true≢false (sym (in-member x set m) ∙ no')
@@ -244,11 +244,11 @@ module _ (pool : List ℕ) (k : ℕ) (rises : IsStrictlyIncreasing pool) (enough
         size = exchange-size;
         sum = exchange-sum;
         held = all-append (λ x. IsIn x set) _ _
-            (all-told (λ x. IsIn x set) out (is_fixed (take size beginning) (out_limit pool k size beginning) false) k (λ place low told. member-in (out place) set (out-told false place low told)))
-            (all-told (λ x. IsIn x set) inn (is_fixed (drop size beginning) (in_limit pool k size beginning) true) (length pool - k) (λ place low told. member-in (inn place) set (in-told true place low told)));
+            (all-told (λ x. IsIn x set) out (is_fixed (take size beginning) (out_limit pool k size beginning) PassedOver) k (λ place low told. member-in (out place) set (out-told PassedOver place low told)))
+            (all-told (λ x. IsIn x set) inn (is_fixed (drop size beginning) (in_limit pool k size beginning) Chosen) (length pool - k) (λ place low told. member-in (inn place) set (in-told Chosen place low told)));
         barred = all-append (λ x. ¬ IsIn x set) _ _
-            (all-told (λ x. ¬ IsIn x set) out (is_fixed (take size beginning) (out_limit pool k size beginning) true) k (λ place low told. barred-out (out place) (out-told true place low told)))
-            (all-told (λ x. ¬ IsIn x set) inn (is_fixed (drop size beginning) (in_limit pool k size beginning) false) (length pool - k) (λ place low told. barred-out (inn place) (in-told false place low told)));
+            (all-told (λ x. ¬ IsIn x set) out (is_fixed (take size beginning) (out_limit pool k size beginning) Chosen) k (λ place low told. barred-out (out place) (out-told Chosen place low told)))
+            (all-told (λ x. ¬ IsIn x set) inn (is_fixed (drop size beginning) (in_limit pool k size beginning) PassedOver) (length pool - k) (λ place low told. barred-out (inn place) (in-told PassedOver place low told)));
       }
 
   -- the set of a path that goes on from a beginning is of the class that the beginning tells
@@ -276,37 +276,39 @@ length-cond : (b : Bool) (x : ℕ) (xs : List ℕ) → length (cond b (x ∷ xs)
 length-cond true x xs = omega arith
 length-cond false x xs = omega arith
 
--- no number is told both to be chosen and not to be
-told-apart : (taken : List ℕ) (limit : ℕ) (xs : List ℕ) → length (filter (is_fixed taken limit true) xs) + length (filter (is_fixed taken limit false) xs) ≤ length xs
+-- no number is told both to be chosen and to be passed over
+told-apart : (taken : List ℕ) (limit : ℕ) (xs : List ℕ) → length (filter (is_fixed taken limit Chosen) xs) + length (filter (is_fixed taken limit PassedOver) xs) ≤ length xs
 told-apart taken limit [] = omega arith
 told-apart taken limit (x ∷ xs) =
     let rest = told-apart taken limit xs in
+    let chosen : List ℕ = filter (is_fixed taken limit Chosen) xs in
+    let passed_over : List ℕ = filter (is_fixed taken limit PassedOver) xs in
     elim (cases_Bool (is_member x taken)) [
       | inl yes' ↦
           omega (
             arith,
             rest,
-            ap (λ b. length (cond (if b then true else (not true && nat_lt x limit)) (x ∷ filter (is_fixed taken limit true) xs) (filter (is_fixed taken limit true) xs))) yes',
-            ap (λ b. length (cond (if b then false else (not false && nat_lt x limit)) (x ∷ filter (is_fixed taken limit false) xs) (filter (is_fixed taken limit false) xs))) yes',
+            ap (λ b. length (cond b (x ∷ chosen) chosen)) yes',
+            ap (λ b. length (cond (nat_lt x limit && not b) (x ∷ passed_over) passed_over)) yes',
+            ap (λ b. length (cond b (x ∷ passed_over) passed_over)) (and-false (nat_lt x limit)),
           )
       | inr no' ↦
           omega (
             arith,
             rest,
-            length-cond (nat_lt x limit) x (filter (is_fixed taken limit false) xs),
-            ap (λ b. length (cond (if b then true else (not true && nat_lt x limit)) (x ∷ filter (is_fixed taken limit true) xs) (filter (is_fixed taken limit true) xs))) no',
-            ap (λ b. length (cond (if b then false else (not false && nat_lt x limit)) (x ∷ filter (is_fixed taken limit false) xs) (filter (is_fixed taken limit false) xs))) no',
+            ap (λ b. length (cond b (x ∷ chosen) chosen)) no',
+            length-cond (nat_lt x limit && not (is_member x taken)) x passed_over,
           )
     ]
 
 -- so both lists are no more than there are
-pub told-room : (pool : List ℕ) (k : ℕ) (side : Side) (taken : List ℕ) (limit : ℕ) → length (fixed_numbers pool k side taken limit true) + length (fixed_numbers pool k side taken limit false) ≤ count_of pool k side
+pub told-room : (pool : List ℕ) (k : ℕ) (side : Side) (taken : List ℕ) (limit : ℕ) → length (fixed_numbers pool k side taken limit Chosen) + length (fixed_numbers pool k side taken limit PassedOver) ≤ count_of pool k side
 told-room pool k side taken limit =
     let all : List ℕ = numbers_from 0 (count_of pool k side) in
     omega (
       arith,
       told-apart taken limit all,
       length-numbers 0 (count_of pool k side),
-      length-map (filter (is_fixed taken limit true) all) (value_of pool k side),
-      length-map (filter (is_fixed taken limit false) all) (value_of pool k side),
+      length-map (filter (is_fixed taken limit Chosen) all) (value_of pool k side),
+      length-map (filter (is_fixed taken limit PassedOver) all) (value_of pool k side),
     )

@@ -1,9 +1,11 @@
 -- How exchanges are searched, stage by stage, one for each number of exchanged players and each difference of the sums: a model that
 -- carries the search, and which a reader of the promises may pass by.
-use Rattle.std.specs.Prelude.{◌≡◌, ℕ, zero, suc, ◌+◌, ◌*◌, ◌-◌, ◌≤◌, Bool, true, false, not, ◌&&◌, nat_lt, nat_le, min, List, [], ◌∷◌, ◌++◌, map, filter, reverse, take, drop, length, slice_index, if◌then◌else◌, Option, Some, None}
+use Rattle.std.specs.Prelude.{◌≡◌, ℕ, zero, suc, ◌+◌, ◌*◌, ◌-◌, ◌≤◌, Bool, false, not, ◌&&◌, nat_lt, nat_le, min, List, [], ◌∷◌, ◌++◌, map, filter, reverse, take, drop, length, slice_index, if◌then◌else◌, Option, Some, None}
 use Rattle.dutch_sequence.specs.Choices.{is_member, numbers_from}
 use Rattle.dutch_sequence.specs.Exchanged.{ExchangeClass}
 use Rattle.dutch_sequence.specs.Keys.{IsIn}
+use Rattle.dutch_sequence.specs.declared.exchange.Known.{Known}
+use Rattle.dutch_sequence.specs.declared.exchange.Known.TheVariants.{Chosen, PassedOver}
 use Rattle.dutch_sequence.specs.declared.exchange.SearchState.{SearchState}
 use Rattle.dutch_sequence.specs.declared.exchange.Side.{Side}
 use Rattle.dutch_sequence.specs.declared.exchange.Side.TheVariants.{Out, In}
@@ -32,10 +34,10 @@ following difference greatest (Some next) =
     then (if nat_le next greatest then Some next else None)
     else (if nat_lt difference greatest then Some (suc difference) else None)
 
--- it is known of a place of a half that it is chosen, or else that it is not: those chosen are, and of those below a limit it is
--- known that no other one is
-abbrev pub is_fixed : List ℕ → ℕ → Bool → ℕ → Bool
-is_fixed taken limit chosen place = if is_member place taken then chosen else (not chosen && nat_lt place limit)
+-- a place of a half is known to be chosen if it is taken, and known to be passed over if it is below the limit and not taken
+abbrev pub is_fixed : List ℕ → ℕ → Known → ℕ → Bool
+is_fixed taken limit Chosen place = is_member place taken
+is_fixed taken limit PassedOver place = nat_lt place limit && not (is_member place taken)
 
 module _ (pool : List ℕ) (k : ℕ) where
   -- a number of the original set by its place from the highest, and one of the others by its place from the lowest
@@ -118,19 +120,19 @@ module _ (pool : List ℕ) (k : ℕ) where
   in_limit size beginning =
       if nat_lt (length beginning) size then 0 else (if nat_lt (length beginning) (size + size) then half_start size beginning else (length pool - k))
 
-  -- the numbers of a side of whose places it is known that they are chosen, or else that they are not
-  abbrev pub fixed_numbers : Side → List ℕ → ℕ → Bool → List ℕ
-  fixed_numbers side taken limit chosen = map (value_of side) (filter (is_fixed taken limit chosen) (numbers_from 0 (count_of pool k side)))
+  -- the numbers of a side of whose places it is known that they are chosen, or that they are passed over
+  abbrev pub fixed_numbers : Side → List ℕ → ℕ → Known → List ℕ
+  fixed_numbers side taken limit known = map (value_of side) (filter (is_fixed taken limit known) (numbers_from 0 (count_of pool k side)))
 
   -- who is in the set of each path that begins so: those who are not moved out, and those who are moved in
   abbrev pub held_numbers : ℕ → List ℕ → List ℕ
   held_numbers size beginning =
-      fixed_numbers Out (take size beginning) (out_limit size beginning) false ++ fixed_numbers In (drop size beginning) (in_limit size beginning) true
+      fixed_numbers Out (take size beginning) (out_limit size beginning) PassedOver ++ fixed_numbers In (drop size beginning) (in_limit size beginning) Chosen
 
   -- and who is in none of them
   abbrev pub barred_numbers : ℕ → List ℕ → List ℕ
   barred_numbers size beginning =
-      fixed_numbers Out (take size beginning) (out_limit size beginning) true ++ fixed_numbers In (drop size beginning) (in_limit size beginning) false
+      fixed_numbers Out (take size beginning) (out_limit size beginning) Chosen ++ fixed_numbers In (drop size beginning) (in_limit size beginning) PassedOver
 
   -- the class of the sets of a stage whose paths begin so
   abbrev pub exchange_class : ℕ → ℕ → List ℕ → ExchangeClass

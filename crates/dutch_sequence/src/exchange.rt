@@ -198,34 +198,40 @@ fn count_at(stage: &ExchangeStage<'_>, side: Side) -> usize
     }
 }
 
-/// With `chosen` it asks about places that are known to be chosen, else about places known not to be: those below the
-/// limit that were passed over.
-fn is_fixed(fixed: &FixedSide<'_>, chosen: bool, place: usize) -> bool
+/// What the beginning of a path tells of a place: that each path that begins so chooses it, or that none does.
+#[derive(Clone, Copy)]
+enum Known {
+    Chosen,
+    PassedOver,
+}
+
+/// Whether that is known of a place. It is known to be chosen if it is taken, and known to be passed over if it is below
+/// the limit and not taken.
+fn is_fixed(fixed: &FixedSide<'_>, known: Known, place: usize) -> bool
     requires small { place ≤ 65535 }
-    ensures { result ≡ is_fixed fixed.now.taken.now fixed.now.limit chosen place }
+    ensures { result ≡ is_fixed fixed.now.taken.now fixed.now.limit known place }
 {
-    if fixed.taken.contains(&(place as u16)) {
-        chosen
-    } else {
-        !chosen && place < fixed.limit
+    match known {
+        Known::Chosen => fixed.taken.contains(&(place as u16)),
+        Known::PassedOver => place < fixed.limit && !fixed.taken.contains(&(place as u16)),
     }
 }
 
-/// Puts the numbers behind others of whose places it is known that they are chosen, or else that they are not.
-fn put_fixed(stage: &ExchangeStage<'_>, fixed: &FixedSide<'_>, chosen: bool, numbers: &mut Numbers)
+/// Puts the numbers behind others of whose places it is known that they are chosen, or that they are passed over.
+fn put_fixed(stage: &ExchangeStage<'_>, fixed: &FixedSide<'_>, known: Known, numbers: &mut Numbers)
     requires room { length numbers.old.items
         + length (fixed_numbers stage.now.pool.now stage.now.k fixed.now.side fixed.now.taken.now fixed.now.limit
-        chosen)
+        known)
         ≤ LIMIT }
     ensures { numbers.new.items ≡ numbers.old.items
-        ++ fixed_numbers stage.now.pool.now stage.now.k fixed.now.side fixed.now.taken.now fixed.now.limit chosen }
+        ++ fixed_numbers stage.now.pool.now stage.now.k fixed.now.side fixed.now.taken.now fixed.now.limit known }
 {
     let sides = Sides {
         pool: stage.pool,
         k: stage.k,
     };
     for place in 0..count_at(stage, fixed.side) {
-        if is_fixed(fixed, chosen, place) {
+        if is_fixed(fixed, known, place) {
             numbers.push(value_at(&sides, fixed.side, place) as u16);
         }
     }
@@ -291,11 +297,11 @@ fn put_held_and_barred(stage: &ExchangeStage<'_>, beginning: &[u16], numbers: &m
     let outs = fixed_out(stage, beginning);
     let ins = fixed_in(stage, beginning);
     numbers.clear();
-    put_fixed(stage, &outs, false, numbers);
-    put_fixed(stage, &ins, true, numbers);
+    put_fixed(stage, &outs, Known::PassedOver, numbers);
+    put_fixed(stage, &ins, Known::Chosen, numbers);
     let held = numbers.len();
-    put_fixed(stage, &outs, true, numbers);
-    put_fixed(stage, &ins, false, numbers);
+    put_fixed(stage, &outs, Known::Chosen, numbers);
+    put_fixed(stage, &ins, Known::PassedOver, numbers);
     held
 }
 

@@ -11,7 +11,7 @@ pub push-requires : goal.push-requires
 push-requires c =
     let stage = c.args.stage.now in
     let fixed = c.args.fixed.now in
-    let test : ℕ → Bool = is_fixed fixed.taken.now fixed.limit c.args.chosen in
+    let test : ℕ → Bool = is_fixed fixed.taken.now fixed.limit c.args.known in
     let value : ℕ → ℕ = value_of stage.pool.now stage.k fixed.side in
     let n : ℕ = c.loop-place.place in
     let count : ℕ = count_of stage.pool.now stage.k fixed.side in
@@ -30,7 +30,7 @@ pub loop-place-preserved : goal.loop-place-preserved
 loop-place-preserved c =
     let stage = c.args.stage.now in
     let fixed = c.args.fixed.now in
-    let test : ℕ → Bool = is_fixed fixed.taken.now fixed.limit c.args.chosen in
+    let test : ℕ → Bool = is_fixed fixed.taken.now fixed.limit c.args.known in
     let value : ℕ → ℕ = value_of stage.pool.now stage.k fixed.side in
     let n : ℕ = c.loop-place.place in
     let before : List ℕ = c.args.numbers.now.items in
