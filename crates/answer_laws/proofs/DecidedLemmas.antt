@@ -6,7 +6,7 @@ use Rattle.dutch_player.specs.Prelude.{Facts}
 use Rattle.dutch_bracket.specs.Prelude.{all_pairs}
 use Rattle.dutch_rounds.specs.Prelude.{Pairing, is_reached, own_pairs, round, visit}
 use Rattle.dutch_rounds.proofs.EverybodyStands.{stands_in_one as stands_in_a_bracket}
-use Rattle.dutch_rounds.specs.declared.stage.Stage.{Stage}
+use Rattle.dutch_rounds.specs.Stage.{Stage}
 use Rattle.dutch_candidates.specs.declared.wish.Wish.{Wish}
 use Rattle.dutch_candidates.specs.declared.wish.Wish.TheVariants.{Pair, LeftOver}
 use Rattle.pairing_laws.specs.SharedBrackets.{ArePaired, shares}

@@ -7,7 +7,7 @@ use Rattle.dutch_player.specs.Prelude.{Facts}
 use Rattle.dutch_bracket.specs.Prelude.{Reached, Choice, bracket, choice, completable, downfloaters, scoregroups, all_pairs}
 use Rattle.dutch_bracket.specs.declared.reached.BracketKind.TheVariants.{Ordinary, Last, Collapsed}
 use Rattle.dutch_rounds.specs.Prelude.{Round, Pairing, Visit, boards, brackets, ending, everybody, final_bracket, no_pairing, own_pairs, paired_again, pairing_in, passing, penultimate_bracket, round, visit}
-use Rattle.dutch_rounds.specs.declared.stage.Stage.{Stage}
+use Rattle.dutch_rounds.specs.Stage.{Stage}
 use Rattle.dutch_rounds.proofs.RoundBy.{final_by, penultimate_by, ordinary_by}
 use Rattle.command_line.specs.OtherBoards.{boards_paired}
 

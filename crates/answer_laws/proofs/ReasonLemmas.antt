@@ -10,7 +10,7 @@ use Rattle.dutch_bracket.specs.Prelude.{frame_of, can_be_chosen, candidates_of, 
 use Rattle.dutch_candidates.specs.Wishes.{grants}
 use Rattle.dutch_choice.specs.Prelude.{IsBarred, some_grants, with_mdps}
 use Rattle.dutch_rounds.specs.declared.instead.Instead.TheVariants.{FewerMovedDown, NoneEligible, NoneLegal}
-use Rattle.dutch_rounds.specs.declared.stage.Stage.{Stage}
+use Rattle.dutch_rounds.specs.Stage.{Stage}
 use Rattle.dutch_candidates.specs.declared.wish.Wish.{Wish}
 use Rattle.dutch_bracket.proofs.AnyLemmas.{found_in}
 use Rattle.pairing_laws.proofs.BestGranting.{none_by_test}

@@ -8,7 +8,7 @@ use Rattle.dutch_rounds.specs.Prelude.{lower_of}
 use Rattle.dutch_bracket.specs.Prelude.{frame_of, can_be_chosen, candidates_of}
 use Rattle.dutch_candidates.specs.Wishes.{grants}
 use Rattle.dutch_choice.specs.Prelude.{with_mdps}
-use Rattle.dutch_rounds.specs.declared.stage.Stage.{Stage}
+use Rattle.dutch_rounds.specs.Stage.{Stage}
 use Rattle.dutch_candidates.specs.declared.wish.Wish.{Wish}
 use Rattle.dutch_candidates.specs.declared.wish.Wish.TheVariants.{Pair, LeftOver}
 use Rattle.trf16_report.specs.Prelude.{apart, Sheet, cell_in, rounds_played}

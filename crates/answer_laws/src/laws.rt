@@ -6,7 +6,7 @@ ghost use Rattle.trf16_report.specs.Prelude.{HasOwnStarts, Sheet};
 ghost use Rattle.trf16_report.specs.declared.cell.Colour.{Colour};
 ghost use Rattle.dutch_rounds.specs.Prelude.{above_lower, boards, IsStage, IsInstead, Pairing, own_pairs, round, visit};
 ghost use Rattle.dutch_rounds.specs.declared.instead.Instead.TheVariants.{FewerMovedDown, NoneEligible, NoneLegal};
-ghost use Rattle.dutch_rounds.specs.declared.stage.Stage.{Stage};
+ghost use Rattle.dutch_rounds.specs.Stage.{Stage};
 ghost use Rattle.dutch_candidates.specs.declared.wish.Wish.{Wish};
 ghost use Rattle.command_line.specs.InsteadAnswers.{decided_in, IsRival, shared_in};
 ghost use Rattle.command_line.specs.OtherBoards.{boards_paired};

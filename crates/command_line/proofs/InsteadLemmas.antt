@@ -8,7 +8,7 @@ use Rattle.dutch_player.specs.Prelude.{Facts}
 use Rattle.dutch_rounds.specs.Prelude.{above_lower, IsStage, IsInstead}
 use Rattle.dutch_bracket.specs.Prelude.{score_at}
 use Rattle.dutch_rounds.specs.declared.instead.Instead.{Instead}
-use Rattle.dutch_rounds.specs.declared.stage.Stage.{Stage}
+use Rattle.dutch_rounds.specs.Stage.{Stage}
 use Rattle.dutch_candidates.specs.declared.wish.Wish.{Wish}
 use Rattle.command_line.specs.InsteadAnswers.{AnswersPresent, IsSearched}
 use Rattle.stage_lines.specs.InsteadTexts.{instead_text}

@@ -3,7 +3,7 @@ use Rattle.std.specs.Prelude.{◌≡◌, ℕ, IfSome, Bool, true, false, List, [
 use Rattle.dutch_rounds.specs.Prelude.{Barrier, Blocks, AreStages}
 use Rattle.dutch_rounds.specs.declared.round.AllStages.{AllStages}
 use Rattle.dutch_rounds.specs.declared.round.AllStages.TheVariants.{Paired, NoPairing, Undecided}
-use Rattle.dutch_rounds.specs.declared.stage.Stage.{Stage}
+use Rattle.dutch_rounds.specs.Stage.{Stage}
 use Rattle.dutch_player.specs.Prelude.{Facts, facts_of, seat_with}
 use Rattle.dutch_player.specs.declared.fault.FieldFault.{FieldFault}
 use Rattle.trf16_report.specs.Prelude.{Sheet}

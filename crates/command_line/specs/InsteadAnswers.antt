@@ -7,7 +7,7 @@ use Rattle.dutch_rounds.specs.Prelude.{above_lower, IsInstead}
 use Rattle.dutch_candidates.specs.Wishes.{grants}
 use Rattle.dutch_rounds.specs.declared.instead.Instead.{Instead}
 use Rattle.dutch_rounds.specs.declared.instead.Instead.TheVariants.{Best, FewerMovedDown, NoneEligible, NoneLegal, Undecided}
-use Rattle.dutch_rounds.specs.declared.stage.Stage.{Stage}
+use Rattle.dutch_rounds.specs.Stage.{Stage}
 use Rattle.dutch_candidates.specs.declared.wish.Wish.{Wish}
 use Rattle.dutch_candidates.specs.declared.wish.Wish.TheVariants.{Pair, LeftOver}
 use Rattle.stage_lines.specs.InsteadTexts.{granted_text, in_bracket, instead_text}

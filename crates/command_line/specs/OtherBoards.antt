@@ -3,7 +3,7 @@ use Rattle.std.specs.Prelude.{ℕ, Bool, false, not, ◌&&◌, ◌==◌, nat_le,
 use Rattle.std.specs.List.{flat_map, list_all, list_any}
 use Rattle.dutch_player.specs.Prelude.{Facts}
 use Rattle.dutch_rounds.specs.Prelude.{boards, own_pairs}
-use Rattle.dutch_rounds.specs.declared.stage.Stage.{Stage}
+use Rattle.dutch_rounds.specs.Stage.{Stage}
 use Rattle.tables.specs.Prelude.{boards_of}
 use Rattle.trf16_report.specs.Prelude.{Sheet, rounds_played}
 

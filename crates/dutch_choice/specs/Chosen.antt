@@ -2,6 +2,7 @@
 use Rattle.std.specs.Prelude.{◌≡◌, Some}
 use Rattle.dutch_arrangements.specs.Prelude.{down}
 use Rattle.dutch_choice.specs.declared.choice.Choice.{Choice}
+use Rattle.dutch_choice.specs.declared.choice.ChosenBest.{ChosenBest}
 use Rattle.dutch_choice.specs.declared.choice.Choice.TheVariants.{Chosen as IsChosen, Undecided as ChoiceUndecided}
 use Rattle.dutch_bracket.specs.Prelude.{Context, FitsHere, frame_here, quality_here, quality_in, choice}
 
@@ -12,3 +13,7 @@ IsChoice context stopped (IsChosen shape candidate quality) =
     × (candidate.down ≡ down (frame_here context) candidate.lists) × FitsHere context shape
     × (quality_in quality ≡ quality_here context candidate.lists)
 IsChoice context stopped ChoiceUndecided = stopped
+
+-- a choice on the heap is the one that choosing in a bracket answers [with IsChoice]
+abbrev pub IsChosenBest : Context → ChosenBest → Type 0
+IsChosenBest context chosen = IsChoice context ⊥ (IsChosen chosen.shape chosen.best.value.candidate chosen.best.value.quality)

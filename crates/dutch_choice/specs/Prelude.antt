@@ -8,4 +8,4 @@ unfoldable pub use Rattle.dutch_choice.specs.Wishes.{best_granting}
 pub use Rattle.dutch_choice.specs.Found.{HasItsQuality, IsBest}
 unfoldable pub use Rattle.dutch_choice.specs.Found.{best_wished}
 pub use Rattle.dutch_choice.specs.RuledOut.{half_pairs, halves_bar, has_one_of, rules_out, s1_bars, s1r_bars}
-pub use Rattle.dutch_choice.specs.Chosen.{IsChoice}
+pub use Rattle.dutch_choice.specs.Chosen.{IsChoice, IsChosenBest}

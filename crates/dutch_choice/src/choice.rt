@@ -1,12 +1,13 @@
 // The choice in a bracket (C.04.3 B.8): its shape, and the first candidate of it that none is better than, by any
 // finder.
 ghost use Rattle.std.specs.Prelude.{◌≡◌, IfOk, None};
+ghost use Rattle.std.specs.Option.{MatchOption};
 ghost use Rattle.dutch_arrangements.specs.Prelude.{Spends};
 ghost use Rattle.dutch_bracket.specs.Prelude.{IsAbove, HasCandidate};
-ghost use Rattle.dutch_choice.specs.Chosen.{IsChoice};
+ghost use Rattle.dutch_choice.specs.Chosen.{IsChoice, IsChosenBest};
 ghost use Rattle.dutch_choice.specs.Starts.{ListsHere};
 
-use crate::finder::{Finder, FinderRequest};
+use crate::finder::{Best, Finder, FinderRequest};
 use crate::shape::found_shape;
 use dutch_arrangements::{Budget, Candidate, Shape, Step, Stopped};
 use dutch_bracket::context::Context;
@@ -32,22 +33,31 @@ pub enum Choice {
     Undecided,
 }
 
-/// The choice in a bracket that has a candidate, by one lister for its shape and for the best candidate.
+/// What is chosen in a bracket, on the heap: its shape, and the best candidate.
+#[derive(Drop)]
+pub struct ChosenBest {
+    pub shape: Shape,
+    pub best: Box<Best>,
+}
+
+/// The choice in a bracket that has a candidate, by one lister for its shape and for the best candidate. None says that
+/// the budget's limit was reached first.
 #[tactic(auto, using(crate::proofs::BestLemmas::choice_is_best, crate::proofs::BestLemmas::shape_has_one))]
 fn chosen_by<F: Finder>(
     context: &Context<'_>,
     lister: &mut Lister<'_, NarrowedRule<'_>>,
     budget: &mut Budget,
-) -> Result<Choice, PairFault>
+) -> Result<Option<ChosenBest>, PairFault>
     requires candidate { HasCandidate context.now.facts context.now.reached context.now.lower }
     requires lists { ListsHere context.now None lister.old.listing }
-    ensures answer { IfOk result (IsChoice context.now (budget.new.used ≡ budget.new.limit)) }
+    ensures answer { IfOk result
+        (λ found. MatchOption found (budget.new.used ≡ budget.new.limit) (IsChosenBest context.now)) }
     ensures spends { Spends budget.old budget.new }
 {
     let found = match found_shape(context, lister, budget) {
         Ok(Some(found)) => found,
         Ok(None) => unreachable!(),
-        Err(Stopped) => return Ok(Choice::Undecided),
+        Err(Stopped) => return Ok(None),
     };
     let shape = found.shape;
     let asked = FinderRequest {
@@ -56,21 +66,21 @@ fn chosen_by<F: Finder>(
         start: found.start,
     };
     match F::best_of(&asked, lister, budget)? {
-        Step::Found(best) => Ok(Choice::Chosen {
-            shape,
-            candidate: best.candidate,
-            quality: best.quality,
-        }),
+        Step::Found(best) => Ok(Some(ChosenBest { shape, best })),
         Step::End => unreachable!(),
-        Step::Undecided => Ok(Choice::Undecided),
+        Step::Undecided => Ok(None),
     }
 }
 
-/// The choice in a bracket that has a candidate.
+/// The choice in a bracket that has a candidate, on the heap. None says that the budget's limit was reached first.
 #[inline(never)]
-pub fn choose_in<F: Finder>(context: &Context<'_>, budget: &mut Budget) -> Result<Choice, PairFault>
+pub fn choose_in<F: Finder>(
+    context: &Context<'_>,
+    budget: &mut Budget,
+) -> Result<Option<ChosenBest>, PairFault>
     requires candidate { HasCandidate context.now.facts context.now.reached context.now.lower }
-    ensures answer { IfOk result (IsChoice context.now (budget.new.used ≡ budget.new.limit)) }
+    ensures answer { IfOk result
+        (λ found. MatchOption found (budget.new.used ≡ budget.new.limit) (IsChosenBest context.now)) }
     ensures spends { Spends budget.old budget.new }
 {
     let rule = NarrowedRule {
@@ -97,5 +107,13 @@ pub fn choose<F: Finder>(
         (budget.new.used ≡ budget.new.limit)) }
     ensures spends { Spends budget.old budget.new }
 {
-    choose_in::<F>(&Context::new(alloc, field, reached, lower), budget)
+    let Some(chosen) = choose_in::<F>(&Context::new(alloc, field, reached, lower), budget)? else {
+        return Ok(Choice::Undecided);
+    };
+    let best = Box::into_inner(chosen.best);
+    Ok(Choice::Chosen {
+        shape: chosen.shape,
+        candidate: best.candidate,
+        quality: best.quality,
+    })
 }

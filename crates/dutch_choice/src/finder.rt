@@ -16,11 +16,21 @@ use dutch_candidates::greatest::Lister;
 use dutch_candidates::narrowed::NarrowedRule;
 use dutch_candidates::wish::Wish;
 
-/// The best candidate, with its quality.
+/// The best candidate, with its quality. (It is large, so it is handed on on the heap.)
 #[derive(Drop)]
 pub struct Best {
     pub candidate: Candidate,
     pub quality: Quality,
+}
+
+impl Best {
+    /// A place for a candidate and its quality. No clause says what stands in it before they are put there.
+    pub fn empty() -> Best {
+        Best {
+            candidate: Candidate::empty(),
+            quality: Quality::default(),
+        }
+    }
 }
 
 /// What a finder is asked for: the best candidate of a shape, of those that grant the wish if there is one. The lister
@@ -40,12 +50,12 @@ pub trait Finder {
         asked: &FinderRequest<'_>,
         lister: &mut Lister<'_, NarrowedRule<'_>>,
         budget: &mut Budget,
-    ) -> Result<Step<Best>, PairFault>
+    ) -> Result<Step<Box<Best>>, PairFault>
         requires lister { IsLent asked.now.shaped.context.now asked.now.wish asked.now.shaped.shape asked.now.start
             lister.old }
         ensures answer { let context = asked.now.shaped.context.now in
             let best = best_wished context asked.now.wish asked.now.shaped.shape in IfOk result (λ step. MatchStep step
-            (IsBest context best) (best ≡ None) (budget.new.used ≡ budget.new.limit)) }
+            (λ found. IsBest context best found.value) (best ≡ None) (budget.new.used ≡ budget.new.limit)) }
         ensures spends { Spends budget.old budget.new };
 }
 
@@ -55,10 +65,10 @@ pub fn best_by<F: Finder>(
     shaped: &ShapedBracket<'_>,
     wish: Option<Wish>,
     budget: &mut Budget,
-) -> Result<Step<Best>, PairFault>
+) -> Result<Step<Box<Best>>, PairFault>
     ensures answer { let context = shaped.now.context.now in
         let best = best_wished context wish shaped.now.shape in IfOk result (λ step. MatchStep step
-        (IsBest context best) (best ≡ None) (budget.new.used ≡ budget.new.limit)) }
+        (λ found. IsBest context best found.value) (best ≡ None) (budget.new.used ≡ budget.new.limit)) }
     ensures spends { Spends budget.old budget.new }
 {
     let rule = NarrowedRule {

@@ -6,11 +6,13 @@
 #![tactic(auto)]
 
 mod guide;
+mod kept;
 mod pass;
 mod passes;
 mod remembered;
 
 pub use guide::{Guide, Workroom};
+pub use kept::Kept;
 pub use pass::{Pass, PassSoFar, is_barred, is_barred_with, loses};
 pub use passes::{PassRoom, best_in_time};
 pub use remembered::{Judge, Look, LookAhead, look_below};

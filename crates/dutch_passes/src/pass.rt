@@ -5,12 +5,12 @@ ghost use Rattle.dutch_bracket.specs.Prelude.{OfEachWithBeginning, candidates_in
 ghost use Rattle.dutch_candidates.specs.Wishes.{is_wished};
 ghost use Rattle.dutch_passes.specs.Aims.{aim_in, loses};
 
+use crate::kept::Kept;
 use dutch_arrangements::{Exchange, Prefix};
 use dutch_bracket::quality::Quality;
 use dutch_bracket::shaped::ShapedBracket;
 use dutch_candidates::wish::Wish;
 use dutch_choice::barred::{rules_out, rules_out_with};
-use dutch_choice::finder::Best;
 
 /// One pass over the candidates of a shape, in a bracket above all lower seats by rank. With an aim it seeks only those
 /// that the aim is not better than, and with a wish only those that grant it.
@@ -25,12 +25,12 @@ pub struct Pass<'a> {
 #[derive(Clone, Copy)]
 pub struct PassSoFar<'a, 'k> {
     pub pass: &'a Pass<'a>,
-    pub kept: &'k Option<Best>,
+    pub kept: &'k Kept,
 }
 
 /// Yes if the aim is better, or if the quality is not better than that of the candidate that is kept: then no candidate
 /// with it takes the place of that one.
-pub fn loses(quality: &Quality, aim: &Option<Quality>, kept: &Option<Best>) -> bool
+pub fn loses(quality: &Quality, aim: &Option<Quality>, kept: &Kept) -> bool
     ensures { result ≡ loses (aim_in aim.now) kept.now (quality_in quality.now) }
 {
     if let Some(aim) = aim {
@@ -38,7 +38,7 @@ pub fn loses(quality: &Quality, aim: &Option<Quality>, kept: &Option<Best>) -> b
             return true;
         }
     }
-    match kept {
+    match kept.best() {
         Some(best) => !quality.is_better(&best.quality),
         None => false,
     }

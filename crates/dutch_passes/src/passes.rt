@@ -2,7 +2,7 @@
 // listing that keep the best candidate so far. A guide draws the candidates, and may pass over some. The passes first
 // have few steps. If these do not suffice, the pairs of the bracket are weighed, and then those of the next bracket too
 // (C.7).
-ghost use Rattle.std.specs.Prelude.{◌≡◌, None, Some, IfSome, true};
+ghost use Rattle.std.specs.Prelude.{◌≡◌, None, IfSome, true};
 ghost use Rattle.std.specs.Option.{MatchOption};
 ghost use Rattle.std.specs.Result.{MatchResult};
 ghost use Rattle.dutch_arrangements.specs.Prelude.{Spends};
@@ -16,16 +16,13 @@ use crate::guide::Guide;
 use crate::pass::{Pass, PassSoFar, loses};
 use crate::remembered::{Judge, judge_candidate};
 use dutch_arrangements::{Budget, Candidate, Stopped};
-use dutch_bracket::quality::Quality;
 use dutch_bracket::reached::BracketKind;
 use dutch_bracket::spending::at_most;
 use dutch_candidates::greatest::Lister;
 use dutch_candidates::narrowed::NarrowedRule;
 use dutch_candidates::wish::is_wished;
-use dutch_choice::finder::Best;
 use dutch_choice::start::Start;
 use dutch_completion::eligible::can_be_chosen;
-use std::mem::take;
 
 /// What the passes over the candidates of a shape are made with: the judge, which tells the quality of candidates and
 /// keeps the best one; and the lister that draws them, with where it begins.
@@ -37,20 +34,7 @@ pub struct PassRoom<'a, 'l, 'r, 'n, G: Guide> {
     pub start: Start,
 }
 
-/// Keeps a candidate, with the quality that was worked out for it. (Apart from its caller, which passes most candidates
-/// over: both are large.)
-#[inline(never)]
-fn keep(candidate: &Candidate, quality: &mut Quality, kept: &mut Option<Best>)
-    ensures { kept.new ≡ Some (record { candidate = candidate.now; quality = quality.old }) }
-{
-    *kept = Some(Best {
-        candidate: candidate.copied(),
-        quality: take(quality),
-    });
-}
-
 /// Keeps a candidate in place of the one that is kept, if it grants what is wished, does not lose and can be chosen.
-/// (It is put where that one stands, and not handed out: a candidate is large, and most are passed over.)
 #[tactic(auto, using(crate::proofs::AimLemmas::unwished_passed, crate::proofs::AimLemmas::loser_passed, crate::proofs::AimLemmas::winner_kept, crate::proofs::AimLemmas::unfit_passed))]
 fn consider<G: Guide>(
     pass: &Pass<'_>,
@@ -73,11 +57,12 @@ fn consider<G: Guide>(
         return Ok(());
     }
     judge_candidate(pass.shaped.context, candidate, judge, budget)?;
-    if loses(&judge.work.room.quality, &pass.aim, &judge.kept) {
+    let work = &mut *judge.work;
+    if loses(&work.room.quality, &pass.aim, &judge.kept) {
         return Ok(());
     }
     if can_be_chosen(pass.shaped.context, candidate, &mut judge.left, budget)? {
-        keep(candidate, &mut judge.work.room.quality, &mut judge.kept);
+        judge.kept.keep(candidate, &mut work.room.quality);
     }
     Ok(())
 }
@@ -101,7 +86,7 @@ fn begin<G: Guide>(
     ensures spends { Spends budget.old budget.new }
 {
     let judge = &mut *search.judge;
-    judge.kept = None;
+    judge.kept.clear();
     match search.start {
         Start::Drawn => {
             search.start = Start::Anew;
@@ -125,14 +110,14 @@ fn go_on<'a, G: Guide>(
     requires looks { LooksThrough pass.now judge.old.kept lister.old.listing }
     requires lists { ListsFor pass.now lister.old.listing }
     requires look { LooksFor pass.now judge.old.look }
-    requires guide { G.knows judge.old.guide pass.now.shaped.context.now pass.now.shaped.shape pass.now.wish }
+    requires guide { G.knows judge.old.guide.value pass.now.shaped.context.now pass.now.shaped.shape pass.now.wish }
     ensures answer { MatchResult result
         (λ _. MatchOption judge.new.kept (near_of pass.now ≡ None)
         (IsBest pass.now.shaped.context.now (near_of pass.now)))
         (λ _. budget.new.used ≡ budget.new.limit) }
     ensures lists { ListsFor pass.now lister.new.listing }
     ensures look { LooksFor pass.now judge.new.look }
-    ensures guide { G.knows judge.new.guide pass.now.shaped.context.now pass.now.shaped.shape pass.now.wish }
+    ensures guide { G.knows judge.new.guide.value pass.now.shaped.context.now pass.now.shaped.shape pass.now.wish }
     ensures spends { Spends budget.old budget.new }
 {
     while judge.guide.draw(
@@ -141,7 +126,7 @@ fn go_on<'a, G: Guide>(
             kept: &judge.kept,
         },
         lister,
-        &mut judge.work,
+        &mut *judge.work,
         budget,
     )? {
         consider(pass, &lister.drawn, judge, budget)?;
@@ -159,14 +144,14 @@ fn best_near<'a, G: Guide>(
 ) -> Result<(), Stopped>
     requires lister { IsLentFor pass.now search.old.start search.old.lister.now }
     requires look { LooksFor pass.now search.old.judge.value.look }
-    requires guide { G.knows search.old.judge.value.guide pass.now.shaped.context.now pass.now.shaped.shape pass.now.wish }
+    requires guide { G.knows search.old.judge.value.guide.value pass.now.shaped.context.now pass.now.shaped.shape pass.now.wish }
     ensures answer { MatchResult result
         (λ _. MatchOption search.new.judge.value.kept (near_of pass.now ≡ None)
         (IsBest pass.now.shaped.context.now (near_of pass.now)))
         (λ _. budget.new.used ≡ budget.new.limit) }
     ensures lister { IsLentFor pass.now search.new.start search.new.lister.now }
     ensures look { LooksFor pass.now search.new.judge.value.look }
-    ensures guide { G.knows search.new.judge.value.guide pass.now.shaped.context.now pass.now.shaped.shape pass.now.wish }
+    ensures guide { G.knows search.new.judge.value.guide.value pass.now.shaped.context.now pass.now.shaped.shape pass.now.wish }
     ensures spends { Spends budget.old budget.new }
 {
     begin(pass, search, budget)?;
@@ -182,17 +167,17 @@ fn best_by_aim<'a, G: Guide>(
 ) -> Result<(), Stopped>
     requires lister { IsLentFor pass.now search.old.start search.old.lister.now }
     requires look { LooksFor pass.now search.old.judge.value.look }
-    requires guide { G.knows search.old.judge.value.guide pass.now.shaped.context.now pass.now.shaped.shape pass.now.wish }
+    requires guide { G.knows search.old.judge.value.guide.value pass.now.shaped.context.now pass.now.shaped.shape pass.now.wish }
     ensures answer { MatchResult result
         (λ _. IfSome search.new.judge.value.kept (IsBest pass.now.shaped.context.now (wished_of pass.now)))
         (λ _. budget.new.used ≡ budget.new.limit) }
     ensures lister { IsLentFor pass.now search.new.start search.new.lister.now }
     ensures look { LooksFor pass.now search.new.judge.value.look }
-    ensures guide { G.knows search.new.judge.value.guide pass.now.shaped.context.now pass.now.shaped.shape pass.now.wish }
+    ensures guide { G.knows search.new.judge.value.guide.value pass.now.shaped.context.now pass.now.shaped.shape pass.now.wish }
     ensures spends { Spends budget.old budget.new }
 {
     if pass.aim.is_none() {
-        search.judge.kept = None;
+        search.judge.kept.clear();
         return Ok(());
     }
     best_near(pass, search, budget)
@@ -207,17 +192,17 @@ fn best_in_passes<G: Guide>(
 ) -> Result<(), Stopped>
     requires lister { IsLentFor pass.old search.old.start search.old.lister.now }
     requires look { LooksFor pass.old search.old.judge.value.look }
-    requires guide { G.knows search.old.judge.value.guide pass.old.shaped.context.now pass.old.shaped.shape pass.old.wish }
+    requires guide { G.knows search.old.judge.value.guide.value pass.old.shaped.context.now pass.old.shaped.shape pass.old.wish }
     ensures answer { MatchResult result (λ _. IsEnd pass.old search.new.judge.value.kept)
         (λ _. budget.new.used ≡ budget.new.limit) }
     ensures lister { IsLentFor pass.old search.new.start search.new.lister.now }
     ensures look { LooksFor pass.old search.new.judge.value.look }
-    ensures guide { G.knows search.new.judge.value.guide pass.old.shaped.context.now pass.old.shaped.shape pass.old.wish }
+    ensures guide { G.knows search.new.judge.value.guide.value pass.old.shaped.context.now pass.old.shaped.shape pass.old.wish }
     ensures pass { SeeksTheSame pass.old pass.new }
     ensures spends { Spends budget.old budget.new }
 {
     best_by_aim(pass, search, budget)?;
-    if search.judge.kept.is_some() {
+    if search.judge.kept.best().is_some() {
         return Ok(());
     }
     pass.aim = None;
@@ -251,12 +236,12 @@ fn best_within<G: Guide>(
 ) -> Result<bool, Stopped>
     requires lister { IsLentFor pass.old search.old.start search.old.lister.now }
     requires look { LooksFor pass.old search.old.judge.value.look }
-    requires guide { G.knows search.old.judge.value.guide pass.old.shaped.context.now pass.old.shaped.shape pass.old.wish }
+    requires guide { G.knows search.old.judge.value.guide.value pass.old.shaped.context.now pass.old.shaped.shape pass.old.wish }
     ensures answer { MatchResult result (λ ended. ended ≡ true → IsEnd pass.old search.new.judge.value.kept)
         (λ _. budget.new.used ≡ budget.new.limit) }
     ensures lister { IsLentFor pass.old search.new.start search.new.lister.now }
     ensures look { LooksFor pass.old search.new.judge.value.look }
-    ensures guide { G.knows search.new.judge.value.guide pass.old.shaped.context.now pass.old.shaped.shape pass.old.wish }
+    ensures guide { G.knows search.new.judge.value.guide.value pass.old.shaped.context.now pass.old.shaped.shape pass.old.wish }
     ensures pass { SeeksTheSame pass.old pass.new }
     ensures spends { Spends budget.old budget.new }
 {
@@ -283,13 +268,13 @@ fn best_by_weight<G: Guide>(
 ) -> Result<(), Stopped>
     requires lister { IsLentFor pass.old search.old.start search.old.lister.now }
     requires look { LooksFor pass.old search.old.judge.value.look }
-    requires guide { G.knows search.old.judge.value.guide pass.old.shaped.context.now pass.old.shaped.shape pass.old.wish }
+    requires guide { G.knows search.old.judge.value.guide.value pass.old.shaped.context.now pass.old.shaped.shape pass.old.wish }
     ensures answer { MatchResult result (λ _. IsEnd pass.old search.new.judge.value.kept)
         (λ _. budget.new.used ≡ budget.new.limit) }
     ensures spends { Spends budget.old budget.new }
 {
     pass.aim = search.judge.guide.weigh(pass.wish, false, budget)?;
-    if tells_next(pass, &search.judge.guide) {
+    if tells_next(pass, &*search.judge.guide) {
         if best_within(pass, search, few.saturating_mul(4), budget)? {
             return Ok(());
         }
@@ -308,7 +293,7 @@ pub fn best_in_time<G: Guide>(
 ) -> Result<(), Stopped>
     requires lister { IsLentFor pass.old search.old.start search.old.lister.now }
     requires look { LooksFor pass.old search.old.judge.value.look }
-    requires guide { G.knows search.old.judge.value.guide pass.old.shaped.context.now pass.old.shaped.shape pass.old.wish }
+    requires guide { G.knows search.old.judge.value.guide.value pass.old.shaped.context.now pass.old.shaped.shape pass.old.wish }
     ensures answer { MatchResult result (λ _. IsEnd pass.old search.new.judge.value.kept)
         (λ _. budget.new.used ≡ budget.new.limit) }
     ensures spends { Spends budget.old budget.new }

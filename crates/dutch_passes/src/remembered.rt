@@ -17,12 +17,12 @@ ghost use Rattle.dutch_passes.specs.Passes.{IsHere};
 ghost use Rattle.dutch_arrangements.specs.Prelude.{Spends};
 
 use crate::guide::{Guide, Workroom};
+use crate::kept::Kept;
 use dutch_arrangements::{Budget, Candidate, LIMIT, Numbers, Stopped};
 use dutch_bracket::context::Context;
 use dutch_bracket::fault::PairFault;
 use dutch_bracket::quality::{NextValue, Quality, QualityLists, fill_quality};
 use dutch_bracket::reached::{BracketKind, Reached, Seats, copied, push_all};
-use dutch_choice::finder::Best;
 use dutch_choice::lookahead::{BracketAboveGroup, value_below};
 use dutch_player::Field;
 use lru::LruCache;
@@ -261,17 +261,17 @@ pub fn look_below<'a>(context: &'a Context<'a>) -> Result<Option<LookAhead<'a>>,
 
 /// What tells the quality of a bracket's candidates, and keeps the best one: the look-ahead, in an ordinary bracket;
 /// room to work the quality out; and a list for those whom a candidate leaves over and all lower players, filled anew
-/// for each candidate.
+/// for each candidate. (What is large of it is on the heap.)
 #[derive(Drop)]
 pub struct Judge<'a, G: Guide> {
     pub look: Option<LookAhead<'a>>,
     /// Lent to the guide for its own questions.
-    pub work: Workroom<G::Notes>,
+    pub work: Box<Workroom<G::Notes>>,
     pub left: Seats,
-    /// The best candidate so far, and in the end what is chosen. (It stays here from call to call, as it is large.)
-    pub kept: Option<Best>,
+    /// The best candidate so far, and in the end what is chosen.
+    pub kept: Kept,
     /// What draws the candidates.
-    pub guide: G,
+    pub guide: Box<G>,
 }
 
 /// Fills the quality of a candidate above all lower seats, by the look-ahead of its bracket.
@@ -285,7 +285,7 @@ pub(crate) fn judge_candidate<G: Guide>(
     requires candidate { IsHere context.now candidate.now }
     requires look { LooksBelow context.now judge.old.look }
     ensures answer { MatchResult result
-        (λ _. quality_in judge.new.work.room.quality ≡ quality_here context.now candidate.now.lists)
+        (λ _. quality_in judge.new.work.value.room.quality ≡ quality_here context.now candidate.now.lists)
         (λ _. budget.new.used ≡ budget.new.limit) }
     ensures look { LooksBelow context.now judge.new.look }
     ensures kept { judge.new.kept ≡ judge.old.kept }

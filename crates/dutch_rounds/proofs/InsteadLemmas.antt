@@ -5,7 +5,7 @@ use Rattle.std.proofs.lemmas.Bool.{and_parts, and_right, cases_lt, not-true, tru
 use Rattle.dutch_arrangements.specs.declared.bracket.Shape.{Shape}
 use Rattle.dutch_arrangements.specs.Prelude.{Arrangement, Fits, Frame, Passes}
 use Rattle.dutch_player.specs.Prelude.{Facts}
-use Rattle.dutch_rounds.specs.declared.stage.Stage.{Stage}
+use Rattle.dutch_rounds.specs.Stage.{Stage}
 use Rattle.dutch_candidates.specs.declared.wish.Wish.{Wish}
 use Rattle.dutch_bracket.specs.Prelude.{Context, FitsHere, IsOf, candidates_here, eligible_here, Reached, frame_of, candidates_of, eligible, is_penultimate, shape_of, fits, has_member}
 use Rattle.dutch_candidates.specs.Wishes.{grants}

@@ -1,7 +1,7 @@
 -- What a walk over a whole round tells of the round.
 use Rattle.std.proofs.Common.{◌≡◌, ℕ, zero, suc, ◌+◌, ◌<◌, ◌≤◌, Bool, true, false, cond, List, [], ◌∷◌, ◌++◌, length, Option, None, option_map, refl, sym, ap, ◌∙◌, arith, append_assoc}
 use Rattle.dutch_player.specs.Prelude.{Facts}
-use Rattle.dutch_rounds.specs.declared.stage.Stage.{Stage}
+use Rattle.dutch_rounds.specs.Stage.{Stage}
 use Rattle.dutch_rounds.specs.Prelude.{Round, Pairing, Visit, passing, pairing_in, visit, visit_at, visit_of, choice_of, stage_first}
 
 -- the bye of a pairing, if there is one

@@ -6,11 +6,9 @@ use Rattle.dutch_arrangements.specs.Prelude.{down}
 use Rattle.dutch_player.specs.Prelude.{Facts}
 use Rattle.dutch_bracket.specs.declared.reached.BracketKind.{BracketKind}
 use Rattle.dutch_bracket.specs.declared.reached.BracketKind.TheVariants.{Ordinary, Last, Penultimate, Collapsed}
-use Rattle.dutch_choice.specs.declared.choice.Choice.{Choice as Made}
-use Rattle.dutch_rounds.specs.declared.stage.Stage.{Stage}
+use Rattle.dutch_rounds.specs.Stage.{Stage}
 use Rattle.dutch_bracket.specs.Prelude.{Context, frame_here, quality_here, quality_in, Reached, IsAbove, frame_of, Choice, bracket, choice, completable, downfloaters, quality_of, scoregroups, shape_of, seat_of}
 use Rattle.dutch_rounds.specs.Prelude.{lower_of, IsStage, shown, visit_at, Round, brackets, passing, pairing_in, penultimate_bracket, paired_again, IsSettled, choice_of, group_kind, is_again, round_by, Goes, GoesOut, HasWayOut, StandsBefore}
-use Rattle.dutch_choice.specs.Prelude.{IsChoice}
 use Rattle.dutch_rounds.proofs.RoundBy.{final_by, ordinary_by, penultimate_by}
 use Rattle.dutch_choice.proofs.BestLemmas.{choice_of_shape}
 use Rattle.dutch_rounds.proofs.GroupWalk.{IsParted}
@@ -123,10 +121,6 @@ settled_in k stage own e left value again = record {
   value = value ∙ ap (λ (b : Reached). quality_of k.facts b k.lower stage.candidate.lists) (sym own);
   again = again ∙ ap (λ (b : Reached). is_again b.kind (completable k.facts (map (seat_of b.seats) stage.candidate.down ++ k.lower))) (sym own);
 }
-
--- what is chosen in a bracket that was read
-pub chosen_as : (k : Context) (stopped : Type 0) {a b : Made} → a ≡ b → IsChoice k stopped a → IsChoice k stopped b
-chosen_as k stopped e h = subst (IsChoice k stopped) e h
 
 -- ---- the stage that comes of the bracket of a walk
 

@@ -1,5 +1,6 @@
 -- What the contracts of dutch_rounds name: the round, its stages and boards, and what is told of them.
 pub mod Round
+pub mod Stage
 pub mod Lower
 pub mod Boards
 pub mod Outcomes

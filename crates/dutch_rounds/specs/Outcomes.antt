@@ -10,7 +10,7 @@ use Rattle.dutch_rounds.specs.declared.round.BracketAt.{BracketAt}
 use Rattle.dutch_rounds.specs.declared.round.BracketAt.TheVariants.{Bracket, NotReached, NoPairing as NoPairingAt, Undecided as UndecidedAt}
 use Rattle.dutch_rounds.specs.declared.round.AllStages.{AllStages}
 use Rattle.dutch_rounds.specs.declared.round.AllStages.TheVariants.{Paired as StagesPaired, NoPairing as NoStages, Undecided as StagesUndecided}
-use Rattle.dutch_rounds.specs.declared.stage.Stage.{Stage}
+use Rattle.dutch_rounds.specs.Stage.{Stage}
 use Rattle.dutch_bracket.specs.Prelude.{IsOfBracket, quality_in, Reached, IsAbove, IsOf, frame_of, choice, quality_of, AreSeats, seats_meet, seats_may_be_left}
 use Rattle.dutch_rounds.specs.Lower.{lower_of}
 use Rattle.dutch_rounds.specs.Round.{Visit, round, everybody}

@@ -5,7 +5,7 @@ use Rattle.dutch_arrangements.specs.Prelude.{Fits, down}
 use Rattle.dutch_player.specs.Prelude.{Facts}
 use Rattle.dutch_bracket.specs.declared.reached.BracketKind.{BracketKind}
 use Rattle.dutch_bracket.specs.declared.reached.BracketKind.TheVariants.{Ordinary, Last, Penultimate, Collapsed}
-use Rattle.dutch_rounds.specs.declared.stage.Stage.{Stage}
+use Rattle.dutch_rounds.specs.Stage.{Stage}
 use Rattle.dutch_rounds.specs.declared.walk.Next.{Next}
 use Rattle.dutch_rounds.specs.declared.walk.Next.TheVariants.{Bracket, Bye}
 use Rattle.dutch_rounds.specs.declared.walk.Halt.{Halt}

@@ -272,10 +272,13 @@ fn look_for<F: Finder>(wished: &Wished<'_>, budget: &mut Budget) -> Result<Inste
 {
     let wish = Some(wished.wish);
     match best_by::<F>(&wished.shaped, wish, budget)? {
-        Step::Found(best) => Ok(Instead::Best {
-            candidate: best.candidate,
-            quality: best.quality,
-        }),
+        Step::Found(best) => {
+            let best = Box::into_inner(best);
+            Ok(Instead::Best {
+                candidate: best.candidate,
+                quality: best.quality,
+            })
+        }
         Step::End => match why_none(wished, budget) {
             Ok(reason) => Ok(reason),
             Err(Stopped) => Ok(Instead::Undecided { used: budget.used }),

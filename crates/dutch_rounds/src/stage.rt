@@ -12,20 +12,35 @@ use dutch_bracket::fault::PairFault;
 use dutch_bracket::quality::Quality;
 use dutch_bracket::reached::{BracketKind, Reached, Seats};
 use dutch_bracket::seated::{Pair, by_seats};
-use dutch_choice::choice::{Choice, choose_in};
-use dutch_choice::finder::Finder;
+use dutch_choice::choice::choose_in;
+use dutch_choice::finder::{Best, Finder};
 use dutch_completion::eligible::leaves_completable;
 use dutch_player::Field;
+use std::marker::Model;
 
 /// A bracket that a round reaches, and what is chosen in it.
 #[derive(Drop)]
 pub struct Stage {
     pub(crate) reached: Reached,
     pub(crate) shape: Shape,
-    pub(crate) candidate: Candidate,
-    pub(crate) quality: Quality,
+    // (on the heap, as it is large)
+    pub(crate) best: Box<Best>,
     // it is paired again, so its pairs do not count
     pub(crate) again: bool,
+}
+
+impl Model for Stage {
+    ghost use Rattle.dutch_rounds.specs.Stage.{Stage};
+
+    ghost Value = { Stage };
+
+    ghost view = { λ s. record {
+      reached = s.reached;
+      shape = s.shape;
+      candidate = s.best.value.candidate;
+      quality = s.best.value.quality;
+      again = s.again;
+    } };
 }
 
 /// An ordinary bracket is paired again if those that it leaves over cannot be paired out with all lower players (C.4).
@@ -62,22 +77,16 @@ pub(crate) fn settle<F: Finder>(
         (λ stage. (stage.reached ≡ context.now.reached) × IsSettled context.now.facts context.now.lower stage)) }
     ensures spends { Spends budget.old budget.new }
 {
-    let (shape, candidate, quality) = match choose_in::<F>(context, budget)? {
-        Choice::Chosen {
-            shape,
-            candidate,
-            quality,
-        } => (shape, candidate, quality),
-        Choice::Undecided => return Ok(None),
+    let Some(chosen) = choose_in::<F>(context, budget)? else {
+        return Ok(None);
     };
-    let Ok(again) = is_again(context, &candidate, budget) else {
+    let Ok(again) = is_again(context, &chosen.best.candidate, budget) else {
         return Ok(None);
     };
     Ok(Some(Stage {
         reached: context.reached().copied(),
-        shape,
-        candidate,
-        quality,
+        shape: chosen.shape,
+        best: chosen.best,
         again,
     }))
 }
@@ -101,14 +110,14 @@ impl Stage {
     pub fn candidate(&self) -> &Candidate
         ensures { result.now ≡ self.now.candidate }
     {
-        &self.candidate
+        &self.best.candidate
     }
 
     /// The quality of what is chosen in it (C.6 to C.19).
     pub fn quality(&self) -> &Quality
         ensures { result.now ≡ self.now.quality }
     {
-        &self.quality
+        &self.best.quality
     }
 
     /// Yes if it is paired again, as the next one (C.4): then its pairs do not count.
@@ -128,7 +137,7 @@ impl Stage {
         if self.again {
             return Ok(());
         }
-        let seated = by_seats(field, self.reached.seats(), &self.candidate);
+        let seated = by_seats(field, self.reached.seats(), &self.best.candidate);
         Ok(pairs.extend_from_slice(&seated.pairs)?)
     }
 }

@@ -165,7 +165,7 @@ fn behind<'a>(field: &Field, stage: &Stage, lower: &'a [u16], group: usize) -> N
     scores_do_not_ascend(field);
     let reached = &stage.reached;
     let number = reached.number() + 1;
-    let left = seats_of(reached.seats(), stage.candidate.down());
+    let left = seats_of(reached.seats(), stage.best.candidate.down());
     if stage.again {
         let reached = paired_again(reached);
         return Next::Bracket { reached, lower };

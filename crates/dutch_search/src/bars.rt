@@ -8,9 +8,8 @@ ghost use Rattle.dutch_floors.specs.Behind.{IsBasisFor};
 ghost use Rattle.dutch_search.specs.Searching.{HasWeights};
 
 use dutch_bracket::quality::Quality;
-use dutch_choice::finder::Best;
 use dutch_floors::floor::Floors;
-use dutch_passes::{Pass, PassSoFar};
+use dutch_passes::{Kept, Pass, PassSoFar};
 use dutch_weights::asking::Bars;
 use dutch_weights::weight_floor::{Bar, WeightFloors};
 
@@ -35,10 +34,10 @@ fn aim_bar(pass: &Pass<'_>, weights: &Option<WeightFloors<'_>>) -> Option<Bar>
 }
 
 /// The bar of the candidate that is kept.
-fn kept_bar(kept: &Option<Best>, weights: &Option<WeightFloors<'_>>) -> Option<Bar>
+fn kept_bar(kept: &Kept, weights: &Option<WeightFloors<'_>>) -> Option<Bar>
     ensures { HasBar weights.now (kept_in kept.now) result }
 {
-    match kept {
+    match kept.best() {
         Some(best) => return bar_of(weights, &best.quality),
         None => return None,
     }

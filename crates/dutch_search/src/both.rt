@@ -1,4 +1,5 @@
 // What is known of the candidates of a bracket and a shape by floors of both kinds.
+ghost use Rattle.std.specs.Prelude.{◌≡◌, None};
 ghost use Rattle.dutch_floors.specs.Behind.{IsBasisFor};
 
 use dutch_bracket::context::Context;
@@ -27,6 +28,22 @@ pub(crate) struct BothFloors<'a> {
     pub(crate) counts: Floors<'a>,
     pub(crate) weights: Option<WeightFloors<'a>>,
     ghost basis: { IsBasisFor shaped counts },
+}
+
+impl<'a> BothFloors<'a> {
+    /// Floors by counts alone.
+    pub(crate) fn by_counts(shaped: ShapedBracket<'a>, counts: Floors<'a>) -> BothFloors<'a>
+        requires { IsBasisFor shaped counts }
+        ensures shaped { result.shaped ≡ shaped.entry }
+        ensures counts { result.counts ≡ counts.entry }
+        ensures weights { result.weights ≡ None }
+    {
+        BothFloors {
+            shaped,
+            counts,
+            weights: None,
+        }
+    }
 }
 
 /// Yes if pairs are weighed: the bracket does not have too many players, counted with the next lower scoregroup if the

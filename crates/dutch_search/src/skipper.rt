@@ -46,7 +46,7 @@ impl<'a, 'k> Skipper<'a, 'k> {
     /// greater one.
     fn missed_bars(&self) -> (u16, u16) {
         let aim = self.so_far.pass.aim.as_ref();
-        let kept = self.so_far.kept.as_ref();
+        let kept = self.so_far.kept.best();
         match (aim, kept) {
             (Some(aim), Some(kept)) => {
                 let (aim, kept) = (aim.missed_preferences, kept.quality.missed_preferences);
@@ -117,7 +117,7 @@ impl<'a, 'k> Skipper<'a, 'k> {
         let Some(bar) = &self.bars.kept else {
             return false;
         };
-        let Some(best) = self.so_far.kept else {
+        let Some(best) = self.so_far.kept.best() else {
             return false;
         };
         bar.is_above(least) || (bar.is_reached(least) && self.knows_next(prefix, &best.quality))
@@ -221,7 +221,7 @@ impl<'a, 'k> Bound for Skipper<'a, 'k> {
             work.notes.last.note(prefix);
         }
         // (with no aim and nothing kept no quality loses)
-        if self.so_far.pass.aim.is_none() && self.so_far.kept.is_none() {
+        if self.so_far.pass.aim.is_none() && self.so_far.kept.best().is_none() {
             return false;
         }
         self.loses_by_weight(prefix) || self.loses_by_counts(prefix, work)
@@ -237,7 +237,7 @@ impl<'a, 'k> Bound for Skipper<'a, 'k> {
         if is_barred_with(self.so_far.pass, exchange) {
             return true;
         }
-        if self.so_far.pass.aim.is_none() && self.so_far.kept.is_none() {
+        if self.so_far.pass.aim.is_none() && self.so_far.kept.best().is_none() {
             return false;
         }
         self.loses_by_order(prefix, exchange)

@@ -17,7 +17,7 @@ use dutch_candidates::greatest::Lister;
 use dutch_candidates::narrowed::NarrowedRule;
 use dutch_choice::finder::{Best, Finder, FinderRequest};
 use dutch_floors::floor::Floors;
-use dutch_passes::{Judge, Pass, PassRoom, Workroom, best_in_time, look_below};
+use dutch_passes::{Judge, Kept, Pass, PassRoom, Workroom, best_in_time, look_below};
 
 /// How many steps are spent on what the next bracket can be at best: a step for each player of the bracket with each of
 /// the next scoregroup, and a listing.
@@ -72,24 +72,21 @@ fn judge_for<'a>(
     requires floors { IsBasisFor pass.now.shaped floors.value }
     ensures look { IfOk result (λ judge. LooksFor pass.now judge.value.look) }
     ensures context { IfOk result
-        (λ judge. judge.value.guide.shaped.context.now ≡ pass.now.shaped.context.now) }
-    ensures shape { IfOk result (λ judge. judge.value.guide.shaped.shape ≡ pass.now.shaped.shape) }
-    ensures guide { IfOk result (λ judge. AreFor pass.now judge.value.guide) }
+        (λ judge. judge.value.guide.value.shaped.context.now ≡ pass.now.shaped.context.now) }
+    ensures shape { IfOk result (λ judge. judge.value.guide.value.shaped.shape ≡ pass.now.shaped.shape) }
+    ensures guide { IfOk result (λ judge. AreFor pass.now judge.value.guide.value) }
 {
     let shaped = pass.shaped;
-    let guide = BothFloors {
-        shaped,
-        counts: Box::into_inner(floors),
-        weights: None,
-    };
+    let alloc = shaped.context.alloc();
+    let guide = Box::new(alloc, BothFloors::by_counts(shaped, Box::into_inner(floors)))?;
     let judge = Judge {
         look: look_below(shaped.context)?,
-        work: Workroom::default(),
+        work: Box::new(alloc, Workroom::default())?,
         left: Seats::new(),
-        kept: None,
+        kept: Kept::none(alloc)?,
         guide,
     };
-    Ok(Box::new(shaped.context.alloc(), judge)?)
+    Ok(Box::new(alloc, judge)?)
 }
 
 /// What the passes end with. (Apart from where the search is made ready, as that owns much.)
@@ -97,22 +94,23 @@ fn best_in_passes(
     pass: &mut Pass<'_>,
     search: &mut PassRoom<'_, '_, '_, '_, BothFloors<'_>>,
     budget: &mut Budget,
-) -> Step<Best>
+) -> Result<Step<Box<Best>>, PairFault>
     requires lister { IsLentFor pass.old search.old.start search.old.lister.now }
     requires look { LooksFor pass.old search.old.judge.value.look }
-    requires context { search.old.judge.value.guide.shaped.context.now ≡ pass.old.shaped.context.now }
-    requires shape { search.old.judge.value.guide.shaped.shape ≡ pass.old.shaped.shape }
-    requires guide { AreFor pass.old search.old.judge.value.guide }
-    ensures answer { MatchStep result (IsBest pass.old.shaped.context.now (wished_of pass.old))
-        (wished_of pass.old ≡ None) (budget.new.used ≡ budget.new.limit) }
+    requires context { search.old.judge.value.guide.value.shaped.context.now ≡ pass.old.shaped.context.now }
+    requires shape { search.old.judge.value.guide.value.shaped.shape ≡ pass.old.shaped.shape }
+    requires guide { AreFor pass.old search.old.judge.value.guide.value }
+    ensures answer { IfOk result (λ step. MatchStep step
+        (λ found. IsBest pass.old.shaped.context.now (wished_of pass.old) found.value)
+        (wished_of pass.old ≡ None) (budget.new.used ≡ budget.new.limit)) }
     ensures spends { Spends budget.old budget.new }
 {
-    match best_in_time(pass, search, budget) {
-        Ok(()) => match search.judge.kept.take() {
-            Some(best) => Step::Found(best),
-            None => Step::End,
-        },
-        Err(Stopped) => Step::Undecided,
+    if best_in_time(pass, search, budget).is_err() {
+        return Ok(Step::Undecided);
+    }
+    match search.judge.kept.take(pass.shaped.context.alloc())? {
+        Some(best) => Ok(Step::Found(best)),
+        None => Ok(Step::End),
     }
 }
 
@@ -126,7 +124,7 @@ impl Finder for WithFloors {
         asked: &FinderRequest<'_>,
         lister: &mut Lister<'_, NarrowedRule<'_>>,
         budget: &mut Budget,
-    ) -> Result<Step<Best>, PairFault> {
+    ) -> Result<Step<Box<Best>>, PairFault> {
         let Some(floors) = boxed_floors(&asked.shaped, budget)? else {
             return Ok(Step::Undecided);
         };
@@ -141,6 +139,6 @@ impl Finder for WithFloors {
             lister,
             start: asked.start,
         };
-        Ok(best_in_passes(&mut pass, &mut search, budget))
+        best_in_passes(&mut pass, &mut search, budget)
     }
 }

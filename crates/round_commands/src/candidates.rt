@@ -102,7 +102,7 @@ struct ListedBracket<'a> {
     shape: Shape,
 }
 
-// A bracket and its candidates, all or those behind the cursor. (Apart from its caller, as it holds a listing.)
+// A bracket and its candidates, all or those behind the cursor.
 #[inline(never)]
 #[tactic(auto, using(crate::proofs::CandidateLemmas::cursor_is_in, crate::proofs::CandidateLemmas::not_listed))]
 fn list(
@@ -124,13 +124,13 @@ fn list(
     let rule = reached.rule(field);
     match &options.from {
         None => {
-            let mut coming = Candidates::new(&frame, shape, &rule);
-            list_coming(alloc, options, asked, &mut coming)
+            let mut coming = Box::new(alloc, Candidates::new(&frame, shape, &rule))?;
+            list_coming(alloc, options, asked, &mut *coming)
         }
         Some(from) => match Cursor::read(from.as_str(), &frame, shape) {
             Ok(cursor) => {
-                let mut coming = Candidates::from(&frame, shape, &rule, cursor);
-                list_coming(alloc, options, asked, &mut coming)
+                let mut coming = Box::new(alloc, Candidates::from(&frame, shape, &rule, cursor))?;
+                list_coming(alloc, options, asked, &mut *coming)
             }
             Err(_) => not_of_bracket(alloc, options.bracket),
         },

@@ -5,7 +5,7 @@ use Rattle.std.specs.List.{flat_map, list_any}
 use Rattle.std.specs.Option.{option_map_or}
 use Rattle.dutch_bracket.specs.Prelude.{Reached, Seated, by_seats, ends_round, seat_of}
 use Rattle.dutch_rounds.specs.Prelude.{own_pairs}
-use Rattle.dutch_rounds.specs.declared.stage.Stage.{Stage}
+use Rattle.dutch_rounds.specs.Stage.{Stage}
 use Rattle.requests.specs.declared.options.Wording.{Wording}
 use Rattle.round_lines.specs.CandidateTexts.{bracket_text, bracket_words, candidate_text, rank_text}
 use Rattle.round_lines.specs.RoundTexts.{colours_text, members_text}

@@ -6,7 +6,7 @@ use Rattle.dutch_candidates.specs.declared.wish.Wish.{Wish}
 use Rattle.dutch_candidates.specs.declared.wish.Wish.TheVariants.{Pair, LeftOver}
 use Rattle.dutch_rounds.specs.declared.instead.Instead.{Instead}
 use Rattle.dutch_rounds.specs.declared.instead.Instead.TheVariants.{Best, FewerMovedDown, NoneEligible, NoneLegal, Undecided}
-use Rattle.dutch_rounds.specs.declared.stage.Stage.{Stage}
+use Rattle.dutch_rounds.specs.Stage.{Stage}
 use Rattle.requests.specs.declared.options.Wording.{Wording}
 use Rattle.round_lines.specs.Tellings.{TellingFacts, in_wording, player_words, seat_words}
 use Rattle.round_lines.specs.ValueTexts.{candidate_text}

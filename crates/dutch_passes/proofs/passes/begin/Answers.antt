@@ -1,8 +1,9 @@
 -- The first candidate that can be chosen is looked at, or all candidates are to come.
-use Rattle.std.proofs.Common.{subst}
+use Rattle.std.proofs.Common.{subst, sym}
 use Rattle.dutch_choice.specs.declared.start.Start.{Start}
 use Rattle.dutch_choice.specs.Prelude.{StandsAt, StandsBehindFirst}
 use Rattle.dutch_choice.proofs.Listings.{listed_narrowed, sound_here}
+use Rattle.dutch_passes.specs.Passes.{IsChosenNext, LooksThrough}
 use Rattle.dutch_passes.proofs.BeginLemmas.{begun_anew, begun_behind, drawn_is_here}
 use Rattle.dutch_passes.proofs.passes.begin.Given.{Over}
 use Rattle.dutch_passes.proofs.passes.begin.Goals as goal
@@ -23,7 +24,7 @@ pub returns-in_ok-consider-in-Drawn-clause-answer : goal.returns-in_ok-consider-
 returns-in_ok-consider-in-Drawn-clause-answer g c =
     let lister = c.args.search.now.lister.now in
     begun_behind c.args.pass.now c.consider.new.judge.kept lister.listing lister.drawn (stands g (goal.at.returns-in_ok-consider-in-Drawn-clause-answer g c).In-Drawn)
-    c.consider.ensures.kept c.in_ok-consider-in-Drawn.ensures.answer
+    c.consider.ensures.kept (subst (λ kept. IsChosenNext c.args.pass.now kept c.consider.new.judge.kept lister.drawn.lists) c.clear.ensures c.in_ok-consider-in-Drawn.ensures.answer)
 
 pub returns-in-Anew-clause-answer : goal.returns-in-Anew-clause-answer
 returns-in-Anew-clause-answer g c =
@@ -31,5 +32,5 @@ returns-in-Anew-clause-answer g c =
     let context = pass.shaped.context.now in
     let before = c.args.search.now.lister.now.listing in
     let lists = c.requires.lister.0 in
-    begun_anew pass c.restart.new.self (sound_here context pass.wish before lists)
-    (listed_narrowed context pass.wish before lists pass.shaped.shape c.restart.new.self.coming c.restart.ensures.coming) c.restart.ensures.shape
+    subst (λ kept. LooksThrough pass kept c.restart.new.self) (sym c.clear.ensures) (begun_anew pass c.restart.new.self (sound_here context pass.wish before lists)
+    (listed_narrowed context pass.wish before lists pass.shaped.shape c.restart.new.self.coming c.restart.ensures.coming) c.restart.ensures.shape)

@@ -12,9 +12,10 @@ pub returns-then-branch-clause-answer : goal.returns-then-branch-clause-answer
 returns-then-branch-clause-answer g c = λ coming.
     let pass = c.args.pass.now in
     let kept = c.args.judge.now.kept in
-    let quality = c.judge_candidate.new.judge.work.room.quality in
+    let quality = c.deref_mut-work.result.now.room.quality in
     let best : Best = record { candidate = c.args.candidate.now; quality = quality } in
+    let told = ap (λ w. quality_in w.room.quality) c.deref_mut-work.ensures.value ∙ c.in_ok-judge_candidate.ensures.answer in
     ap (λ k. best_of_pass pass k coming) c.keep.ensures
     ∙ winner_kept pass.shaped.context.now pass.wish (aim_in pass.aim) kept best c.args.candidate.now.lists coming c.requires.kept refl
-    c.in_ok-judge_candidate.ensures.answer (ap (λ k. loses (aim_in pass.aim) k (quality_in quality)) (sym c.judge_candidate.ensures.kept) ∙ sym c.if-loses.ensures)
+    told (ap (λ k. loses (aim_in pass.aim) k (quality_in quality)) (sym c.judge_candidate.ensures.kept) ∙ sym c.if-loses.ensures)
     (and_from _ _ (sym c.in_ok-can_be_chosen.ensures.answer ∙ c.if-branch.true) (sym c.if-not-is_wished.ensures))

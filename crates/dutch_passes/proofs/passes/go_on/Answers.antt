@@ -37,7 +37,7 @@ loop-judge-preserved g c =
       lists = lists_stay pass.shaped.context.now pass.wish before c.loop-judge.invariant.lists c.draw.new.lister.listing c.in_ok-draw.ensures.frame c.in_ok-draw.ensures.rule;
       spends = spends-more c.loop-judge.invariant.spends (spends-more c.in_ok-draw.ensures.spends c.consider.ensures.spends);
       look = c.consider.ensures.look;
-      guide = subst (λ guide. g.G.Guide.knows guide pass.shaped.context.now pass.shaped.shape pass.wish) (sym c.consider.ensures.guide) c.in_ok-draw.ensures.known;
+      guide = subst (λ guide. g.G.Guide.knows guide pass.shaped.context.now pass.shaped.shape pass.wish) (sym (ap (λ guide. guide.value) c.consider.ensures.guide)) c.in_ok-draw.ensures.known;
     }
 
 pub returns-clause-answer : goal.returns-clause-answer

@@ -12,6 +12,6 @@ invariant-loop-judge g l = record {
   looks : LooksThrough l.pass l.judge.kept l.lister.listing;
   lists : ListsFor l.pass l.lister.listing;
   look : LooksFor l.pass l.judge.look;
-  guide : g.G.Guide.knows l.judge.guide l.pass.shaped.context.now l.pass.shaped.shape l.pass.wish;
+  guide : g.G.Guide.knows l.judge.guide.value l.pass.shaped.context.now l.pass.shaped.shape l.pass.wish;
   spends : Spends l.initial.budget l.budget;
 }

@@ -5,7 +5,7 @@ use Rattle.std.specs.List.{AllByRecursion}
 use Rattle.dutch_player.specs.Prelude.{Facts}
 use Rattle.dutch_bracket.specs.Prelude.{AreSeats, all_pairs}
 use Rattle.dutch_bracket.proofs.AllLemmas.{all_join}
-use Rattle.dutch_rounds.specs.declared.stage.Stage.{Stage}
+use Rattle.dutch_rounds.specs.Stage.{Stage}
 use Rattle.dutch_rounds.specs.Prelude.{Round, Pairing, Visit, Walk, IsBehind, IsStage, GoesOn, choice_of, in_front, passing, pairing_in, stage_first, visit}
 use Rattle.dutch_rounds.proofs.RoundEnds.{bye_in, passed_more}
 use Rattle.dutch_rounds.proofs.round.all_stages.Given.{Over}

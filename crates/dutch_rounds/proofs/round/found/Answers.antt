@@ -1,7 +1,7 @@
 -- At the end of the walk all brackets are passed.
 use Rattle.std.proofs.Common.{◌≡◌, ◌+◌, true, false, Option, Some, None, is_some, length, refl, subst, arith}
 use Rattle.dutch_player.specs.Prelude.{Facts}
-use Rattle.dutch_rounds.specs.declared.stage.Stage.{Stage}
+use Rattle.dutch_rounds.specs.Stage.{Stage}
 use Rattle.dutch_rounds.specs.Prelude.{round, GoesOn}
 use Rattle.dutch_rounds.proofs.RoundEnds.{none_past}
 use Rattle.dutch_rounds.proofs.round.found.Goals as goal

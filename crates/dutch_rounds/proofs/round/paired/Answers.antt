@@ -2,7 +2,7 @@
 use Rattle.std.proofs.Common.{◌≡◌, ℕ, suc, Bool, true, false, cond, List, [], ◌++◌, length, Option, Some, None, option_map, refl, sym, ap, ◌∙◌, subst, arith, append_assoc, append-nil}
 use Rattle.dutch_player.specs.Prelude.{Facts}
 use Rattle.dutch_bracket.specs.Prelude.{all_pairs}
-use Rattle.dutch_rounds.specs.declared.stage.Stage.{Stage}
+use Rattle.dutch_rounds.specs.Stage.{Stage}
 use Rattle.dutch_rounds.specs.Prelude.{Round, Pairing, Visit, Walk, IsBehind, IsStage, GoesOn, choice_of, ending, in_front, own_pairs, passing, pairing_in, stage_first}
 use Rattle.dutch_rounds.proofs.RoundEnds.{passed_more}
 use Rattle.dutch_rounds.proofs.round.paired.Given.{Over}
@@ -64,19 +64,20 @@ loop-pairs-init g c = record {
 }
 
 pub loop-pairs-preserved : goal.loop-pairs-preserved
-loop-pairs-preserved g c = record {
-  facts = (goes g c).0.facts ∙ c.loop-pairs.invariant.facts;
-  limit = (goes g c).0.limit ∙ c.loop-pairs.invariant.limit;
+loop-pairs-preserved g c = let behind = goes g (goal.at.loop-pairs-preserved g c).In_ok-put_pairs in record {
+  facts = behind.0.facts ∙ c.loop-pairs.invariant.facts;
+  limit = behind.0.limit ∙ c.loop-pairs.invariant.limit;
   paired =
       more_pairs c.loop-pairs.walk.facts c.in-Some.stage c.settle_next.new.self.rest c.loop-pairs.pairs.items c.loop-pairs.walk.rest
-      c.put_pairs.new.pairs.items (goes g c).0.rest c.in_ok-put_pairs.ensures
+      c.put_pairs.new.pairs.items behind.0.rest c.in_ok-put_pairs.ensures
       ∙ c.loop-pairs.invariant.paired;
 }
 
 pub loop-pairs-smaller : goal.loop-pairs-smaller
 loop-pairs-smaller g c =
     let one : suc (length c.settle_next.new.self.rest.reached) ≡ length c.loop-pairs.walk.rest.reached =
-    fewer c.loop-pairs.walk.facts c.in-Some.stage c.settle_next.new.self.rest c.loop-pairs.pairs.items c.loop-pairs.walk.rest (goes g c).0.rest in
+    fewer c.loop-pairs.walk.facts c.in-Some.stage c.settle_next.new.self.rest c.loop-pairs.pairs.items c.loop-pairs.walk.rest
+    (goes g (goal.at.loop-pairs-smaller g c).In_ok-put_pairs).0.rest in
     omega (arith, one)
 
 pub returns : goal.returns

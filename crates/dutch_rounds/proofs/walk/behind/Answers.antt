@@ -3,6 +3,8 @@ use Rattle.std.proofs.Common.{◌≡◌, ◌+◌, ◌≤◌, ◌++◌, ℕ, List
 use Rattle.std.proofs.lemmas.List.{take-append-drop}
 use Rattle.dutch_bracket.specs.declared.reached.BracketKind.TheVariants.{Collapsed}
 use Rattle.dutch_bracket.specs.Prelude.{Reached, bracket, first_group, scoregroups}
+use Rattle.dutch_choice.specs.declared.finder.Best.{Best}
+use Rattle.dutch_rounds.specs.Stage.{Stage}
 use Rattle.dutch_rounds.specs.Prelude.{choice_of, Goes, GoesOut, StandsBefore}
 use Rattle.dutch_rounds.proofs.GroupWalk.{front_few, front_taken}
 use Rattle.dutch_rounds.proofs.NoDeadEnd.{ordinary_out}
@@ -17,7 +19,8 @@ seats_of-left-requires c =
     let above = stands_above c.args.field.now stage.reached.number stage.reached c.args.lower.now c.requires.stands
     (record { falls = c.scores_do_not_ascend.ensures.scores; few = c.scores_do_not_ascend.ensures.few }) in
     let few : length stage.reached.seats + length c.args.lower.now ≤ LIMIT = above.few in
-    omega (arith, few, few_left c.args.field.now stage.reached stage.candidate.lists c.down.result.now (c.down.ensures ∙ c.requires.settled.down))
+    let left_over = c.down.ensures ∙ (ap (λ (best : Best). best.candidate.down) c.deref.ensures ∙ ap (λ (s : Stage). s.candidate.down) c.stage.view_is) ∙ c.requires.settled.down in
+    omega (arith, few, few_left c.args.field.now stage.reached stage.candidate.lists c.down.result.now left_over)
 
 -- the lower seats are split behind the next scoregroup
 whole : (lower front back : List ℕ) (n : ℕ) → front ≡ take n lower → back ≡ drop n lower → front ++ back ≡ lower
@@ -32,8 +35,10 @@ first_group-requires-clause-goes c =
     let stage = c.args.stage.now in
     let lower = c.args.lower.now in
     let parts = c.split_at.result in
-    let left = left_is facts stage.reached stage.candidate.lists c.seats.result.now c.down.result.now c.seats_of-left.result.items c.seats.ensures
-    (c.down.ensures ∙ c.requires.settled.down) c.seats_of-left.ensures in
+    let left = left_is facts stage.reached stage.candidate.lists c.seats.result.now c.down.result.now c.seats_of-left.result.items
+    (c.seats.ensures ∙ ap (λ (s : Stage). s.reached.seats) c.stage.view_is)
+    (c.down.ensures ∙ (ap (λ (best : Best). best.candidate.down) c.deref.ensures ∙ ap (λ (s : Stage). s.candidate.down) c.stage.view_is) ∙ c.requires.settled.down)
+    c.seats_of-left.ensures in
     subst (λ (xs : List ℕ). Goes facts xs (parts.0.now ++ parts.1.now)) (sym left)
     (subst (Goes facts _) (sym (whole lower parts.0.now parts.1.now c.args.group c.split_at.ensures.front c.split_at.ensures.back))
     (stands_left facts stage.reached.number stage.reached lower c.requires.stands
@@ -45,13 +50,15 @@ first_group-requires-clause-out c =
     let stage = c.args.stage.now in
     let lower = c.args.lower.now in
     let parts = c.split_at.result in
-    let left = left_is facts stage.reached stage.candidate.lists c.seats.result.now c.down.result.now c.seats_of-left.result.items c.seats.ensures
-    (c.down.ensures ∙ c.requires.settled.down) c.seats_of-left.ensures in
-    let kind = sym c.kind.ensures ∙ c.in-Ordinary.is in
+    let left = left_is facts stage.reached stage.candidate.lists c.seats.result.now c.down.result.now c.seats_of-left.result.items
+    (c.seats.ensures ∙ ap (λ (s : Stage). s.reached.seats) c.stage.view_is)
+    (c.down.ensures ∙ (ap (λ (best : Best). best.candidate.down) c.deref.ensures ∙ ap (λ (s : Stage). s.candidate.down) c.stage.view_is) ∙ c.requires.settled.down)
+    c.seats_of-left.ensures in
+    let kind = sym (c.kind.ensures ∙ ap (λ (s : Stage). s.reached.kind) c.stage.view_is) ∙ c.in-Ordinary.is in
     subst (λ (xs : List ℕ). GoesOut facts xs (parts.0.now ++ parts.1.now)) (sym left)
     (subst (GoesOut facts _) (sym (whole lower parts.0.now parts.1.now c.args.group c.split_at.ensures.front c.split_at.ensures.back))
     (ordinary_out facts stage.reached.number stage.reached lower (choice_of stage) c.requires.stands kind c.requires.settled.choice
-    (is_kept facts lower stage c.requires.settled c.if-stage.false kind)))
+    (is_kept facts lower stage c.requires.settled (sym (ap (λ (s : Stage). s.again) c.stage.view_is) ∙ c.if-stage.false) kind)))
 
 pub first_group-requires-clause-first : goal.first_group-requires-clause-first
 first_group-requires-clause-first c =
@@ -65,11 +72,13 @@ pub bracket-requires : goal.bracket-requires
 bracket-requires c =
     let facts = c.args.field.now in
     let stage = c.args.stage.now in
-    let left = left_is facts stage.reached stage.candidate.lists c.seats.result.now c.down.result.now c.seats_of-left.result.items c.seats.ensures
-    (c.down.ensures ∙ c.requires.settled.down) c.seats_of-left.ensures in
+    let left = left_is facts stage.reached stage.candidate.lists c.seats.result.now c.down.result.now c.seats_of-left.result.items
+    (c.seats.ensures ∙ ap (λ (s : Stage). s.reached.seats) c.stage.view_is)
+    (c.down.ensures ∙ (ap (λ (best : Best). best.candidate.down) c.deref.ensures ∙ ap (λ (s : Stage). s.candidate.down) c.stage.view_is) ∙ c.requires.settled.down)
+    c.seats_of-left.ensures in
     let above = stands_above facts stage.reached.number stage.reached c.args.lower.now c.requires.stands
     (record { falls = c.scores_do_not_ascend.ensures.scores; few = c.scores_do_not_ascend.ensures.few }) in
-    left_few facts stage.reached stage.candidate.lists c.args.lower.now c.deref.result.now (c.deref.ensures.0 ∙ left) above.few
+    left_few facts stage.reached stage.candidate.lists c.args.lower.now c.deref-in-Penultimate.result.now (c.deref-in-Penultimate.ensures.0 ∙ left) above.few
 
 pub returns-in-Penultimate-clause-stands : goal.returns-in-Penultimate-clause-stands
 returns-in-Penultimate-clause-stands c =
@@ -77,21 +86,26 @@ returns-in-Penultimate-clause-stands c =
     let stage = c.args.stage.now in
     let lower = c.args.lower.now in
     let n = stage.reached.number in
-    let left = left_is facts stage.reached stage.candidate.lists c.seats.result.now c.down.result.now c.seats_of-left.result.items c.seats.ensures
-    (c.down.ensures ∙ c.requires.settled.down) c.seats_of-left.ensures in
+    let left = left_is facts stage.reached stage.candidate.lists c.seats.result.now c.down.result.now c.seats_of-left.result.items
+    (c.seats.ensures ∙ ap (λ (s : Stage). s.reached.seats) c.stage.view_is)
+    (c.down.ensures ∙ (ap (λ (best : Best). best.candidate.down) c.deref.ensures ∙ ap (λ (s : Stage). s.candidate.down) c.stage.view_is) ∙ c.requires.settled.down)
+    c.seats_of-left.ensures in
     let collapsed = stands_collapsed facts stage.reached.number stage.reached lower c.requires.stands
     (record { falls = c.scores_do_not_ascend.ensures.scores; few = c.scores_do_not_ascend.ensures.few }) (choice_of stage)
-    (sym c.kind.ensures ∙ c.in-Penultimate.is) c.requires.settled.choice in
-    let same = c.bracket.ensures ∙ ap (λ (m : ℕ). bracket (m + 1) Collapsed c.deref.result.now lower) c.number-number.ensures
-    ∙ ap (λ (xs : List ℕ). bracket (n + 1) Collapsed xs lower) (c.deref.ensures.0 ∙ left) in
+    (sym (c.kind.ensures ∙ ap (λ (s : Stage). s.reached.kind) c.stage.view_is) ∙ c.in-Penultimate.is) c.requires.settled.choice in
+    let numbered = c.number-number.ensures ∙ ap (λ (s : Stage). s.reached.number) c.stage.view_is in
+    let same = c.bracket.ensures ∙ ap (λ (m : ℕ). bracket (m + 1) Collapsed c.deref-in-Penultimate.result.now lower) numbered
+    ∙ ap (λ (xs : List ℕ). bracket (n + 1) Collapsed xs lower) (c.deref-in-Penultimate.ensures.0 ∙ left) in
     subst (λ (b : Reached). StandsBefore facts (n + 1) b []) (sym same) collapsed
 
 pub returns-in-Last-clause-stands : goal.returns-in-Last-clause-stands
 returns-in-Last-clause-stands c =
     let facts = c.args.field.now in
     let stage = c.args.stage.now in
-    let left = left_is facts stage.reached stage.candidate.lists c.seats.result.now c.down.result.now c.seats_of-left.result.items c.seats.ensures
-    (c.down.ensures ∙ c.requires.settled.down) c.seats_of-left.ensures in
+    let left = left_is facts stage.reached stage.candidate.lists c.seats.result.now c.down.result.now c.seats_of-left.result.items
+    (c.seats.ensures ∙ ap (λ (s : Stage). s.reached.seats) c.stage.view_is)
+    (c.down.ensures ∙ (ap (λ (best : Best). best.candidate.down) c.deref.ensures ∙ ap (λ (s : Stage). s.candidate.down) c.stage.view_is) ∙ c.requires.settled.down)
+    c.seats_of-left.ensures in
     let above = stands_above facts stage.reached.number stage.reached c.args.lower.now c.requires.stands
     (record { falls = c.scores_do_not_ascend.ensures.scores; few = c.scores_do_not_ascend.ensures.few }) in
     down_seats facts stage.reached stage.candidate.lists c.seats_of-left.result.items above.bracket left

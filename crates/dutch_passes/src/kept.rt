@@ -1,0 +1,78 @@
+// The best candidate that a pass has found so far, if it has found one. Its place is on the heap, as it is large.
+ghost use Rattle.std.specs.Prelude.{◌≡◌, None, Some, IfOk, option_copied, option_map};
+
+use dutch_arrangements::Candidate;
+use dutch_bracket::fault::PairFault;
+use dutch_bracket::quality::Quality;
+use dutch_choice::finder::Best;
+use std::alloc::Global;
+use std::marker::Model;
+use std::mem::{replace, swap};
+
+/// A place for the best candidate so far, with its quality.
+#[derive(Drop)]
+pub struct Kept {
+    best: Box<Best>,
+    is_kept: bool,
+}
+
+impl Model for Kept {
+    ghost use Rattle.std.specs.Prelude.{Option};
+    ghost use Rattle.dutch_arrangements.specs.Prelude.{only_if};
+    ghost use Rattle.dutch_choice.specs.declared.finder.Best.{Best};
+
+    ghost Value = { Option Best };
+
+    ghost view = { λ k. only_if k.is_kept k.best.value };
+}
+
+impl Kept {
+    /// An empty place.
+    pub fn none(alloc: Global) -> Result<Kept, PairFault>
+        ensures { IfOk result (λ kept. kept ≡ None) }
+    {
+        Ok(Kept {
+            best: Box::new(alloc, Best::empty())?,
+            is_kept: false,
+        })
+    }
+
+    /// The candidate that is kept, if there is one.
+    pub fn best(&self) -> Option<&Best>
+        ensures { option_copied result ≡ self.now }
+    {
+        if self.is_kept {
+            Some(&*self.best)
+        } else {
+            None
+        }
+    }
+
+    /// Empties the place.
+    pub fn clear(&mut self)
+        ensures { self.new ≡ None }
+    {
+        self.is_kept = false;
+    }
+
+    /// Keeps a candidate and the quality that was worked out for it, in place of what is kept.
+    pub fn keep(&mut self, candidate: &Candidate, quality: &mut Quality)
+        ensures { self.new ≡ Some (record { candidate = candidate.now; quality = quality.old }) }
+    {
+        self.best.candidate.fill(candidate);
+        swap(&mut self.best.quality, quality);
+        self.is_kept = true;
+    }
+
+    /// Takes out the candidate that is kept, if there is one, and leaves an empty place.
+    pub fn take(&mut self, alloc: Global) -> Result<Option<Box<Best>>, PairFault>
+        ensures { IfOk result (λ taken. option_map (λ best. best.value) taken ≡ self.old) }
+    {
+        if !self.is_kept {
+            return Ok(None);
+        }
+        let place = Box::new(alloc, Best::empty())?;
+        self.is_kept = false;
+        Ok(Some(replace(&mut self.best, place)))
+    }
+}
