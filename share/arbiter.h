@@ -29,7 +29,7 @@ extern "C" {
 #endif
 
 /* The stack that a call needs, in bytes. */
-#define ARBITER_STACK (1024 * 1024)
+#define ARBITER_STACK (512 * 1024)
 
 /* What a call answers. With ARBITER_DONE, ARBITER_NO_PAIRING and ARBITER_UNDECIDED the output has the text, and else the message. */
 enum arbiter_status {

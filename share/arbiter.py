@@ -6,7 +6,7 @@
     print(engine.ask(open("club.trf", "rb").read(), "pair", "--names").decode())
 
 A report is bytes, and so is what comes back. Nothing is kept between calls, and threads may call at the same time: a call lets the others run.
-A thread that calls needs the stack that arbiter.h tells, which threads of Python have unless threading.stack_size() sets less."""
+A thread that calls needs 512 KiB of stack, which threads of Python have unless threading.stack_size() sets less."""
 import ctypes
 import os
 from typing import NamedTuple, Optional, Union
