@@ -1,14 +1,14 @@
 // The command `candidates`: a bracket, its shape, and the candidates of that shape in the order of article D.
 ghost use Rattle.std.specs.Prelude.{◌≡◌, ◌≤◌, ◌++◌, IfOk, Ok, string_bytes};
 ghost use Rattle.trf16_report.specs.Prelude.{verdict};
-ghost use Rattle.dutch_arrangements.specs.Prelude.{Fits};
+ghost use Rattle.dutch_arrangements.specs.Prelude.{Fits, IsIn, arrangements, candidates, rest};
 ghost use Rattle.dutch_bracket.specs.Prelude.{IsOf, frame_of};
 ghost use Rattle.round_commands.specs.CandidateAnswers.{AnswersCandidates, InField, Lists, AnswersFound, coming_of, status_of};
 ghost use Rattle.round_commands.specs.Known.{CanBeListed};
 ghost use Rattle.round_lines.specs.Listings.{ending_text};
 ghost use Rattle.replies.specs.Prelude.{answer_of, not_of_bracket, not_reached, seen_before};
 
-use dutch_arrangements::{Budget, Cursor, Rule, Shape};
+use dutch_arrangements::{Budget, Cursor, FittingShape, Rule, Shape};
 use dutch_choice::finder::Finder;
 use dutch_listing::Candidates;
 use dutch_player::{Field, FieldFault};
@@ -102,6 +102,38 @@ struct ListedBracket<'a> {
     shape: Shape,
 }
 
+// All candidates of a bracket and a shape, on the heap. (Apart from its caller, as a listing is on the stack until it is
+// moved.)
+#[inline(never)]
+fn all_candidates<'a, R: Rule>(
+    alloc: Global,
+    fitting: FittingShape<'a>,
+    rule: &'a R,
+) -> Result<Box<Candidates<'a, R>>, AllocError>
+    ensures coming { IfOk result (λ all. all.value.coming
+        ≡ candidates (R.meets rule.now) (R.may_be_left rule.now) fitting.entry.bracket.now fitting.entry.shape) }
+    ensures frame { IfOk result (λ all. all.value.frame ≡ fitting.entry.bracket.now) }
+{
+    Ok(Box::new(alloc, Candidates::new(fitting.bracket, fitting.shape, rule))?)
+}
+
+// Those that stand behind a cursor, likewise.
+#[inline(never)]
+fn candidates_behind<'a, R: Rule>(
+    alloc: Global,
+    fitting: FittingShape<'a>,
+    rule: &'a R,
+    cursor: Cursor,
+) -> Result<Box<Candidates<'a, R>>, AllocError>
+    requires given { IsIn cursor (arrangements fitting.bracket.now fitting.shape) }
+    ensures coming { IfOk result (λ others. others.value.coming
+        ≡ rest (R.meets rule.now) (R.may_be_left rule.now) fitting.entry.bracket.now fitting.entry.shape cursor) }
+    ensures frame { IfOk result (λ others. others.value.frame ≡ fitting.entry.bracket.now) }
+{
+    let behind = Candidates::from(fitting.bracket, fitting.shape, rule, cursor);
+    Ok(Box::new(alloc, behind)?)
+}
+
 // A bracket and its candidates, all or those behind the cursor.
 #[inline(never)]
 #[tactic(auto, using(crate::proofs::CandidateLemmas::cursor_is_in, crate::proofs::CandidateLemmas::not_listed))]
@@ -122,14 +154,18 @@ fn list(
     } = *asked;
     let frame = reached.frame(field);
     let rule = reached.rule(field);
+    let fitting = FittingShape {
+        bracket: &frame,
+        shape,
+    };
     match &options.from {
         None => {
-            let mut coming = Box::new(alloc, Candidates::new(&frame, shape, &rule))?;
+            let mut coming = all_candidates(alloc, fitting, &rule)?;
             list_coming(alloc, options, asked, &mut *coming)
         }
         Some(from) => match Cursor::read(from.as_str(), &frame, shape) {
             Ok(cursor) => {
-                let mut coming = Box::new(alloc, Candidates::from(&frame, shape, &rule, cursor))?;
+                let mut coming = candidates_behind(alloc, fitting, &rule, cursor)?;
                 list_coming(alloc, options, asked, &mut *coming)
             }
             Err(_) => not_of_bracket(alloc, options.bracket),
