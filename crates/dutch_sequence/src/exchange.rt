@@ -29,6 +29,7 @@ ghost use Rattle.dutch_sequence.specs.Exchange.{exchanges};
 ghost use Rattle.dutch_sequence.specs.Keys.{IsIn};
 ghost use Rattle.std.specs.List.Sorted.{IsStrictlyIncreasing};
 ghost use Rattle.dutch_sequence.specs.declared.exchange.Side.TheVariants.{In, Out};
+ghost use Rattle.dutch_sequence.specs.declared.search.Asks.TheVariants.{AtBeginnings, Never};
 ghost use Rattle.dutch_sequence.specs.Steps.{MatchProgress, Passes, Spends, way};
 ghost use Rattle.dutch_sequence.specs.Descents.{free_moves};
 ghost use Rattle.dutch_sequence.specs.Trials.{ahead};
@@ -39,7 +40,7 @@ use crate::generator::Generator;
 use crate::halves::first_of_half;
 use crate::numbers::{LIMIT, Numbers, fill};
 use crate::path::Places;
-use crate::search::{Descent, Hinted, advance, first_hint, leave, put_behind};
+use crate::search::{Asks, Descent, Hinted, advance, first_hint, leave, put_behind};
 use crate::stage::{ExchangeStage, greatest_of, least_of};
 use crate::steps::{Budget, Drawn, Progress, Stopped};
 use crate::sums::{Sides, total_of, value_at};
@@ -329,14 +330,21 @@ fn exchange_at<'a>(sides: &Sides<'a>, state: &SearchState, numbers: &'a mut Numb
     }
 }
 
+/// Whether the caller is asked in a stage. The original set is not asked about: it is one set, and no stage of others.
+fn asks_in(asks: Asks, size: usize) -> Asks
+    ensures original { size ≡ 0 → result ≡ Never }
+    ensures others { 0 < size → result ≡ asks }
+{
+    if size == 0 { Asks::Never } else { asks }
+}
+
 /// Goes on to the next beginning about which the caller is to be asked, if it wants to be, or to the next set. The
-/// descent then has the path, unless the budget or the search ends before it. The original set is not asked about: it
-/// is one set, and no stage of others. To leave a whole stage is a step, so where a stage begins the budget is asked
-/// first.
+/// descent then has the path, unless the budget or the search ends before it. To leave a whole stage is a step, so
+/// where a stage begins the budget is asked first.
 #[tactic(auto, unfolding(crate::specs::Stages::trials_ahead))]
 fn advance_set(
     sides: &Sides<'_>,
-    ask: bool,
+    asks: Asks,
     state: &mut SearchState,
     budget: &mut Budget,
 ) -> Result<Progress, Stopped>
@@ -345,14 +353,14 @@ fn advance_set(
     ensures answer { let before = sets_from sides.now.pool.now sides.now.k state.old in
         let after = sets_from sides.now.pool.now sides.now.k state.new in
         MatchProgress result
-        ((after ≡ before) × (ask ≡ true) × (0 < state.new.size)
+        ((after ≡ before) × (asks ≡ AtBeginnings) × (0 < state.new.size)
         × (way budget.new (free_moves_from sides.now.pool.now sides.now.k state.new)
         < way budget.old (free_moves_from sides.now.pool.now sides.now.k state.old)))
         ((before ≡ set_of sides.now.pool.now sides.now.k state.new.size state.new.descent.path ∷ after)
         × (length state.new.descent.path ≡ state.new.size + state.new.size))
         ((before ≡ []) × (after ≡ []) × (trials_from sides.now.pool.now sides.now.k state.new ≡ 0))
         ((after ≡ before) × (budget.new.used ≡ budget.new.limit)
-        × (ask ≡ false → 0 < trials_from sides.now.pool.now sides.now.k state.new)) }
+        × (asks ≡ Never → 0 < trials_from sides.now.pool.now sides.now.k state.new)) }
     ensures steps { budget.new.used + trials_from sides.now.pool.now sides.now.k state.new
         ≡ budget.old.used + trials_from sides.now.pool.now sides.now.k state.old }
     ensures spends { Spends budget.old budget.new }
@@ -367,7 +375,7 @@ fn advance_set(
             },
             hint: &state.hint,
         };
-        match advance(&tree, ask && 0 < state.size, &mut state.descent, budget)? {
+        match advance(&tree, asks_in(asks, state.size), &mut state.descent, budget)? {
             Progress::Beginning => {
                 if state.descent.path.as_slice().is_empty() && budget.used == budget.limit {
                     state.descent.asked = false;
@@ -572,7 +580,7 @@ impl Exchanges {
             pool: &self.pool,
             k: self.k,
         };
-        match advance_set(&sides, true, &mut self.state, budget)? {
+        match advance_set(&sides, Asks::AtBeginnings, &mut self.state, budget)? {
             Progress::Beginning => return Ok(Progress::Beginning),
             Progress::Over => return Ok(Progress::Over),
             Progress::Whole => {}
@@ -617,7 +625,7 @@ impl Generator for Exchanges {
             pool: &self.pool,
             k: self.k,
         };
-        match advance_set(&sides, false, &mut self.state, budget)? {
+        match advance_set(&sides, Asks::Never, &mut self.state, budget)? {
             Progress::Beginning => unreachable!(),
             Progress::Over => return Ok(false),
             Progress::Whole => {}

@@ -11,6 +11,7 @@
 ghost use Rattle.std.specs.Prelude.{◌≡◌, ◌+◌, ◌-◌, ◌<◌, ◌≤◌, None, Some, [], ◌∷◌, ◌++◌, length, true, false};
 ghost use Rattle.std.specs.List.{AllByRecursion};
 ghost use Rattle.dutch_sequence.specs.declared.path.TheConstants.{PLACES};
+ghost use Rattle.dutch_sequence.specs.declared.search.Asks.TheVariants.{AtBeginnings};
 ghost use Rattle.dutch_sequence.specs.Trials.{Plan, Tried, entry, below, ahead, hits, trials, lower, lowest};
 ghost use Rattle.dutch_sequence.specs.Hints.{hint_after, first_hint};
 ghost use Rattle.dutch_sequence.specs.Choices.{GoesOn};
@@ -229,20 +230,31 @@ pub fn leave<T: Tree>(tree: &T, descent: &mut Descent)
     descent.beyond = Some(0);
 }
 
+/// Whether a search asks its caller about the beginnings at which it arrives.
+#[derive(Clone, Copy)]
+pub enum Asks {
+    /// It stands still at each, so that the caller may leave it.
+    AtBeginnings,
+    /// It goes on to the next whole path.
+    Never,
+}
+
 /// Comes to a beginning about which the caller was not asked yet, and below which something is left.
-fn comes_to_ask<T: Tree>(tree: &T, ask: bool, descent: &mut Descent) -> bool
+fn comes_to_ask<T: Tree>(tree: &T, asks: Asks, descent: &mut Descent) -> bool
     requires { Stands (T.plan tree.now) descent.old.path }
     ensures path { descent.new.path ≡ descent.old.path }
     ensures number { descent.new.number ≡ descent.old.number }
     ensures beyond { descent.new.beyond ≡ descent.old.beyond }
-    ensures asks { result ≡ true → (ask ≡ true) × (free_moves descent.new < free_moves descent.old) }
+    ensures asks { result ≡ true → (asks ≡ AtBeginnings) × (free_moves descent.new < free_moves descent.old) }
     ensures nearer { free_moves descent.new ≤ free_moves descent.old }
 {
-    if descent.asked || !ask {
-        return false;
+    match asks {
+        Asks::AtBeginnings if !descent.asked => {
+            descent.asked = true;
+            descent.number < end_number(tree, descent.path.as_slice())
+        }
+        Asks::AtBeginnings | Asks::Never => false,
     }
-    descent.asked = true;
-    descent.number < end_number(tree, descent.path.as_slice())
 }
 
 /// Makes one trial: takes the number if it fits, and otherwise goes on to the next one.
@@ -295,7 +307,7 @@ fn go_back<T: Tree>(tree: &T, descent: &mut Descent) -> bool
 /// The descent then has it, unless the budget or the search ends before it.
 pub fn advance<T: Tree>(
     tree: &T,
-    ask: bool,
+    asks: Asks,
     descent: &mut Descent,
     budget: &mut Budget,
 ) -> Result<Progress, Stopped>
@@ -304,7 +316,7 @@ pub fn advance<T: Tree>(
     ensures answer { let before = hits (ahead (T.plan tree.now) descent.old.path descent.old.number) in
         let ahead = ahead (T.plan tree.now) descent.new.path descent.new.number in
         MatchProgress result
-        ((hits ahead ≡ before) × (ask ≡ true)
+        ((hits ahead ≡ before) × (asks ≡ AtBeginnings)
         × (way budget.new (free_moves descent.new) < way budget.old (free_moves descent.old)))
         ((before ≡ descent.new.path ∷ hits ahead)
         × (length descent.new.path ≡ (T.plan tree.now).places))
@@ -318,7 +330,7 @@ pub fn advance<T: Tree>(
     ensures spends { Spends budget.old budget.new }
 {
     loop {
-        if comes_to_ask(tree, ask, descent) {
+        if comes_to_ask(tree, asks, descent) {
             return Ok(Progress::Beginning);
         }
         if descent.path.len() == tree.places() {
@@ -363,7 +375,7 @@ pub fn climb_on<T: Tree>(tree: &T, descent: &mut Descent, budget: &mut Budget) -
         ≡ lower descent.old.beyond (lowest (ahead (T.plan tree.now) descent.old.path descent.old.number)) }
     ensures spends { Spends budget.old budget.new }
 {
-    match advance(tree, false, descent, budget)? {
+    match advance(tree, Asks::Never, descent, budget)? {
         Progress::Whole => Ok(true),
         Progress::Over => Ok(false),
         Progress::Beginning => unreachable!(),

@@ -14,7 +14,7 @@ use crate::generator::Generator;
 use crate::numbers::{LIMIT, Numbers, fill};
 use crate::path::{Path, Places};
 use crate::rules::Rule;
-use crate::search::{Descent, Hinted, Tree, advance, climb_on, first_hint, leave};
+use crate::search::{Asks, Descent, Hinted, Tree, advance, climb_on, first_hint, leave};
 use crate::steps::{Budget, Drawn, Progress, Stopped};
 use arrayvec::ArrayVec;
 use std::marker::Model;
@@ -260,7 +260,7 @@ impl<'a, R: Rule> Transpositions<'a, R> {
             },
             hint: &self.hint,
         };
-        let progress = advance(&tree, true, &mut self.descent, budget)?;
+        let progress = advance(&tree, Asks::AtBeginnings, &mut self.descent, budget)?;
         pick(&self.pool, self.descent.path.as_slice(), numbers);
         Ok(progress)
     }

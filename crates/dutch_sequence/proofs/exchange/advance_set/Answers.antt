@@ -1,11 +1,20 @@
-use Rattle.std.proofs.Common.{◌≡◌, ◌<◌, true, ◌∙◌, ap, sym, arith, rules}
-use Rattle.std.proofs.lemmas.Bool.{ltb-true, true≢false}
+use Rattle.std.proofs.Common.{ℕ, zero, suc, ◌≡◌, ◌<◌, ◌∙◌, ap, refl, sym, arith, rules}
 use Rattle.dutch_sequence.specs.Prelude.{trials_ahead, hits}
 use Rattle.dutch_sequence.proofs.Skipping.{came, came-stopped}
 use Rattle.dutch_sequence.proofs.Spending.{spends-more}
 use Rattle.dutch_sequence.proofs.StageMoves.{sets-by_hits, sets-found, trials-after}
 use Rattle.dutch_sequence.proofs.exchange.advance_set.Goals as goal
-use Rattle.dutch_sequence.proofs.exchange.advance_set.Goals.{then-ask, else-ask}
+use Rattle.dutch_sequence.specs.declared.search.Asks.{Asks}
+use Rattle.dutch_sequence.specs.declared.search.Asks.TheVariants.{AtBeginnings, Never}
+
+-- it does not ask where it never does
+never-asks : (asks : Asks) (P : Type 0) → asks ≡ AtBeginnings → asks ≡ Never → P
+never-asks asks P is never = cc
+
+-- where it asks in a stage, the caller wants to be asked, and it is no stage of the original set
+asks-in : (asks asks' : Asks) (size : ℕ) → (size ≡ 0 → asks' ≡ Never) → (0 < size → asks' ≡ asks) → asks' ≡ AtBeginnings → (asks ≡ AtBeginnings) × (0 < size)
+asks-in asks asks' zero original others is = never-asks asks' _ is (original refl)
+asks-in asks asks' (suc size) original others is = (sym (others (omega arith)) ∙ is, omega arith)
 
 pub returns-in_err-advance-clause-answer : goal.returns-in_err-advance-clause-answer
 unfolding trials_ahead
@@ -22,11 +31,8 @@ returns-then-budget-clause-answer c =
     let d = c.advance.new.descent in
     let begins = came _ _ _ _ c.in-Beginning.is c.in_ok-advance.ensures.answer in
     let same = sets-by_hits c.args.sides.now.pool.now c.args.sides.now.k p.hint.items p.size p.difference d.path p.descent.path d.number p.descent.number d.beyond p.descent.beyond c.advance.ensures.beyond begins.0 in
-    let asks : c.args.ask ≡ true = elim c.if-ask.branch [
-      | then-ask w ↦ w.if-ask.true
-      | else-ask w ↦ absurd (true≢false (sym begins.1 ∙ w.advance-is ∙ w.if-ask.false))
-    ] in
-    (same ∙ c.loop-state.invariant.sets, search rules, λ no. absurd (true≢false (sym asks ∙ no)))
+    let asks = asks-in c.args.asks c.asks_in.result p.size c.asks_in.ensures.original c.asks_in.ensures.others begins.1 in
+    (same ∙ c.loop-state.invariant.sets, search rules, λ never. never-asks c.args.asks _ asks.0 never)
 
 pub returns-in-Beginning-clause-answer : goal.returns-in-Beginning-clause-answer
 returns-in-Beginning-clause-answer c =
@@ -34,10 +40,7 @@ returns-in-Beginning-clause-answer c =
     let d = c.advance.new.descent in
     let begins = came _ _ _ _ c.in-Beginning.is c.in_ok-advance.ensures.answer in
     let same = sets-by_hits c.args.sides.now.pool.now c.args.sides.now.k p.hint.items p.size p.difference d.path p.descent.path d.number p.descent.number d.beyond p.descent.beyond c.advance.ensures.beyond begins.0 in
-    let asks : (c.args.ask ≡ true) × (0 < p.size) = elim c.if-ask.branch [
-      | then-ask w ↦ (w.if-ask.true, ltb-true 0 p.size (sym w.advance-is ∙ begins.1))
-      | else-ask w ↦ absurd (true≢false (sym begins.1 ∙ w.advance-is ∙ w.if-ask.false))
-    ] in
+    let asks = asks-in c.args.asks c.asks_in.result p.size c.asks_in.ensures.original c.asks_in.ensures.others begins.1 in
     (same ∙ c.loop-state.invariant.sets, asks.0, asks.1, omega (arith, begins.2, c.loop-state.invariant.nearer))
 
 pub returns-in-Whole-clause-answer : goal.returns-in-Whole-clause-answer
