@@ -61,14 +61,14 @@ impl<'a> Exchange<'a> {
     }
 
     /// Some who are in S1R.
-    pub fn held(&self) -> &[u16]
+    pub fn held_numbers(&self) -> &[u16]
         ensures { result.now ≡ self.now.held }
     {
         self.held
     }
 
     /// Some who are not in it.
-    pub fn barred(&self) -> &[u16]
+    pub fn barred_numbers(&self) -> &[u16]
         ensures { result.now ≡ self.now.barred }
     {
         self.barred

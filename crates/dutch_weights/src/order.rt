@@ -261,8 +261,8 @@ impl Order {
         ensures { IfSome result (λ n. (s1r : List ℕ) → IsExchange exchange.now s1r → sum_by (added self.now) s1r ≤ n) }
     {
         let top = self.top();
-        let kept = self.all_kept(exchange.original(), exchange.barred())?;
-        let short = self.all_short(top, exchange.others(), exchange.held())?;
+        let kept = self.all_kept(exchange.original(), exchange.barred_numbers())?;
+        let short = self.all_short(top, exchange.others(), exchange.held_numbers())?;
         let moved = times(self.unit, exchange.difference())?;
         let entered = times(top, exchange.size())?;
         sum_less(kept, moved, entered, short)

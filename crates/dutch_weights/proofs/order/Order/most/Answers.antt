@@ -10,8 +10,8 @@ returns c =
     let order : Order = c.args.self.now in
     let e : ExchangeClass = c.args.exchange.now in
     let top : ℕ = c.top-top.result in
-    let barred : List ℕ = c.barred.result.now in
-    let held : List ℕ = c.held.result.now in
+    let barred : List ℕ = c.barred_numbers.result.now in
+    let held : List ℕ = c.held_numbers.result.now in
     let stay = ap (λ (l : List ℕ). sum_by (kept order barred) l) c.original.ensures in
     let short = ap (λ (l : List ℕ). sum_by (short_of order top held) l) c.others.ensures in
     let unit = ap (λ (o : Order). o.unit * c.difference.result) c.self.view_is in
@@ -21,8 +21,8 @@ returns c =
     (λ s1r is.
     omega (
       arith,
-      most_added order top c.top-top.ensures e s1r is barred held (λ x m. subst (IsIn x) c.barred.ensures m)
-          (λ x m. subst (IsIn x) c.held.ensures m),
+      most_added order top c.top-top.ensures e s1r is barred held (λ x m. subst (IsIn x) c.barred_numbers.ensures m)
+          (λ x m. subst (IsIn x) c.held_numbers.ensures m),
       stay,
       short,
       unit,
