@@ -12,9 +12,7 @@ ghost use Rattle.dutch_floors.specs.GhostValues.{first_limbo, first_ghosts, floo
 
 use crate::ghosts::Ghosts;
 use arrayvec::ArrayVec;
-use dutch_arrangements::{
-    Bracket, Budget, LIMIT, Numbers, Rule, Shape, Stopped, numbered_from,
-};
+use dutch_arrangements::{Bracket, Budget, LIMIT, Numbers, Rule, Shape, Stopped, numbered_from};
 use dutch_bracket::context::Context;
 use dutch_bracket::differences::{push_times, put, put_times};
 use dutch_bracket::quality::NextValue;

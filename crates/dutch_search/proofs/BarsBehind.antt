@@ -10,7 +10,7 @@ use Rattle.dutch_choice.specs.declared.finder.Best.{Best}
 use Rattle.dutch_bracket.specs.declared.quality.Quality.{Quality as Fields}
 use Rattle.dutch_weights.specs.declared.weight_floor.Bar.{Bar}
 use Rattle.dutch_weights.specs.Prelude.{HasBar, IsBar, Weighed}
-use Rattle.dutch_search.specs.declared.bars.Skipper.{Skipper}
+use Rattle.dutch_search.specs.declared.skipper.Skipper.{Skipper}
 use Rattle.dutch_weights.proofs.WeightsBehind.{no_lighter, behind_all, then_worse}
 
 module _ (s : Skipper) (a : Arrangement) (m : IsIn a (candidates_in (pass_of s).shaped)) (least : ℕ) (weighs : Weighs s least a) where

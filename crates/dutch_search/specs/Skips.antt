@@ -4,7 +4,7 @@ use Rattle.dutch_arrangements.specs.Prelude.{Arrangement, ExchangeClass, IsIn, B
 use Rattle.dutch_bracket.specs.Prelude.{Context, OfEachWithBeginning, candidates_in, quality_here, NextValue}
 use Rattle.dutch_passes.specs.declared.pass.Pass.{Pass}
 use Rattle.dutch_passes.specs.Prelude.{aim_in, beats, wins}
-use Rattle.dutch_search.specs.declared.bars.Skipper.{Skipper}
+use Rattle.dutch_search.specs.declared.skipper.Skipper.{Skipper}
 use Rattle.dutch_weights.specs.Prelude.{BeginsWith, KnowsNext, WeighsNoLess}
 
 module _ (skipper : Skipper) where

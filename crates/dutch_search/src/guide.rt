@@ -8,9 +8,10 @@ ghost use Rattle.dutch_passes.specs.Prelude.{Draws, ListsFor, PassesIdle, aim_in
 ghost use Rattle.dutch_search.specs.Searching.{AreFor};
 ghost use Rattle.dutch_weights.specs.Prelude.{HasBar};
 
-use crate::bars::{Skipper, bars_of};
+use crate::bars::bars_of;
 use crate::both::{BothFloors, LARGE_TURN, TURN_PAIRS, is_large, is_weighed};
 use crate::last_beginning::{LastBeginning, WalkNotes};
+use crate::skipper::Skipper;
 use cheapest::LOOKS_IN_A_STEP;
 use dutch_arrangements::{Budget, Step, Stopped};
 use dutch_bracket::quality::Quality;

@@ -7,19 +7,40 @@
 // floor that holds only for those that grant it is enough, as floors by weight do.
 ghost use Rattle.std.specs.Prelude.{◌≡◌, true, false};
 ghost use Rattle.dutch_bracket.specs.Prelude.{quality_here, HasNoBetter, is_better, next_in, quality_in};
+ghost use Rattle.dutch_floors.specs.Behind.{IsBasisFor};
 ghost use Rattle.dutch_floors.specs.KnownPairs.{AreKnown};
-ghost use Rattle.dutch_passes.specs.Prelude.{Loses, LosesIfOpen, is_idle_to};
+ghost use Rattle.dutch_passes.specs.Prelude.{Loses, LosesIfOpen, aim_in, is_idle_to, kept_in};
+ghost use Rattle.dutch_search.specs.Searching.{HasWeights};
 ghost use Rattle.dutch_search.specs.Skips.{HasNoBetterNext, IsBehindAim, IsBehindKept, OfEach, OfEachWith, Weighs};
 ghost use Rattle.dutch_search.specs.Skips.{context_of};
+ghost use Rattle.dutch_weights.specs.Prelude.{HasBar};
 
-use crate::bars::Skipper;
 use crate::last_beginning::WalkNotes;
 use dual::Wide;
 use dutch_arrangements::{Exchange, Prefix};
 use dutch_bracket::quality::Quality;
+use dutch_floors::floor::Floors;
 use dutch_floors::notes::FloorQuestion;
 use dutch_listing::Bound;
-use dutch_passes::{Workroom, is_barred, is_barred_with, loses};
+use dutch_passes::{PassSoFar, Workroom, is_barred, is_barred_with, loses};
+use dutch_weights::asking::Bars;
+use dutch_weights::weight_floor::WeightFloors;
+
+/// Tells which beginnings a pass may skip, by what it seeks and by the candidate that it keeps.
+#[derive(Drop)]
+pub(crate) struct Skipper<'a, 'k> {
+    pub(crate) so_far: PassSoFar<'a, 'k>,
+    /// What is known by counts.
+    pub(crate) counts: &'k Floors<'k>,
+    /// What is known by weight.
+    pub(crate) weights: &'k Option<WeightFloors<'k>>,
+    /// The bars of the aim and of the candidate that is kept.
+    pub(crate) bars: &'k Bars,
+    ghost basis: { IsBasisFor so_far.pass.now.shaped counts.now },
+    ghost weighed: { HasWeights so_far.pass.now weights.now },
+    ghost aim: { ∥ HasBar weights.now (aim_in so_far.pass.now.aim) bars.now.aim ∥₁ },
+    ghost best: { ∥ HasBar weights.now (kept_in so_far.kept.now) bars.now.kept ∥₁ },
+}
 
 impl<'a, 'k> Skipper<'a, 'k> {
     /// Fills a quality that no candidate with a beginning is better than. A no says that none is known.

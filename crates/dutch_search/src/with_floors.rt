@@ -46,30 +46,37 @@ fn floors_of<'a>(shaped: &ShapedBracket<'a>, budget: &mut Budget) -> Result<Floo
     Ok(Floors::by_counts(shaped))
 }
 
-/// The floors of a bracket, on the heap. None says that the steps ended.
+/// What draws the candidates of a bracket within floors by counts, on the heap. None says that the steps ended.
 #[inline(never)]
-fn boxed_floors<'a>(
+fn guide_for<'a>(
     shaped: &ShapedBracket<'a>,
     budget: &mut Budget,
-) -> Result<Option<Box<Floors<'a>>>, PairFault>
+) -> Result<Option<Box<BothFloors<'a>>>, PairFault>
     ensures stopped { IfOk result (λ found. IfNone found (budget.new.used ≡ budget.new.limit)) }
-    ensures floors { IfOk result (λ found. IfSome found (λ floors. IsBasisFor shaped.now floors.value)) }
+    ensures shaped { IfOk result (λ found. IfSome found (λ guide. guide.value.shaped ≡ shaped.now)) }
+    ensures counts { IfOk result (λ found. IfSome found (λ guide. IsBasisFor shaped.now guide.value.counts)) }
+    ensures weights { IfOk result (λ found. IfSome found (λ guide. guide.value.weights ≡ None)) }
     ensures spends { Spends budget.old budget.new }
 {
-    let Ok(floors) = floors_of(shaped, budget) else {
+    let Ok(counts) = floors_of(shaped, budget) else {
         return Ok(None);
     };
-    Ok(Some(Box::new(shaped.context.alloc(), floors)?))
+    let guide = Box::new(
+        shaped.context.alloc(),
+        BothFloors::by_counts(*shaped, counts),
+    )?;
+    Ok(Some(guide))
 }
 
-/// What judges the candidates of a pass: the look-ahead of its bracket, floors by counts, and room to work in. (Apart
+/// What judges the candidates of a pass: the look-ahead of its bracket, what draws them, and room to work in. (Apart
 /// from its caller, as it is large until it stands on the heap.)
 #[inline(never)]
 fn judge_for<'a>(
     pass: &Pass<'a>,
-    floors: Box<Floors<'a>>,
+    guide: Box<BothFloors<'a>>,
 ) -> Result<Box<Judge<'a, BothFloors<'a>>>, PairFault>
-    requires floors { IsBasisFor pass.now.shaped floors.value }
+    requires shaped { guide.value.shaped ≡ pass.now.shaped }
+    requires guide { AreFor pass.now guide.value }
     ensures look { IfOk result (λ judge. LooksFor pass.now judge.value.look) }
     ensures context { IfOk result
         (λ judge. judge.value.guide.value.shaped.context.now ≡ pass.now.shaped.context.now) }
@@ -78,7 +85,6 @@ fn judge_for<'a>(
 {
     let shaped = pass.shaped;
     let alloc = shaped.context.alloc();
-    let guide = Box::new(alloc, BothFloors::by_counts(shaped, Box::into_inner(floors)))?;
     let judge = Judge {
         look: look_below(shaped.context)?,
         work: Box::new(alloc, Workroom::default())?,
@@ -90,7 +96,7 @@ fn judge_for<'a>(
 }
 
 /// What the passes end with. (Apart from where the search is made ready, as that owns much.)
-fn best_in_passes(
+fn search_in_passes(
     pass: &mut Pass<'_>,
     search: &mut PassRoom<'_, '_, '_, '_, BothFloors<'_>>,
     budget: &mut Budget,
@@ -125,20 +131,20 @@ impl Finder for WithFloors {
         lister: &mut Lister<'_, NarrowedRule<'_>>,
         budget: &mut Budget,
     ) -> Result<Step<Box<Best>>, PairFault> {
-        let Some(floors) = boxed_floors(&asked.shaped, budget)? else {
+        let Some(guide) = guide_for(&asked.shaped, budget)? else {
             return Ok(Step::Undecided);
         };
         let mut pass = Pass {
             shaped: asked.shaped,
             wish: asked.wish,
-            aim: floors.aim(),
+            aim: guide.counts.aim(),
         };
-        let judge = judge_for(&pass, floors)?;
+        let judge = judge_for(&pass, guide)?;
         let mut search = PassRoom {
             judge,
             lister,
             start: asked.start,
         };
-        best_in_passes(&mut pass, &mut search, budget)
+        search_in_passes(&mut pass, &mut search, budget)
     }
 }

@@ -25,7 +25,7 @@ returns-clause-answer g c =
     let h = MatchOption-at_some _ _ chosen c.in-Some.is c.in_ok-chosen.ensures.answer in
     let own = c.copied.ensures ∙ c.reached.ensures.value in
     let told = c.in-Ok.ensures.answer
-        ∙ ap (λ (b : Best). is_again k.reached.kind (completable k.facts (map (seat_of k.reached.seats) b.candidate.down ++ k.lower))) c.deref.ensures in (
+    ∙ ap (λ (b : Best). is_again k.reached.kind (completable k.facts (map (seat_of k.reached.seats) b.candidate.down ++ k.lower))) c.deref.ensures in (
       own,
       settled_in k (record { reached = c.copied.result; shape = chosen.shape; candidate = best.candidate; quality = best.quality; again = c.in-Ok.again })
           own h.0 h.1 h.3 told,

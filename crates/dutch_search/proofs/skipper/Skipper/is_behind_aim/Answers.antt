@@ -1,7 +1,7 @@
 -- The aim is better than a candidate that weighs more, and that has a higher PSD or no better value of the next bracket.
 use Rattle.std.proofs.Common.{inl, inr, refl, arith}
 use Rattle.dutch_search.proofs.BarsBehind.{behind_aim}
-use Rattle.dutch_search.proofs.bars.Skipper.is_behind_aim.Goals as goal
+use Rattle.dutch_search.proofs.skipper.Skipper.is_behind_aim.Goals as goal
 
 pub returns-then-is_above : goal.returns-then-is_above
 returns-then-is_above c = λ above a listed begins weighs.

@@ -1,7 +1,7 @@
 -- A candidate that weighs no less than the kept one, and that has a higher PSD or no better value of the next bracket, is not better.
 use Rattle.std.proofs.Common.{inl, inr, refl, sym, ap, ◌∙◌, option_copied}
 use Rattle.dutch_search.proofs.BarsBehind.{behind_kept}
-use Rattle.dutch_search.proofs.bars.Skipper.is_behind_kept.Goals as goal
+use Rattle.dutch_search.proofs.skipper.Skipper.is_behind_kept.Goals as goal
 
 pub returns-then-is_above : goal.returns-then-is_above
 returns-then-is_above c = λ above a listed begins weighs.

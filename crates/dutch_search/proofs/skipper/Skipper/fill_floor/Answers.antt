@@ -2,7 +2,7 @@
 use Rattle.dutch_bracket.specs.Prelude.{quality_in}
 use Rattle.dutch_search.proofs.FloorsOfPass.{none_beats}
 use Rattle.dutch_search.specs.Prelude.{pass_of}
-use Rattle.dutch_search.proofs.bars.Skipper.fill_floor.Goals as goal
+use Rattle.dutch_search.proofs.skipper.Skipper.fill_floor.Goals as goal
 
 pub returns-clause-floor : goal.returns-clause-floor
 returns-clause-floor c = λ known.

@@ -2,7 +2,7 @@
 use Rattle.dutch_bracket.specs.Prelude.{next_in, quality_in}
 use Rattle.dutch_search.proofs.FloorsOfPass.{none_has_better_next}
 use Rattle.dutch_search.specs.Prelude.{pass_of}
-use Rattle.dutch_search.proofs.bars.Skipper.has_no_better_next.Goals as goal
+use Rattle.dutch_search.proofs.skipper.Skipper.has_no_better_next.Goals as goal
 
 pub returns : goal.returns
 returns c = λ known.
