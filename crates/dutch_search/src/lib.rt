@@ -13,6 +13,7 @@ mod both;
 mod guide;
 mod last_beginning;
 mod skipper;
+mod skipping;
 mod with_floors;
 
 pub use with_floors::WithFloors;

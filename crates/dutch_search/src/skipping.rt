@@ -1,0 +1,245 @@
+// What a pass over the candidates of a shape may skip (C.04.3 B.8), specified by the candidates that are idle.
+//
+// A candidate is idle if it cannot be chosen, if it does not grant what is wished, or if it loses: the aim of the pass
+// is better than it, or it is not better than the candidate that is kept. The candidates are listed by the rules of the
+// bracket, narrowed to the wish; if a beginning rules the wish out, no candidate with it grants the wish. The floor of
+// a beginning is a quality that no candidate with it is better than: if the floor loses, they all lose. With a wish, a
+// floor that holds only for those that grant it is enough, as floors by weight do.
+ghost use Rattle.std.specs.Prelude.{◌≡◌, true, false};
+ghost use Rattle.dutch_bracket.specs.Prelude.{quality_here, HasNoBetter, is_better, next_in, quality_in};
+ghost use Rattle.dutch_floors.specs.KnownPairs.{AreKnown};
+ghost use Rattle.dutch_passes.specs.Prelude.{Loses, LosesIfOpen, is_idle_to};
+ghost use Rattle.dutch_search.specs.Skips.{HasNoBetterNext, IsBehindAim, IsBehindKept, OfEach, OfEachWith, Weighs};
+ghost use Rattle.dutch_search.specs.Skips.{context_of};
+
+use crate::last_beginning::WalkNotes;
+use crate::skipper::Skipper;
+use dual::Wide;
+use dutch_arrangements::{Exchange, Prefix};
+use dutch_bracket::quality::Quality;
+use dutch_floors::notes::FloorQuestion;
+use dutch_listing::Bound;
+use dutch_passes::{Workroom, is_barred, is_barred_with, loses};
+
+impl<'a, 'k> Skipper<'a, 'k> {
+    /// Fills a quality that no candidate with a beginning is better than. A no says that none is known.
+    fn fill_floor(&self, asked: &FloorQuestion<'_, '_>, work: &mut Workroom<WalkNotes>) -> bool
+        requires known { AreKnown self.now.counts.now work.old.notes.floors.known }
+        ensures floor { result ≡ true → OfEach self.now asked.now.prefix.now
+            (λ a. is_better (quality_here (context_of self.now) a) (quality_in work.new.room.quality) ≡ false) }
+        ensures known { AreKnown self.now.counts.now work.new.notes.floors.known }
+    {
+        self.counts
+            .floor(asked, &mut work.notes.floors, &mut work.room)
+    }
+
+    /// Yes if by counts no candidate with a beginning has a better value of the next bracket than a quality says (C.7).
+    /// A no says nothing.
+    fn has_no_better_next(&self, prefix: &Prefix<'_>, quality: &Quality) -> bool
+        ensures { result ≡ true → OfEach self.now prefix.now
+            (λ a. HasNoBetter (quality_here (context_of self.now) a) (next_in (quality_in quality.now))) }
+    {
+        self.counts.has_no_better_next(prefix, quality)
+    }
+
+    /// How many miss their preference in the aim and in the candidate that is kept (C.10): the lesser number, and the
+    /// greater one.
+    fn missed_bars(&self) -> (u16, u16) {
+        let aim = self.so_far.pass.aim.as_ref();
+        let kept = self.so_far.kept.best();
+        match (aim, kept) {
+            (Some(aim), Some(kept)) => {
+                let (aim, kept) = (aim.missed_preferences, kept.quality.missed_preferences);
+                (aim.min(kept), aim.max(kept))
+            }
+            (Some(aim), None) => (aim.missed_preferences, aim.missed_preferences),
+            (None, Some(kept)) => {
+                let kept = &kept.quality;
+                (kept.missed_preferences, kept.missed_preferences)
+            }
+            (None, None) => (0, u16::MAX),
+        }
+    }
+
+    /// Yes if all candidates with a beginning lose by counts. A no says nothing.
+    #[tactic(auto, using(dutch_passes::proofs::AimLemmas::floor_loses))]
+    fn loses_by_counts(&self, prefix: &Prefix<'_>, work: &mut Workroom<WalkNotes>) -> bool
+        requires known { AreKnown self.now.counts.now work.old.notes.floors.known }
+        ensures loses { result ≡ true → OfEach self.now prefix.now (Loses self.now.so_far) }
+        ensures known { AreKnown self.now.counts.now work.new.notes.floors.known }
+    {
+        let (fewest, most) = self.missed_bars();
+        let asked = FloorQuestion {
+            prefix,
+            fewest,
+            most,
+        };
+        if !self.fill_floor(&asked, work) {
+            return false;
+        }
+        loses(&work.room.quality, &self.so_far.pass.aim, self.so_far.kept)
+    }
+
+    /// Yes if C.7 needs no further look: the weights tell of the next bracket, or by counts no candidate with a
+    /// beginning has a better value of it than a quality says.
+    fn knows_next(&self, prefix: &Prefix<'_>, quality: &Quality) -> bool
+        ensures { result ≡ true
+            → OfEach self.now prefix.now (HasNoBetterNext self.now (next_in (quality_in quality.now))) }
+    {
+        match self.weights {
+            Some(weights) if weights.counts_next() => true,
+            _ => self.has_no_better_next(prefix, quality),
+        }
+    }
+
+    /// Yes if the aim is better than every candidate with a beginning that weighs so much at least. The aim is better
+    /// than a candidate that weighs more, if that has a higher PSD or no better value of the next bracket (C.6, C.7).
+    fn is_behind_aim(&self, prefix: &Prefix<'_>, least: Wide) -> bool
+        ensures { result ≡ true
+            → OfEach self.now prefix.now (λ a. Weighs self.now least a → IsBehindAim self.now a) }
+    {
+        let Some(bar) = &self.bars.aim else {
+            return false;
+        };
+        let Some(aim) = &self.so_far.pass.aim else {
+            return false;
+        };
+        bar.is_passed(least) && (bar.is_above(least) || self.knows_next(prefix, aim))
+    }
+
+    /// Yes if no candidate with a beginning that weighs so much at least is better than the one that is kept. One that
+    /// weighs no less than that is not better, if it has a higher PSD or no better value of the next bracket (C.6,
+    /// C.7).
+    fn is_behind_kept(&self, prefix: &Prefix<'_>, least: Wide) -> bool
+        ensures { result ≡ true
+            → OfEach self.now prefix.now (λ a. Weighs self.now least a → IsBehindKept self.now a) }
+    {
+        let Some(bar) = &self.bars.kept else {
+            return false;
+        };
+        let Some(best) = self.so_far.kept.best() else {
+            return false;
+        };
+        bar.is_above(least) || (bar.is_reached(least) && self.knows_next(prefix, &best.quality))
+    }
+
+    /// Yes if all candidates with a beginning lose by the floor by weight at a place. A no says nothing.
+    fn loses_by(&self, place: usize, prefix: &Prefix<'_>) -> bool
+        ensures { result ≡ true → OfEach self.now prefix.now (LosesIfOpen self.now.so_far) }
+    {
+        let Some(weights) = self.weights else {
+            return false;
+        };
+        let Some(least) = weights.least_by(place, prefix) else {
+            return false;
+        };
+        self.is_behind_kept(prefix, least) || self.is_behind_aim(prefix, least)
+    }
+
+    /// Yes if all candidates with a beginning lose by any of the floors by weight. A no says nothing.
+    fn loses_by_weight(&self, prefix: &Prefix<'_>) -> bool
+        ensures { result ≡ true → OfEach self.now prefix.now (LosesIfOpen self.now.so_far) }
+    {
+        let Some(weights) = self.weights else {
+            return false;
+        };
+        // (the floor that was asked for last is the most likely to tell)
+        let count = weights.len();
+        for before in 0..count {
+            if self.loses_by(count - 1 - before, prefix) {
+                return true;
+            }
+        }
+        false
+    }
+
+    /// Yes if all candidates with a beginning and such an S1R lose by the floor by weight at a place. A no says
+    /// nothing.
+    fn loses_with(&self, place: usize, prefix: &Prefix<'_>, exchange: &Exchange<'_>) -> bool
+        ensures { result ≡ true → OfEachWith self.now prefix.now exchange.now (LosesIfOpen self.now.so_far) }
+    {
+        let Some(weights) = self.weights else {
+            return false;
+        };
+        let Some(least) = weights.least_with(place, prefix, exchange) else {
+            return false;
+        };
+        self.is_behind_kept(prefix, least) || self.is_behind_aim(prefix, least)
+    }
+
+    /// Yes if all candidates with a beginning and such an S1R lose by a floor that counts the order of S1R. A no says
+    /// nothing.
+    fn loses_by_order(&self, prefix: &Prefix<'_>, exchange: &Exchange<'_>) -> bool
+        ensures { result ≡ true → OfEachWith self.now prefix.now exchange.now (LosesIfOpen self.now.so_far) }
+    {
+        let Some(weights) = self.weights else {
+            return false;
+        };
+        for place in 0..weights.len() {
+            if self.loses_with(place, prefix, exchange) {
+                return true;
+            }
+        }
+        false
+    }
+}
+
+impl<'a, 'k> Bound for Skipper<'a, 'k> {
+    type Room = Workroom<WalkNotes>;
+
+    ghost use Rattle.dutch_bracket.specs.Prelude.{frame_here, numbers_meet, number_may_be_left};
+    ghost use Rattle.dutch_candidates.specs.Wishes.{left_narrowed, meets_narrowed};
+    ghost use Rattle.dutch_floors.specs.KnownPairs.{AreKnown};
+    ghost use Rattle.dutch_passes.specs.Prelude.{is_idle_to};
+    ghost use Rattle.dutch_search.specs.Skips.{context_of};
+
+    ghost frame = { λ s. frame_here (context_of s) };
+
+    ghost shape = { λ s. s.so_far.pass.now.shaped.shape };
+
+    ghost meets = { λ s. meets_narrowed s.so_far.pass.now.wish
+        (numbers_meet (context_of s).facts (context_of s).reached) };
+
+    ghost may_be_left = { λ s. left_narrowed s.so_far.pass.now.wish
+        (number_may_be_left (context_of s).facts (context_of s).reached) };
+
+    ghost is_idle = { λ s. is_idle_to s.so_far };
+
+    ghost Holds = { λ s work. AreKnown s.counts.now work.notes.floors.known };
+
+    fn start(&self, work: &mut Workroom<WalkNotes>) {
+        let pass = self.so_far.pass;
+        work.notes.floors.clear(pass.shaped.context.len());
+    }
+
+    #[tactic(auto, using(dutch_choice::proofs::Listings::narrowed_inside, dutch_passes::proofs::AimLemmas::unwished_is_idle, dutch_passes::proofs::AimLemmas::loser_is_idle, dutch_passes::proofs::AimLemmas::loser_if_open_is_idle), unfolding(dutch_bracket::specs::Brackets::candidates_of))]
+    fn cannot_win(&self, prefix: &Prefix<'_>, work: &mut Workroom<WalkNotes>) -> bool {
+        if is_barred(self.so_far.pass, prefix) {
+            return true;
+        }
+        if self.weights.is_some() {
+            work.notes.last.note(prefix);
+        }
+        // (with no aim and nothing kept no quality loses)
+        if self.so_far.pass.aim.is_none() && self.so_far.kept.best().is_none() {
+            return false;
+        }
+        self.loses_by_weight(prefix) || self.loses_by_counts(prefix, work)
+    }
+
+    #[tactic(auto, using(dutch_choice::proofs::Listings::narrowed_inside, dutch_passes::proofs::AimLemmas::unwished_is_idle, dutch_passes::proofs::AimLemmas::loser_if_open_is_idle), unfolding(dutch_bracket::specs::Brackets::candidates_of))]
+    fn cannot_win_with(
+        &self,
+        prefix: &Prefix<'_>,
+        exchange: &Exchange<'_>,
+        _work: &mut Workroom<WalkNotes>,
+    ) -> bool {
+        if is_barred_with(self.so_far.pass, exchange) {
+            return true;
+        }
+        if self.so_far.pass.aim.is_none() && self.so_far.kept.best().is_none() {
+            return false;
+        }
+        self.loses_by_order(prefix, exchange)
+    }
+}
