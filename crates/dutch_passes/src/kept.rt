@@ -1,5 +1,6 @@
 // The best candidate that a pass has found so far, if it has found one. Its place is on the heap, as it is large.
 ghost use Rattle.std.specs.Prelude.{◌≡◌, None, Some, IfOk, option_copied, option_map};
+ghost use Rattle.std.specs.Result.{MatchResult};
 
 use dutch_arrangements::Candidate;
 use dutch_bracket::fault::PairFault;
@@ -65,8 +66,12 @@ impl Kept {
     }
 
     /// Takes out the candidate that is kept, if there is one, and leaves an empty place.
+    ///
+    /// # Errors
+    /// Memory for another place was refused; then what is kept stays.
     pub fn take(&mut self, alloc: Global) -> Result<Option<Box<Best>>, PairFault>
-        ensures { IfOk result (λ taken. option_map (λ best. best.value) taken ≡ self.old) }
+        ensures taken { IfOk result (λ taken. option_map (λ best. best.value) taken ≡ self.old) }
+        ensures left { MatchResult result (λ _. self.new ≡ None) (λ _. self.new ≡ self.old) }
     {
         if !self.is_kept {
             return Ok(None);
