@@ -13,6 +13,7 @@ ghost use Rattle.replies.specs.Prelude.{answer_of, done, question_fault, seen_be
 use crate::instead::{AskedInSteps, Paired, instead};
 use crate::not_paired::{no_pairing_because, undecided};
 use crate::other_boards::{Settled, has_other_boards};
+use common_texts::Page;
 use dutch_choice::finder::Finder;
 use dutch_player::{Field, FieldFault};
 use dutch_rounds::{AllStages, stages};
@@ -20,7 +21,6 @@ use player_lines::{put_absent, put_player};
 use replies::refusal::{cannot_be_asked, cannot_be_paired, refused, round_not_reached};
 use replies::{Reply, Status, question_fault};
 use requests::{ExplainOptions, Question, Wording};
-use round_lines::page::Page;
 use round_lines::telling::{Telling, in_wording};
 use round_lines::{Asked, put_round};
 use stage_lines::bracket_lines::put_stages;

@@ -14,13 +14,13 @@ ghost use Rattle.player_lines.specs.Obstacles.{obstacle_text};
 ghost use Rattle.replies.specs.Prelude.{answer_of, done};
 
 use crate::not_paired::undecided;
+use common_texts::Page;
 use dutch_choice::finder::Finder;
 use dutch_player::Field;
 use dutch_rounds::{Instead, Stage, Wish, best_instead};
 use player_lines::{Obstacle, against_bye, against_meeting, put_obstacle};
 use replies::{Reply, Status};
 use round_lines::Asked;
-use round_lines::page::Page;
 use round_lines::telling::Telling;
 use stage_lines::instead_lines::{Searched, put_found, put_front, put_granted};
 use std::alloc::{AllocError, Global};

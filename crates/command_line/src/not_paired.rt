@@ -6,11 +6,11 @@ ghost use Rattle.command_line.specs.ExplainAnswers.{TellsWhy, asked_text, line_t
 ghost use Rattle.command_line.specs.InsteadAnswers.{undecided_in};
 ghost use Rattle.replies.specs.Prelude.{answer_of};
 
+use common_texts::Page;
 use dutch_rounds::{Barrier, barrier_of};
 use player_lines::{put_absent, put_player};
 use replies::{Reply, Status};
 use requests::{Question, Wording};
-use round_lines::page::Page;
 use round_lines::telling::{Telling, in_wording};
 use stage_lines::barrier_lines::put_barrier;
 use std::alloc::{AllocError, Global};

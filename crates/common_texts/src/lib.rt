@@ -1,11 +1,12 @@
 //! Texts that several answers have: half points as points, the values of the keys that break ties, what a cell says, a
-//! name without control characters, and that the steps of a bracket did not suffice.
+//! name without control characters, and that the steps of a bracket did not suffice; and `Page`, in which texts are made.
 #![tactic(auto)]
 
 mod cells;
 mod controls;
 mod key_values;
 mod names;
+mod page;
 mod points;
 mod too_few_steps;
 
@@ -13,5 +14,6 @@ pub use cells::{RoundOf, result_mark};
 pub use controls::{put_without_controls, without_controls};
 pub use key_values::KeyValue;
 pub use names::shown;
+pub use page::Page;
 pub use points::HalfPoints;
 pub use too_few_steps::{undecided, undecided_words};

@@ -4,10 +4,10 @@ ghost use Rattle.std.specs.Prelude.{◌≡◌, ◌<◌, ◌++◌, OnOk, Some};
 ghost use Rattle.player_lines.specs.Obstacles.{against_bye, against_meeting, first_bye, first_meeting, has_had_bye, has_played, since};
 ghost use Rattle.player_lines.specs.Obstacles.{obstacle_text, obstacle_words};
 
+use common_texts::Page;
 use dutch_player::{Field, bars_bye, opponent_played};
 use requests::Wording;
 use round_lines::Asked;
-use round_lines::page::Page;
 use round_lines::pieces::Piece::{Number, Player, Text};
 use round_lines::pieces::put;
 use round_lines::telling::Telling;

@@ -10,10 +10,9 @@ ghost use Rattle.player_lines.specs.PlayerTexts.{met_text, placed, player_line, 
 ghost use Rattle.player_lines.specs.PlayerTexts.{rights_text, score_text, wish_text, yes_text};
 
 use crate::player_sentences::put_player_sentences;
-use common_texts::HalfPoints;
+use common_texts::{HalfPoints, Page};
 use dutch_player::{Field, Float, colour_played};
 use requests::Wording;
-use round_lines::page::Page;
 use round_lines::preference_texts::preference;
 use round_lines::telling::{Telling, put_one};
 use std::alloc::{AllocError, Global};

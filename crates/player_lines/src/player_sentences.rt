@@ -8,8 +8,8 @@ ghost use Rattle.round_lines.specs.PreferenceTexts.{preference_words};
 ghost use Rattle.player_lines.specs.PlayerTexts.{rights_words, score_words, wish_words};
 
 use crate::player_line::{ascending, float, yes};
+use common_texts::Page;
 use dutch_player::{Field, Pref, colour_played};
-use round_lines::page::Page;
 use round_lines::pieces::Piece::{Player, Players, Points, Text};
 use round_lines::pieces::put;
 use round_lines::preference_texts::{colour, preference};

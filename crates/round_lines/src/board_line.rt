@@ -2,10 +2,10 @@
 ghost use Rattle.std.specs.Prelude.{◌≡◌, ◌++◌, OnOk};
 ghost use Rattle.round_lines.specs.RoundTexts.{colours_text, rule_text, rule_words};
 
-use crate::page::Page;
 use crate::pieces::Piece::{Preferring, Rank, Text};
 use crate::pieces::say;
 use crate::telling::Telling;
+use common_texts::Page;
 use dutch_bracket::seated::Pair;
 use dutch_player::ColourRule;
 use std::alloc::AllocError;

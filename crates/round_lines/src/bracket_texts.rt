@@ -5,11 +5,10 @@ ghost use Rattle.round_lines.specs.CandidateTexts.{bracket_text, bracket_words, 
 ghost use Rattle.round_lines.specs.Tellings.{in_wording};
 
 use crate::listing::Ending;
-use crate::page::Page;
 use crate::pieces::Piece::{Count, Number, Text};
 use crate::pieces::say;
 use crate::telling::Telling;
-use common_texts::undecided;
+use common_texts::{Page, undecided};
 use dutch_arrangements::Shape;
 use dutch_bracket::{BracketKind, Reached};
 use std::alloc::{AllocError, Global};

@@ -5,10 +5,10 @@ ghost use Rattle.round_lines.specs.ItemTexts.{article_text, list_text, next_line
 ghost use Rattle.round_lines.specs.ItemTexts.{psd_text, said_words, who_text};
 ghost use Rattle.round_lines.specs.Tellings.{in_wording};
 
-use crate::page::Page;
 use crate::pieces::Piece::{Count, Differences, DifferencesWords, Ranks, Seats, Text};
 use crate::pieces::say;
 use crate::telling::Telling;
+use common_texts::Page;
 use dutch_bracket::{BracketKind, Item, Quality};
 use std::alloc::AllocError;
 

@@ -14,7 +14,6 @@ pub mod item_texts;
 pub mod listing;
 mod lists;
 mod member_lines;
-pub mod page;
 pub mod pieces;
 pub mod preference_texts;
 mod round_line;

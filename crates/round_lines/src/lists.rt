@@ -7,9 +7,8 @@ ghost use Rattle.round_lines.specs.ItemTexts.{differences_text, points_text};
 ghost use Rattle.round_lines.specs.RoundTexts.{all_scored_words, scored_text, scored_words};
 ghost use Rattle.common_texts.specs.Prelude.{halves_text};
 
-use crate::page::Page;
 use crate::telling::{Telling, in_wording, put_seat, start_at};
-use common_texts::HalfPoints;
+use common_texts::{HalfPoints, Page};
 use dutch_player::Field;
 use requests::Wording;
 use std::alloc::AllocError;

@@ -3,10 +3,10 @@ ghost use Rattle.std.specs.Prelude.{◌≡◌, ◌++◌, OnOk, codes};
 ghost use Rattle.dutch_bracket.specs.Prelude.{IsOf};
 ghost use Rattle.round_lines.specs.RoundTexts.{all_scored_words, bar_text, members_text, members_words, moved_words};
 
-use crate::page::Page;
 use crate::pieces::Piece::{Scored, ScoredSeats, Text};
 use crate::pieces::put;
 use crate::telling::Telling;
+use common_texts::Page;
 use dutch_bracket::Reached;
 use requests::Wording;
 use std::alloc::AllocError;

@@ -6,10 +6,9 @@ ghost use Rattle.round_lines.specs.Pieces.{piece_text, pieces_text};
 ghost use Rattle.round_lines.specs.Tellings.{in_wording};
 
 use crate::lists::{put_differences, put_listed, put_ranks, put_scored, put_scored_words};
-use crate::page::Page;
 use crate::preference_texts::put_preferring;
 use crate::telling::{Telling, put_one, put_players, put_seat, put_seats, start_at};
-use common_texts::HalfPoints;
+use common_texts::{HalfPoints, Page};
 use requests::Wording;
 use std::alloc::AllocError;
 

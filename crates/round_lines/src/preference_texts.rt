@@ -3,8 +3,8 @@ ghost use Rattle.std.specs.Prelude.{◌≡◌, ◌++◌, OnOk};
 ghost use Rattle.round_lines.specs.PreferenceTexts.{colour_text, preference_text, preference_words, prefers_words};
 ghost use Rattle.round_lines.specs.RoundTexts.{preferring_words};
 
-use crate::page::Page;
 use crate::telling::{Telling, put_seat};
+use common_texts::Page;
 use dutch_player::{Pref, Strength};
 use std::alloc::AllocError;
 use trf16_report::Colour;

@@ -4,10 +4,10 @@ ghost use Rattle.std.specs.List.{flat_map};
 ghost use Rattle.round_lines.specs.RoundTexts.{bye_text, counts_line, counts_words, round_text};
 ghost use Rattle.round_lines.specs.Tellings.{in_wording};
 
-use crate::page::Page;
 use crate::pieces::Piece::{Rank, Seat, Text};
 use crate::pieces::say;
 use crate::telling::Telling;
+use common_texts::Page;
 use requests::Wording;
 use std::alloc::{AllocError, Global};
 

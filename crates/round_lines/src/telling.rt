@@ -4,8 +4,7 @@ ghost use Rattle.std.specs.List.{flat_map};
 ghost use Rattle.dutch_player.specs.Prelude.{seat_at};
 ghost use Rattle.round_lines.specs.Tellings.{in_wording, named, player_words, players_words, seat_words, seats_words};
 
-use crate::page::Page;
-use common_texts::shown;
+use common_texts::{Page, shown};
 use dutch_player::Field;
 use requests::Wording;
 use std::alloc::{AllocError, Global};

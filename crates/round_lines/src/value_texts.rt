@@ -6,10 +6,10 @@ ghost use Rattle.round_lines.specs.ValueTexts.{next_value, value_text, worse_wor
 
 use crate::item_texts::{article, players_counted};
 use crate::lists::put_listed;
-use crate::page::Page;
 use crate::pieces::Piece::Text;
 use crate::pieces::put;
 use crate::telling::Telling;
+use common_texts::Page;
 use dutch_arrangements::Candidate;
 use dutch_bracket::{Item, Quality};
 use requests::Wording;

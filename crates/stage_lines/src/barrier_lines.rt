@@ -7,10 +7,10 @@ ghost use Rattle.stage_lines.specs.BarrierTexts.{barrier_text, blocked_line, blo
 ghost use Rattle.stage_lines.specs.BarrierTexts.{groups_text, labelled, lacking_text};
 ghost use Rattle.round_lines.specs.Tellings.{in_wording};
 
+use common_texts::Page;
 use dutch_arrangements::{Numbers, numbered_from};
 use dutch_player::Field;
 use dutch_rounds::{Barrier, lacks_bye};
-use round_lines::page::Page;
 use round_lines::pieces::Piece::{Ranks, Seats, Text};
 use round_lines::pieces::say;
 use round_lines::telling::{Telling, in_wording};

@@ -3,9 +3,9 @@ ghost use Rattle.std.specs.Prelude.{◌≡◌, ◌++◌, OnOk};
 ghost use Rattle.dutch_rounds.specs.Prelude.{IsStage};
 ghost use Rattle.stage_lines.specs.ExplainTexts.{boards_text, byes_text, is_told, over_text, pairs_text};
 
+use common_texts::Page;
 use dutch_rounds::Stage;
 use dutch_rounds::boards::Board;
-use round_lines::page::Page;
 use round_lines::pieces::Piece::{Rank, Seat, Text};
 use round_lines::pieces::say;
 use round_lines::put_board;

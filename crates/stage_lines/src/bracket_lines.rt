@@ -7,9 +7,9 @@ ghost use Rattle.stage_lines.specs.ExplainTexts.{chosen_text, is_bracket_told, s
 use crate::board_lines::{put_byes, put_pairs};
 use crate::choice_lines::put_choice;
 use crate::item_lines::put_each_item;
+use common_texts::Page;
 use dutch_rounds::{ITEMS, Reached, Stage};
 use round_lines::bracket_texts::put_bracket;
-use round_lines::page::Page;
 use round_lines::pieces::Piece::Text;
 use round_lines::pieces::say;
 use round_lines::put_members;

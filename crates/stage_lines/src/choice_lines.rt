@@ -5,11 +5,11 @@ ghost use Rattle.dutch_rounds.specs.Prelude.{IsStage};
 ghost use Rattle.stage_lines.specs.ExplainTexts.{all_pairs_words, candidate_line, candidate_words, choice_of_text};
 ghost use Rattle.stage_lines.specs.ExplainTexts.{down_words, pair_words};
 
+use common_texts::Page;
 use dutch_bracket::seated::{Pair, Seated, by_seats};
 use dutch_rounds::Stage;
 use requests::Wording;
 use round_lines::listing::{Bracket, put_line};
-use round_lines::page::Page;
 use round_lines::pieces::Piece::{Seat, Seats, Text};
 use round_lines::pieces::put;
 use round_lines::telling::Telling;

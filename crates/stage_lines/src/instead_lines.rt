@@ -7,12 +7,12 @@ ghost use Rattle.stage_lines.specs.InsteadTexts.{granted_text, would_go_down};
 ghost use Rattle.stage_lines.specs.InsteadTexts.{none_b1_text, none_c4_text, none_c5_text};
 ghost use Rattle.round_lines.specs.ValueTexts.{candidate_text};
 
+use common_texts::Page;
 use dutch_arrangements::Candidate;
 use dutch_bracket::quality::Quality;
 use dutch_rounds::{Instead, Stage, Wish};
 use requests::Wording;
 use round_lines::Asked;
-use round_lines::page::Page;
 use round_lines::pieces::Piece::{Number, Player, Seat, Text};
 use round_lines::pieces::say;
 use round_lines::telling::{Telling, in_wording};

@@ -4,9 +4,9 @@ ghost use Rattle.std.specs.List.{flat_map};
 ghost use Rattle.dutch_rounds.specs.Prelude.{IsStage};
 ghost use Rattle.stage_lines.specs.StageItems.{counted_text, item_text};
 
+use common_texts::Page;
 use dutch_rounds::{Item, Stage, who_counts};
 use round_lines::item_texts::{Counted, players_counted, put_list, put_next, put_psd, put_who};
-use round_lines::page::Page;
 use round_lines::telling::Telling;
 use std::alloc::AllocError;
 
