@@ -39,7 +39,7 @@ impl Forest {
     }
 
     // The first outer node on the way from a vertex to the root that is noted.
-    fn meeting(&self, v: u16) -> Option<u16> {
+    fn meeting_node(&self, v: u16) -> Option<u16> {
         let mut node = self.outer_of(v);
         for _ in 0..self.nodes {
             if self.on_way.at(usize::from(node)) {
@@ -124,7 +124,7 @@ impl Forest {
     /// Folds the blossom that two joined outer vertices close.
     pub(crate) fn fold(&mut self, u: u16, v: u16) {
         self.note_way(u);
-        let (Some(top), Some(blossom)) = (self.meeting(v), self.first_unused()) else {
+        let (Some(top), Some(blossom)) = (self.meeting_node(v), self.first_unused()) else {
             return;
         };
         self.begin_blossom(blossom, self.base_of(top));

@@ -6,7 +6,7 @@ ghost use Rattle.cheapest.specs.declared.fault.Fault.TheVariants.{Stopped};
 use crate::fault::Fault;
 use crate::forest::Forest;
 use crate::steps::{rest, sum};
-use dual::{MarkedSet, Table, Wide};
+use dual::{CertificateTable, MarkedSet, Wide};
 use std::alloc::{AllocError, Global};
 
 impl Forest {
@@ -77,14 +77,14 @@ impl Forest {
     }
 
     /// The certificate that the labels are. Potentials below 0 are had by giving more.
-    pub(crate) fn certificate(&self, alloc: Global, size: u16) -> Result<Table, Fault>
+    pub(crate) fn certificate(&self, alloc: Global, size: u16) -> Result<CertificateTable, Fault>
         ensures places { IfOk result (HasPlaces size) }
         ensures going { IfErr result (λ fault. fault ≡ Stopped → ⊥) }
     {
         let given_left = self.most_above();
         let given = sum(given_left, given_left)?;
         let sets = self.priced_sets(alloc, size)?;
-        Ok(Table {
+        Ok(CertificateTable {
             potentials: self.potentials(alloc, size, given_left)?,
             given,
             given_left,

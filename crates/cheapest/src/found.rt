@@ -7,7 +7,7 @@ use crate::fault::Fault;
 use crate::forest::Forest;
 use crate::graph::Costs;
 use crate::pairs::partners;
-use dual::Table;
+use dual::CertificateTable;
 use std::alloc::Global;
 
 /// A matching, and a certificate that is meant to show that none is cheaper.
@@ -17,7 +17,7 @@ pub struct Found {
     pub partners: Vec<Option<u16>>,
     /// A potential for each vertex, what a pair and a vertex left over are given on top of their cost, and priced sets:
     /// all of costs that count twice.
-    pub certificate: Table,
+    pub certificate: CertificateTable,
 }
 
 impl Forest {

@@ -8,7 +8,11 @@ use crate::graph::Costs;
 use std::alloc::{AllocError, Global};
 
 // Whom the searches have paired with each vertex.
-fn wanted(alloc: Global, forest: &Forest, size: u16) -> Result<Vec<Option<u16>>, AllocError>
+fn wanted_partners(
+    alloc: Global,
+    forest: &Forest,
+    size: u16,
+) -> Result<Vec<Option<u16>>, AllocError>
     ensures { IfOk result (λ wanted. vec_len wanted ≡ size) }
 {
     let mut wanted = Vec::with_capacity(alloc, usize::from(size))?;
@@ -46,7 +50,7 @@ pub(crate) fn partners<C: Costs>(
     ensures { IfOk result (λ found. IsMatching (C.vertices costs.now) (C.joined costs.now) found.items) }
 {
     let size = costs.size();
-    let wanted = wanted(alloc, forest, size)?;
+    let wanted = wanted_partners(alloc, forest, size)?;
     let mut found = Vec::with_capacity(alloc, usize::from(size))?;
     for a in 0..size {
         found.push(partner(costs, &wanted, a))?;

@@ -5,7 +5,7 @@ use Rattle.std.proofs.lemmas.Bool.{cases_Bool, cases_lt, eqb-true, eq-eqb, lt-lt
 use Rattle.std.proofs.lemmas.List.Elements.{All-more, All-weaker, All-head, All-tail}
 use Rattle.std.proofs.lemmas.List.Sums.{sum_by-cons, sum_by-drop_more, sum_by-le-sum_by}
 use Rattle.std.proofs.Math.Nat.{add-mul, mul-add, mul-le-mul_right}
-use Rattle.dual.specs.Prelude.{HasSlacks, Certificate, GivesEvenly, IsFeasible, slack, slack_left, losses, pairs_of, FloorTable, extra_in, extra_left_in, IsFloor, IsFloorOf, TellsSlack, TellsSlackLeft, Costs, IsPartOf, in_both}
+use Rattle.dual.specs.Prelude.{HasSlacks, Certificate, GivesEvenly, IsFeasible, slack, slack_left, losses, pairs_of, FloorTable, slack_in, slack_left_in, IsFloor, IsFloorOf, TellsSlack, TellsSlackLeft, Costs, IsPartOf, in_both}
 use Rattle.dual.proofs.Sums.{sum_plus, one, one_itself, of_member}
 use Rattle.dual.proofs.WeakDuality.{bounded_beside, counted}
 
@@ -38,7 +38,7 @@ other_row a u w v size first second ne e = elim (cases_lt a u) [
 
 module _ (costs : Costs) (certificate : Certificate) (size : ℕ) (players : List ℕ) (below : All (λ v. v < size) players) where
   abbrev Row : List ℕ → ℕ → Type 0
-  Row extra u = HasSlacks costs certificate u players (u * size) extra
+  Row slacks u = HasSlacks costs certificate u players (u * size) slacks
 
   row_kept : (a u start : ℕ) (old new : List ℕ) → start ≡ a * size
       → ((k : ℕ) → All (λ v. ¬ (start + v ≡ k)) players → get_or new k 0 ≡ get_or old k 0)
@@ -90,35 +90,35 @@ module _ (costs : Costs) (players : List ℕ) (certificate : Certificate) (floor
   -- what the pairs of a matching add is their slack
   pairs_told : All (λ u. All (TellsSlack costs certificate floor u) players) players → (pairs : List (ℕ × ℕ))
       → ((x : ℕ) → 0 < sum_by (in_both (one x)) pairs → stands x)
-      → All IsMet pairs → sum_by (λ pair. extra_in floor pair - slack costs certificate pair) pairs ≡ 0
+      → All IsMet pairs → sum_by (λ pair. slack_in floor pair - slack costs certificate pair) pairs ≡ 0
   pairs_told told [] inside may = refl
   pairs_told told (pair ∷ pairs) inside may =
       let first : stands pair.0 = inside pair.0 (omega (arith, sum_by-cons (in_both (one pair.0)) pair pairs, one_itself pair.0)) in
       let second : stands pair.1 = inside pair.1 (omega (arith, sum_by-cons (in_both (one pair.1)) pair pairs, one_itself pair.1)) in
       let row : All (TellsSlack costs certificate floor pair.0) players =
       of_member (λ u. All (TellsSlack costs certificate floor u) players) pair.0 players told first in
-      let here : extra_in floor pair ≡ slack costs certificate pair =
+      let here : slack_in floor pair ≡ slack costs certificate pair =
       of_member (TellsSlack costs certificate floor pair.0) pair.1 players row second (All-head IsMet pair pairs may) in
       omega (
         arith,
         here,
-        sum_by-cons (λ p. extra_in floor p - slack costs certificate p) pair pairs,
+        sum_by-cons (λ p. slack_in floor p - slack costs certificate p) pair pairs,
         pairs_told told pairs (λ x some. inside x (omega (arith, some, sum_by-cons (in_both (one x)) pair pairs))) (All-tail IsMet pair pairs may),
       )
 
   -- what its players left over add is theirs
   left_told : All (TellsSlackLeft costs certificate floor) players → (left : List ℕ)
       → ((x : ℕ) → 0 < sum_by (one x) left → stands x) → All MayStay left
-      → sum_by (λ v. extra_left_in floor v - slack_left costs certificate v) left ≡ 0
+      → sum_by (λ v. slack_left_in floor v - slack_left costs certificate v) left ≡ 0
   left_told told [] inside may = refl
   left_told told (v ∷ left) inside may =
       let member : stands v = inside v (omega (arith, sum_by-cons (one v) v left, one_itself v)) in
-      let here : extra_left_in floor v ≡ slack_left costs certificate v =
+      let here : slack_left_in floor v ≡ slack_left costs certificate v =
       of_member (TellsSlackLeft costs certificate floor) v players told member (All-head MayStay v left may) in
       omega (
         arith,
         here,
-        sum_by-cons (λ u. extra_left_in floor u - slack_left costs certificate u) v left,
+        sum_by-cons (λ u. slack_left_in floor u - slack_left costs certificate u) v left,
         left_told told left (λ x some. inside x (omega (arith, some, sum_by-cons (one x) v left))) (All-tail MayStay v left may),
       )
 
@@ -135,9 +135,9 @@ floor_least costs players left certificate floor feasible told = λ pairs out ma
       told.base,
       told.debt,
       bounded_beside costs players certificate pairs out feasible matching known known_left part part_left,
-      sum_within (extra_in floor) (slack costs certificate) known pairs part
+      sum_within (slack_in floor) (slack costs certificate) known pairs part
           (pairs_told costs players certificate floor told.pairs pairs (λ x some. omega (arith, some, matching.whole (one x))) matching.may_meet),
-      sum_within (extra_left_in floor) (slack_left costs certificate) known_left out part_left
+      sum_within (slack_left_in floor) (slack_left costs certificate) known_left out part_left
           (left_told costs players certificate floor told.left_over out (λ x some. omega (arith, some, matching.whole (one x))) matching.may_be_left),
     )
 
@@ -180,9 +180,9 @@ for_each_left costs players certificate below even (Ok (Some floor)) whole told 
 
 -- rows of a square, as a floor has them, tell the slacks
 pub rows_tell : (costs : Costs) (players : List ℕ) (certificate : Certificate) (floor : FloorTable) → All (λ v. v < floor.size) players
-    → All (λ u. HasSlacks costs certificate u players (u * floor.size) floor.extra) players
+    → All (λ u. HasSlacks costs certificate u players (u * floor.size) floor.slacks) players
     → All (λ u. All (TellsSlack costs certificate floor u) players) players
 rows_tell costs players certificate floor below rows = λ k d lt j e there met.
     let u : ℕ = get_or players k d in
     let v : ℕ = get_or players j e in
-    ap (λ b. cond b (get_or floor.extra (u * floor.size + v) 0) 0) (lt-ltb v floor.size (below j e there)) ∙ rows k d lt j e there met
+    ap (λ b. cond b (get_or floor.slacks (u * floor.size + v) 0) 0) (lt-ltb v floor.size (below j e there)) ∙ rows k d lt j e there met

@@ -18,5 +18,5 @@ AllBear costs certificate most u players = All (λ v. costs.meets u v ≡ true �
 
 -- the slacks of a player's pairs stand in some numbers from a start on
 abbrev pub HasSlacks : Costs → Certificate → ℕ → List ℕ → ℕ → List ℕ → Type 0
-HasSlacks costs certificate u players start extra =
-    All (λ v. costs.meets u v ≡ true → slice_index extra (start + v) ≡ slack costs certificate (u, v)) players
+HasSlacks costs certificate u players start slacks =
+    All (λ v. costs.meets u v ≡ true → slice_index slacks (start + v) ≡ slack costs certificate (u, v)) players

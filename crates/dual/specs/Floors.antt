@@ -8,16 +8,16 @@ pub record FloorTable : Type 0 where
   pub base : ℕ
   pub debt : ℕ
   pub size : ℕ
-  pub extra : List ℕ
-  pub extra_left : List ℕ
+  pub slacks : List ℕ
+  pub slacks_left : List ℕ
 
 -- what a pair adds, 0 outside of the table [with FloorTable]
-abbrev pub extra_in : FloorTable → ℕ × ℕ → ℕ
-extra_in floor pair = if nat_lt pair.1 floor.size then slice_index_or floor.extra (pair.0 * floor.size + pair.1) 0 else 0
+abbrev pub slack_in : FloorTable → ℕ × ℕ → ℕ
+slack_in floor pair = if nat_lt pair.1 floor.size then slice_index_or floor.slacks (pair.0 * floor.size + pair.1) 0 else 0
 
 -- what a player left over adds, 0 outside of the table [with FloorTable]
-abbrev pub extra_left_in : FloorTable → ℕ → ℕ
-extra_left_in floor v = slice_index_or floor.extra_left v 0
+abbrev pub slack_left_in : FloorTable → ℕ → ℕ
+slack_left_in floor v = slice_index_or floor.slacks_left v 0
 
 -- each matching that leaves so many players over costs, with the debt, at least the base and what some of its pairs and players left over
 -- add, each once [own]
@@ -25,15 +25,15 @@ abbrev pub IsFloor : Costs → List ℕ → ℕ → FloorTable → Type 0
 IsFloor costs players left floor =
     (pairs : List (ℕ × ℕ)) (out : List ℕ) → IsMatching costs players pairs out → length out ≡ left
     → (known : List (ℕ × ℕ)) (known_left : List ℕ) → IsPartOf known pairs → IsPartOf known_left out
-    → floor.base + (sum_by (extra_in floor) known + sum_by (extra_left_in floor) known_left) ≤ floor.debt + cost costs pairs out
+    → floor.base + (sum_by (slack_in floor) known + sum_by (slack_left_in floor) known_left) ≤ floor.debt + cost costs pairs out
 
 -- of two who may meet the table tells the slack, and so it does of one who may be left over [with IsFloorOf]
 abbrev pub TellsSlack : Costs → Certificate → FloorTable → ℕ → ℕ → Type 0
-TellsSlack costs certificate floor u v = costs.meets u v ≡ true → extra_in floor (u, v) ≡ slack costs certificate (u, v)
+TellsSlack costs certificate floor u v = costs.meets u v ≡ true → slack_in floor (u, v) ≡ slack costs certificate (u, v)
 
 -- of one who may be left over the table tells the slack [with IsFloorOf]
 abbrev pub TellsSlackLeft : Costs → Certificate → FloorTable → ℕ → Type 0
-TellsSlackLeft costs certificate floor v = costs.may_be_left v ≡ true → extra_left_in floor v ≡ slack_left costs certificate v
+TellsSlackLeft costs certificate floor v = costs.may_be_left v ≡ true → slack_left_in floor v ≡ slack_left costs certificate v
 
 -- the floor that a certificate is: what its potentials come to is the base, what it gives away and what is paid for its sets at most is the
 -- debt, and each pair and each player left over adds its slack [own]

@@ -15,7 +15,7 @@ ghost use Rattle.dual.specs.Tables.{toll_of, certificate_in};
 
 use crate::floor::Floor;
 use crate::rule::{MatchingRule, Pool};
-use crate::table::{MOST, MarkedSet, Table};
+use crate::table::{CertificateTable, MOST, MarkedSet};
 use crate::wide::Wide;
 use std::alloc::{AllocError, Global};
 
@@ -53,7 +53,7 @@ fn size_for(players: &[u16]) -> usize
     size
 }
 
-impl Table {
+impl CertificateTable {
     fn row(&self, alloc: Global, player: u16, size: usize) -> Result<Row<'_>, AllocError>
         requires { size ≤ MOST }
         ensures player { IfOk result (λ row. row.player ≡ player) }
@@ -100,33 +100,33 @@ impl Table {
     }
 
     // Writes the slacks of a row, and says whether all pairs can bear their potentials.
-    fn fill<R: MatchingRule>(&self, pool: &Pool<'_, R>, row: &Row<'_>, extra: &mut [Wide]) -> bool
+    fn fill<R: MatchingRule>(&self, pool: &Pool<'_, R>, row: &Row<'_>, slacks: &mut [Wide]) -> bool
         requires first { R.knows pool.now.rule.now row.now.player }
         requires known { All (R.knows pool.now.rule.now) pool.now.players.now }
-        requires within { All (λ v. row.now.start + v < length extra.old) pool.now.players.now }
-        requires few { length extra.old ≤ MOST * MOST }
+        requires within { All (λ v. row.now.start + v < length slacks.old) pool.now.players.now }
+        requires few { length slacks.old ≤ MOST * MOST }
         requires sets { (v : ℕ) → sum_by (λ set. toll_of v set.now) row.now.sets.items
             ≡ sum_by (toll (row.now.player, v)) (certificate_in self.now).sets }
         ensures whole { IsTrue result ↔ AllBear (R.costs pool.now.rule.now) (certificate_in self.now) (2 ^ 512)
             row.now.player pool.now.players.now }
         ensures value { IsTrue result → HasSlacks (R.costs pool.now.rule.now) (certificate_in self.now)
-            row.now.player pool.now.players.now row.now.start extra.new }
+            row.now.player pool.now.players.now row.now.start slacks.new }
         ensures others { (k : ℕ) → (All (λ v. ¬ (row.now.start + v ≡ k)) pool.now.players.now)
-            → slice_index extra.new k ≡ slice_index extra.old k }
+            → slice_index slacks.new k ≡ slice_index slacks.old k }
     {
         for v in pool.players {
             if pool.rule.may_meet(row.player, *v) {
                 let Some(slack) = self.slack(pool.rule, row, *v) else {
                     return false;
                 };
-                extra[row.start + usize::from(*v)] = slack;
+                slacks[row.start + usize::from(*v)] = slack;
             }
         }
         true
     }
 
     // The slacks of all pairs; none if one cannot bear its potentials.
-    fn extras<R: MatchingRule>(
+    fn slacks_of<R: MatchingRule>(
         &self,
         alloc: Global,
         pool: &Pool<'_, R>,
@@ -137,21 +137,21 @@ impl Table {
         requires few { size ≤ MOST }
         ensures whole { IfOk result (λ found. IsSome found ↔ All (λ u. AllBear (R.costs pool.now.rule.now)
             (certificate_in self.now) (2 ^ 512) u pool.now.players.now) pool.now.players.now) }
-        ensures value { IfOk result (λ found. IfSome found (λ extra. All (λ u. HasSlacks (R.costs pool.now.rule.now)
-            (certificate_in self.now) u pool.now.players.now (u * size) extra.items) pool.now.players.now)) }
+        ensures value { IfOk result (λ found. IfSome found (λ slacks. All (λ u. HasSlacks (R.costs pool.now.rule.now)
+            (certificate_in self.now) u pool.now.players.now (u * size) slacks.items) pool.now.players.now)) }
     {
-        let mut extra = vec![in alloc; Wide::zero(); size * size]?;
+        let mut slacks = vec![in alloc; Wide::zero(); size * size]?;
         for a in pool.players {
             let row = self.row(alloc, *a, size)?;
-            if !self.fill(pool, &row, &mut extra) {
+            if !self.fill(pool, &row, &mut slacks) {
                 return Ok(None);
             }
         }
-        Ok(Some(extra))
+        Ok(Some(slacks))
     }
 
     // The slacks of all who may be left over; none if one cannot bear the potential.
-    fn extras_left<R: MatchingRule>(
+    fn slacks_left_of<R: MatchingRule>(
         &self,
         alloc: Global,
         pool: &Pool<'_, R>,
@@ -162,20 +162,20 @@ impl Table {
         ensures whole { let costs = R.costs pool.now.rule.now in IfOk result (λ found. IsSome found
             ↔ All (λ v. costs.may_be_left v ≡ true → CanBearLeft costs (certificate_in self.now) (2 ^ 512) v)
             pool.now.players.now) }
-        ensures value { let costs = R.costs pool.now.rule.now in IfOk result (λ found. IfSome found (λ extra.
-            All (λ v. costs.may_be_left v ≡ true → slice_index extra.items v ≡ slack_left costs
+        ensures value { let costs = R.costs pool.now.rule.now in IfOk result (λ found. IfSome found (λ slacks.
+            All (λ v. costs.may_be_left v ≡ true → slice_index slacks.items v ≡ slack_left costs
             (certificate_in self.now) v) pool.now.players.now)) }
     {
-        let mut extra = vec![in alloc; Wide::zero(); size]?;
+        let mut slacks = vec![in alloc; Wide::zero(); size]?;
         for v in pool.players {
             if pool.rule.may_be_left(*v) {
                 let Some(slack) = self.slack_left(pool.rule, *v) else {
                     return Ok(None);
                 };
-                extra[usize::from(*v)] = slack;
+                slacks[usize::from(*v)] = slack;
             }
         }
-        Ok(Some(extra))
+        Ok(Some(slacks))
     }
 
     /// The floor that the certificate is, for matchings that leave so many players over. There is none if the
@@ -204,18 +204,18 @@ impl Table {
             return Ok(None);
         };
         let size = size_for(pool.players);
-        let Some(extra_left) = self.extras_left(alloc, pool, size)? else {
+        let Some(slacks_left) = self.slacks_left_of(alloc, pool, size)? else {
             return Ok(None);
         };
-        let Some(extra) = self.extras(alloc, pool, size)? else {
+        let Some(slacks) = self.slacks_of(alloc, pool, size)? else {
             return Ok(None);
         };
         Ok(Some(Floor {
             base,
             debt,
             size,
-            extra,
-            extra_left,
+            slacks,
+            slacks_left,
         }))
     }
 

@@ -1,7 +1,7 @@
 // A floor: what every matching costs at least, and what each known pair and each player known to be left over adds. It
 // keeps what the check computed: so a caller asks it about one beginning after another, and nothing is computed again.
 ghost use Rattle.std.specs.Prelude.{◌≡◌, [], slice_index_or};
-ghost use Rattle.dual.specs.Floors.{extra_in, extra_left_in};
+ghost use Rattle.dual.specs.Floors.{slack_in, slack_left_in};
 
 use crate::wide::Wide;
 use std::marker::Model;
@@ -14,8 +14,8 @@ pub struct Floor {
     pub(crate) debt: Wide,
     pub(crate) size: usize,
     // by the first player's number times the size, and the second's
-    pub(crate) extra: Vec<Wide>,
-    pub(crate) extra_left: Vec<Wide>,
+    pub(crate) slacks: Vec<Wide>,
+    pub(crate) slacks_left: Vec<Wide>,
 }
 
 impl Model for Floor {
@@ -28,8 +28,8 @@ impl Model for Floor {
       base = f.base;
       debt = f.debt;
       size = f.size;
-      extra = f.extra.items;
-      extra_left = f.extra_left.items;
+      slacks = f.slacks.items;
+      slacks_left = f.slacks_left.items;
     } };
 
     ghost invariant = { λ f. f.size ≤ 65536 };
@@ -62,12 +62,12 @@ impl Floor {
     }
 
     /// What a pair adds, 0 outside of the table.
-    pub fn extra(&self, a: u16, b: u16) -> Wide
-        ensures { result ≡ extra_in self.now (a, b) }
+    pub fn slack(&self, a: u16, b: u16) -> Wide
+        ensures { result ≡ slack_in self.now (a, b) }
     {
         let b = usize::from(b);
         if b < self.size {
-            at(&self.extra, usize::from(a) * self.size + b)
+            at(&self.slacks, usize::from(a) * self.size + b)
         } else {
             Wide::zero()
         }
@@ -79,19 +79,19 @@ impl Floor {
           base = self.base;
           debt = self.debt;
           size = self.size;
-          extra = self.extra;
-          extra_left = [];
+          slacks = self.slacks;
+          slacks_left = [];
         } }
     {
         let mut floor = self;
-        floor.extra_left.clear();
+        floor.slacks_left.clear();
         floor
     }
 
     /// What a player left over adds, 0 outside of the table.
-    pub fn extra_left(&self, a: u16) -> Wide
-        ensures { result ≡ extra_left_in self.now a }
+    pub fn slack_left(&self, a: u16) -> Wide
+        ensures { result ≡ slack_left_in self.now a }
     {
-        at(&self.extra_left, usize::from(a))
+        at(&self.slacks_left, usize::from(a))
     }
 }

@@ -1,10 +1,10 @@
 //! Weak duality: certificates that no matching is cheap, barriers and witnesses that tell whether players can be paired
 //! out, specified by pairs over numbers.
 //!
-//! A `Table` holds a certificate: a potential for each player, and priced sets of players. `Table::floor` checks it and
+//! A `CertificateTable` holds a certificate: a potential for each player, and priced sets of players. `CertificateTable::floor` checks it and
 //! makes a `Floor` of it: what every matching costs at least, beside what is owed, and what each pair and each player
 //! left over adds that is known of it. Of a certificate that is not feasible no floor is made; of one that gives away
-//! more than it gains there is one, and what is known may pay for it. `Table::floor_for_any` makes one for matchings
+//! more than it gains there is one, and what is known may pay for it. `CertificateTable::floor_for_any` makes one for matchings
 //! that leave any number over. `tells_incompletable` checks a barrier (after Tutte and Berge), `least_left` says how
 //! many it leaves over, `tells_completable` checks a witness. Whoever finds them need not be trusted.
 //!
@@ -29,6 +29,6 @@ mod witness;
 pub use barrier::{least_left, tells_incompletable};
 pub use floor::Floor;
 pub use rule::{MatchingRule, Pool};
-pub use table::{MOST, MarkedSet, Table};
+pub use table::{CertificateTable, MOST, MarkedSet};
 pub use wide::Wide;
 pub use witness::tells_completable;

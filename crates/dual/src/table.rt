@@ -17,7 +17,7 @@ pub struct MarkedSet {
 
 /// A potential for each player, what a pair and a player left over are given on top of their cost, and priced sets.
 #[derive(Drop)]
-pub struct Table {
+pub struct CertificateTable {
     pub potentials: Vec<Wide>,
     pub given: Wide,
     pub given_left: Wide,
@@ -58,7 +58,7 @@ impl MarkedSet {
     }
 }
 
-impl Table {
+impl CertificateTable {
     pub(crate) fn potential(&self, v: u16) -> Wide
         ensures { result ≡ potential_in self.now v }
     {

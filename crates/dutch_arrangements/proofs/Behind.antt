@@ -402,16 +402,16 @@ unfolding AreCandidates
 no-candidates meets may_be_left frame shape = tt {0}
 
 -- of candidates, those that are left once some are skipped are candidates
-pub still-candidates : (meets : ℕ → ℕ → Bool) (may_be_left : ℕ → Bool) (frame : Frame) (shape : Shape) (Idle : Arrangement → Type 0) (before after : List Arrangement) → Passes Idle before after → AreCandidates meets may_be_left frame shape before → AreCandidates meets may_be_left frame shape after
+pub still-candidates : (meets : ℕ → ℕ → Bool) (may_be_left : ℕ → Bool) (frame : Frame) (shape : Shape) (Pruned : Arrangement → Type 0) (before after : List Arrangement) → Passes Pruned before after → AreCandidates meets may_be_left frame shape before → AreCandidates meets may_be_left frame shape after
 unfolding AreCandidates
-still-candidates meets may_be_left frame shape Idle before after passes all =
-    passes-keeps Idle (λ a. IsIn a (candidates meets may_be_left frame shape)) before after passes all
+still-candidates meets may_be_left frame shape Pruned before after passes all =
+    passes-keeps Pruned (λ a. IsIn a (candidates meets may_be_left frame shape)) before after passes all
 
 -- and so are those behind the first of these
-pub later-candidates : (meets : ℕ → ℕ → Bool) (may_be_left : ℕ → Bool) (frame : Frame) (shape : Shape) (Idle : Arrangement → Type 0) (before after : List Arrangement) (first : Arrangement) → Passes Idle before (first ∷ after) → AreCandidates meets may_be_left frame shape before → AreCandidates meets may_be_left frame shape after
+pub later-candidates : (meets : ℕ → ℕ → Bool) (may_be_left : ℕ → Bool) (frame : Frame) (shape : Shape) (Pruned : Arrangement → Type 0) (before after : List Arrangement) (first : Arrangement) → Passes Pruned before (first ∷ after) → AreCandidates meets may_be_left frame shape before → AreCandidates meets may_be_left frame shape after
 unfolding AreCandidates
-later-candidates meets may_be_left frame shape Idle before after first passes all =
-    (passes-keeps Idle (λ a. IsIn a (candidates meets may_be_left frame shape)) before (first ∷ after) passes all).1
+later-candidates meets may_be_left frame shape Pruned before after first passes all =
+    (passes-keeps Pruned (λ a. IsIn a (candidates meets may_be_left frame shape)) before (first ∷ after) passes all).1
 
 -- a cursor's lists are choices of the levels
 pub cursor-s1 : (frame : Frame) (shape : Shape) (meets : ℕ → ℕ → Bool) (a : Arrangement) → IsIn a (arrangements frame shape) → IsIn a.s1 (subsets (numbers_from 1 (length (moved_down_scores frame))) shape.mdps)

@@ -68,15 +68,15 @@ module _ {R : Type 0} (old new : Listing R) where
   abbrev pub Stops : Budget → Type 0
   Stops budget = (new.coming ≡ old.coming) × (new.latest ≡ old.latest) × (budget.used ≡ budget.limit)
 
-  -- what is given is of those to come, behind some that are idle, which are skipped [own]
+  -- what is given is of those to come, behind some that are pruned, which are skipped [own]
   abbrev pub GivesPast : (Arrangement → Type 0) → Candidate → Type 0
-  GivesPast Idle c =
-      Passes Idle old.coming (c.lists ∷ new.coming) × (c.down ≡ down old.frame c.lists) × (new.latest ≡ Some c.lists)
+  GivesPast Pruned c =
+      Passes Pruned old.coming (c.lists ∷ new.coming) × (c.down ≡ down old.frame c.lists) × (new.latest ≡ Some c.lists)
 
-  -- all that was to come is idle, and is skipped [with GivesPast]
+  -- all that was to come is pruned, and is skipped [with GivesPast]
   abbrev pub EndsPast : (Arrangement → Type 0) → Type 0
-  EndsPast Idle = Passes Idle old.coming [] × (new.coming ≡ []) × (new.latest ≡ old.latest)
+  EndsPast Pruned = Passes Pruned old.coming [] × (new.coming ≡ []) × (new.latest ≡ old.latest)
 
-  -- the limit was reached behind some that are idle, which are skipped [with GivesPast]
+  -- the limit was reached behind some that are pruned, which are skipped [with GivesPast]
   abbrev pub StopsPast : (Arrangement → Type 0) → Budget → Type 0
-  StopsPast Idle budget = Passes Idle old.coming new.coming × (new.latest ≡ old.latest) × (budget.used ≡ budget.limit)
+  StopsPast Pruned budget = Passes Pruned old.coming new.coming × (new.latest ≡ old.latest) × (budget.used ≡ budget.limit)

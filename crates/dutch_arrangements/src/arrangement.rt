@@ -109,7 +109,7 @@ impl LastArrangement {
     }
 
     /// What stands there.
-    pub fn held(&self) -> Option<&Arrangement>
+    pub fn get(&self) -> Option<&Arrangement>
         ensures { option_copied result ≡ self.now }
     {
         if self.is_held {

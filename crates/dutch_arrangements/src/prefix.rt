@@ -1,6 +1,6 @@
 // The beginning of an arrangement, specified by its lists.
 ghost use Rattle.std.specs.Prelude.{◌≡◌};
-ghost use Rattle.dutch_arrangements.specs.declared.prefix.Filling.TheVariants.{S1};
+ghost use Rattle.dutch_arrangements.specs.declared.prefix.Filling.TheVariants.{ChoosingS1};
 ghost use Rattle.dutch_arrangements.specs.Prefixes.{with_list};
 
 use std::marker::Model;
@@ -9,7 +9,7 @@ use std::marker::Model;
 #[derive(Clone, Copy, PartialEq, Eq)]
 pub enum Filling {
     /// None is chosen yet, not even S1.
-    S1,
+    ChoosingS1,
     /// S1 is chosen, and a part of S2.
     S2,
     /// S1, S2 and S1R are chosen, and a part of S2R.
@@ -41,10 +41,10 @@ impl<'a> Model for Prefix<'a> {
 impl<'a> Prefix<'a> {
     /// The beginning of every arrangement.
     pub fn nothing() -> Prefix<'a>
-        ensures { result.filling ≡ S1 }
+        ensures { result.filling ≡ ChoosingS1 }
     {
         Prefix {
-            filling: Filling::S1,
+            filling: Filling::ChoosingS1,
             s1: &[],
             s2: &[],
             s1r: &[],

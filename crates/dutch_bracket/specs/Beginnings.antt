@@ -4,7 +4,7 @@ use Rattle.std.specs.Prelude.{◌≡◌, ℕ, ◌+◌, ◌-◌, ◌*◌, ◌⊎�
 use Rattle.dutch_arrangements.specs.declared.bracket.Shape.{Shape}
 use Rattle.dutch_arrangements.specs.Prelude.{Arrangement, remainder_pairs, GoesOn, Beginning}
 use Rattle.dutch_arrangements.specs.declared.prefix.Filling.{Filling}
-use Rattle.dutch_arrangements.specs.declared.prefix.Filling.TheVariants.{S1, S2, S2r}
+use Rattle.dutch_arrangements.specs.declared.prefix.Filling.TheVariants.{ChoosingS1, S2, S2r}
 use Rattle.dutch_sequence.specs.declared.numbers.TheConstants.{LIMIT}
 use Rattle.dutch_player.specs.Prelude.{Facts}
 use Rattle.dutch_bracket.specs.Reached.{Reached}
@@ -46,7 +46,7 @@ most_served reached shape b = (shape.pairs - length (all_pairs reached.seats b))
 
 -- the lists that a beginning fixes
 abbrev pub lists_by : Filling → Arrangement → Arrangement
-lists_by S1 lists = record { s1 = []; s2 = []; s1r = []; s2r = [] }
+lists_by ChoosingS1 lists = record { s1 = []; s2 = []; s1r = []; s2r = [] }
 lists_by S2 lists = record { s1 = lists.s1; s2 = lists.s2; s1r = []; s2r = [] }
 lists_by S2r lists = record { s1 = lists.s1; s2 = lists.s2; s1r = lists.s1r; s2r = lists.s2r }
 
@@ -62,7 +62,7 @@ is_of_shape shape lists =
 
 -- S1 is chosen [with fixed_lists]
 abbrev pub has_s1 : Filling → Bool
-has_s1 S1 = false
+has_s1 ChoosingS1 = false
 has_s1 S2 = true
 has_s1 S2r = true
 

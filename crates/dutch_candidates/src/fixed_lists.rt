@@ -33,7 +33,7 @@ pub fn fixed_lists<'a>(prefix: &'a Prefix<'_>) -> FixedLists<'a>
     ensures { result ≡ fixed_lists prefix.now }
 {
     match prefix.filling() {
-        Filling::S1 => {
+        Filling::ChoosingS1 => {
             return FixedLists {
                 s1: &[],
                 s2: &[],
@@ -65,7 +65,7 @@ pub fn has_s1(filling: Filling) -> bool
     ensures { result ≡ has_s1 filling }
 {
     match filling {
-        Filling::S1 => false,
+        Filling::ChoosingS1 => false,
         Filling::S2 | Filling::S2r => true,
     }
 }

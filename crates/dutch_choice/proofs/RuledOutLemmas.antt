@@ -5,7 +5,7 @@ use Rattle.std.proofs.lemmas.Bool.{leb-true, not-true, false_from_ne_true, true�
 use Rattle.std.proofs.lemmas.Bool.Decides.{nat_tests}
 use Rattle.dutch_arrangements.specs.declared.bracket.Shape.{Shape}
 use Rattle.dutch_arrangements.specs.declared.prefix.Filling.{Filling}
-use Rattle.dutch_arrangements.specs.declared.prefix.Filling.TheVariants.{S1, S2, S2r}
+use Rattle.dutch_arrangements.specs.declared.prefix.Filling.TheVariants.{ChoosingS1, S2, S2r}
 use Rattle.dutch_arrangements.specs.Prelude.{Frame, Arrangement, arrangements, left_of, paired, residents_of, is_member, by_place, pairs_by_number, IsIn, Begins, BeginsAt, Beginning}
 use Rattle.dutch_arrangements.proofs.CursorSets.{AreLists}
 use Rattle.dutch_sequence.proofs.Orders.{member-in, in-member, IsIn-append, IsIn-front, IsIn-back}
@@ -91,12 +91,12 @@ module _ (frame : Frame) (shape : Shape) (a : Arrangement) (within : frame.mdps 
     s1_parted beginning same low = parted a.s1 beginning same (first_low pair m low) (λ n. let also = s1_low pair.1 n in omega (arith, also, high))
 
     s1_apart : (filling : Filling) (beginning : Arrangement) → BeginsAt filling beginning a → pair.0 ≤ frame.mdps → s1_bars filling p q beginning ≡ true → ⊥
-    s1_apart S1 beginning h low bars = true≢false (sym bars)
+    s1_apart ChoosingS1 beginning h low bars = true≢false (sym bars)
     s1_apart S2 beginning h low bars = s1_parted beginning.s1 h.0 low bars
     s1_apart S2r beginning h low bars = s1_parted beginning.s1 h.0 low bars
 
     s1r_apart : (filling : Filling) (beginning : Arrangement) → BeginsAt filling beginning a → frame.mdps < pair.0 → s1r_bars filling p q beginning ≡ true → ⊥
-    s1r_apart S1 beginning h above bars = true≢false (sym bars)
+    s1r_apart ChoosingS1 beginning h above bars = true≢false (sym bars)
     s1r_apart S2 beginning h above bars = true≢false (sym bars)
     s1r_apart S2r beginning h above bars =
         let first = first_high pair m above in parted a.s1r beginning.s1r h.2 first.0 first.1 bars
@@ -133,7 +133,7 @@ pair_out frame shape p q b a within m begins out granted =
     begins out
 
 half_in : (filling : Filling) (lists a : Arrangement) (p : ℕ) → BeginsAt filling lists a → half_pairs filling p lists ≡ true → IsIn p (paired a)
-half_in S1 lists a p h out = absurd (true≢false (sym out))
+half_in ChoosingS1 lists a p h out = absurd (true≢false (sym out))
 half_in S2 lists a p h out = IsIn-front p a.s1 (a.s2 ++ (a.s1r ++ a.s2r)) (subst (IsIn p) h.0 (member-in p lists.s1 out))
 half_in S2r lists a p h out =
     IsIn-back p a.s1 (a.s2 ++ (a.s1r ++ a.s2r))

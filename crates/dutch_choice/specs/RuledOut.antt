@@ -2,7 +2,7 @@
 -- of its promise may pass them by.
 use Rattle.std.specs.Prelude.{ℕ, Bool, true, false, not, ◌&&◌, ◌||◌, nat_le, List}
 use Rattle.dutch_arrangements.specs.declared.prefix.Filling.{Filling}
-use Rattle.dutch_arrangements.specs.declared.prefix.Filling.TheVariants.{S1, S2, S2r}
+use Rattle.dutch_arrangements.specs.declared.prefix.Filling.TheVariants.{ChoosingS1, S2, S2r}
 use Rattle.dutch_arrangements.specs.Prelude.{Arrangement, is_member, Beginning}
 use Rattle.dutch_candidates.specs.declared.wish.Wish.{Wish}
 use Rattle.dutch_candidates.specs.declared.wish.Wish.TheVariants.{Pair, LeftOver}
@@ -14,13 +14,13 @@ has_one_of p q numbers =
 
 -- a moved-down player and a resident meet in no arrangement whose S1 is chosen and has both or neither
 abbrev pub s1_bars : Filling → ℕ → ℕ → Arrangement → Bool
-s1_bars S1 p q lists = false
+s1_bars ChoosingS1 p q lists = false
 s1_bars S2 p q lists = not (has_one_of p q lists.s1)
 s1_bars S2r p q lists = not (has_one_of p q lists.s1)
 
 -- and two residents in none whose S1R is chosen and has both or neither
 abbrev pub s1r_bars : Filling → ℕ → ℕ → Arrangement → Bool
-s1r_bars S1 p q lists = false
+s1r_bars ChoosingS1 p q lists = false
 s1r_bars S2 p q lists = false
 s1r_bars S2r p q lists = not (has_one_of p q lists.s1r)
 
@@ -33,7 +33,7 @@ halves_bar false false filling p q lists = s1r_bars filling p q lists
 
 -- whoever is in a first half is in a pair
 abbrev pub half_pairs : Filling → ℕ → Arrangement → Bool
-half_pairs S1 p lists = false
+half_pairs ChoosingS1 p lists = false
 half_pairs S2 p lists = is_member p lists.s1
 half_pairs S2r p lists = is_member p lists.s1r
 

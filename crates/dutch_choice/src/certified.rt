@@ -14,7 +14,7 @@ ghost use Rattle.dutch_choice.specs.ShapeCosts.{IsShapeFloor, cost_of, joined, v
 use crate::matched::{can_be_chosen, matched_shape};
 use crate::players::Players;
 use cheapest::{Fault, Found, LOOKS_IN_A_STEP, cheapest};
-use dual::{Pool, Table, Wide};
+use dual::{CertificateTable, Pool, Wide};
 use dutch_arrangements::{Budget, Shape, Stopped, numbered_from};
 use dutch_bracket::spending::spend;
 use std::alloc::{AllocError, Global};
@@ -66,7 +66,10 @@ impl ShapeFloor {
 }
 
 /// The floor that a certificate is, if it is confirmed.
-fn confirmed(players: &Players<'_>, certificate: &Table) -> Result<Option<ShapeFloor>, AllocError>
+fn confirmed_floor(
+    players: &Players<'_>,
+    certificate: &CertificateTable,
+) -> Result<Option<ShapeFloor>, AllocError>
     ensures { IfOk result (λ found. IfSome found (IsShapeFloor players.now)) }
 {
     let numbers = numbered_from(1, players.count());
@@ -153,7 +156,7 @@ pub(crate) fn told_by_cost(players: &Players<'_>, budget: &mut Budget) -> Result
     };
     let count = players.count() as u64;
     spend(count * count / LOOKS_IN_A_STEP, budget)?;
-    let Ok(Some(floor)) = confirmed(players, &found.certificate) else {
+    let Ok(Some(floor)) = confirmed_floor(players, &found.certificate) else {
         return Ok(nothing);
     };
     let shape = shape_by(players, &found.partners, &floor, budget)?;

@@ -20,7 +20,7 @@ fn s1_bars(p: u16, q: u16, prefix: &Prefix<'_>) -> bool
     ensures { result ≡ s1_bars prefix.now.filling p q prefix.now.lists }
 {
     match prefix.filling() {
-        Filling::S1 => false,
+        Filling::ChoosingS1 => false,
         Filling::S2 | Filling::S2r => !has_one_of(p, q, prefix.s1()),
     }
 }
@@ -30,7 +30,7 @@ fn s1r_bars(p: u16, q: u16, prefix: &Prefix<'_>) -> bool
     ensures { result ≡ s1r_bars prefix.now.filling p q prefix.now.lists }
 {
     match prefix.filling() {
-        Filling::S1 | Filling::S2 => false,
+        Filling::ChoosingS1 | Filling::S2 => false,
         Filling::S2r => !has_one_of(p, q, prefix.s1r()),
     }
 }
@@ -51,7 +51,7 @@ fn half_pairs(p: u16, prefix: &Prefix<'_>) -> bool
     ensures { result ≡ half_pairs prefix.now.filling p prefix.now.lists }
 {
     match prefix.filling() {
-        Filling::S1 => false,
+        Filling::ChoosingS1 => false,
         Filling::S2 => prefix.s1().contains(&p),
         Filling::S2r => prefix.s1r().contains(&p),
     }

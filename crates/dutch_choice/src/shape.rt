@@ -83,7 +83,7 @@ impl<'a, 'b, 'c> Shapes<NarrowedRule<'c>> for ShapesAboveFloor<'a, 'b> {
 
 /// A shape that a listing has found: its first candidate is drawn.
 #[tactic(auto, unfolding(dutch_bracket::specs::Brackets::shape_of))]
-fn drawn(
+fn drawn_shape(
     context: &Context<'_>,
     found: Option<Shape>,
     lister: &Lister<'_, NarrowedRule<'_>>,
@@ -124,7 +124,7 @@ pub(crate) fn found_shape<'b>(
     let players = Players::of(context);
     let few = steps_before(players.count());
     if let Some(found) = decided_in_few_steps(&shapes, lister, few, budget)? {
-        return Ok(drawn(context, found, lister));
+        return Ok(drawn_shape(context, found, lister));
     }
     let told = told_by_cost(&players, budget)?;
     if let Some(shape) = told.shape {
@@ -135,7 +135,7 @@ pub(crate) fn found_shape<'b>(
     }
     shapes.floor = told.floor;
     let found = greatest_shape(&shapes, lister, budget)?;
-    Ok(drawn(context, found, lister))
+    Ok(drawn_shape(context, found, lister))
 }
 
 /// The shape of a bracket of a field above all lower seats by rank: of the shapes that have a candidate, the one with

@@ -73,7 +73,7 @@ pub fn by_seat(
 
 /// What a matching and its labels tell of seats. None says that neither was confirmed.
 #[tactic(auto, using(crate::proofs::Completions::told_yes, crate::proofs::Completions::told_no))]
-fn confirmed(
+fn confirmed_answer(
     alloc: Global,
     field: &Field,
     players: &[u16],
@@ -109,7 +109,7 @@ pub(crate) fn decided_by_matching(
     let found = greatest(alloc, &Meetings::new(field, players), &mut left);
     budget.used = budget.limit - left;
     match found {
-        Ok(found) => Ok(confirmed(alloc, field, players, &found).unwrap_or(None)),
+        Ok(found) => Ok(confirmed_answer(alloc, field, players, &found).unwrap_or(None)),
         Err(Fault::Stopped) => Err(Stopped),
         Err(Fault::OutOfMemory) => Ok(None),
     }

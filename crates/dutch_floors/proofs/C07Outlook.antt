@@ -5,7 +5,7 @@ use Rattle.std.proofs.lemmas.Bool.{and_parts, eqb-true, ltb-true}
 use Rattle.std.proofs.lemmas.List.{length-map, length-append}
 use Rattle.dutch_arrangements.specs.declared.bracket.Shape.{Shape}
 use Rattle.dutch_arrangements.specs.declared.prefix.Filling.{Filling}
-use Rattle.dutch_arrangements.specs.declared.prefix.Filling.TheVariants.{S1, S2, S2r}
+use Rattle.dutch_arrangements.specs.declared.prefix.Filling.TheVariants.{ChoosingS1, S2, S2r}
 use Rattle.dutch_arrangements.specs.Prelude.{Arrangement, Fits, arrangements, down, IsIn, BeginsAt}
 use Rattle.dutch_sequence.proofs.FromOn.{is_same-true}
 use Rattle.dutch_player.specs.Prelude.{Facts}
@@ -123,7 +123,7 @@ module _ (facts : Facts) (reached : Reached) (lower : List ℕ) (shape : Shape) 
       → BeginsAt filling lists a → (has_s1 filling || is_uniform facts reached shape) ≡ true
       → leaves_first facts reached shape (s1_by filling shape (lists_by filling lists).s1) ≡ true → limbo_scores facts reached a.s1 ≡ first_limbo facts reached shape
   unfolding leaves_first
-  limbo_of S1 lists a of' flat m h known t = first_limbo_of_all facts reached of' flat shape a m (uniform_of facts reached shape of' known)
+  limbo_of ChoosingS1 lists a of' flat m h known t = first_limbo_of_all facts reached of' flat shape a m (uniform_of facts reached shape of' known)
   limbo_of S2 lists a of' flat m h known t =
       ap (limbo_scores facts reached) (sym h.0) ∙ is_same-true (limbo_scores facts reached lists.s1) (first_limbo facts reached shape) t
   limbo_of S2r lists a of' flat m h known t =

@@ -5,7 +5,7 @@ use Rattle.dutch_arrangements.specs.declared.bracket.Shape.{Shape}
 use Rattle.trf16_report.specs.declared.cell.Colour.TheVariants.{White, Black}
 use Rattle.dutch_player.specs.Prelude.{Facts}
 use Rattle.dutch_arrangements.specs.declared.prefix.Filling.{Filling}
-use Rattle.dutch_arrangements.specs.declared.prefix.Filling.TheVariants.{S1, S2, S2r}
+use Rattle.dutch_arrangements.specs.declared.prefix.Filling.TheVariants.{ChoosingS1, S2, S2r}
 use Rattle.dutch_arrangements.specs.Prelude.{Arrangement, Fits, numbers_from, Beginning}
 use Rattle.dutch_player.specs.declared.float.Float.TheVariants.{Up, Down}
 use Rattle.dutch_bracket.specs.Prelude.{IsOf, frame_of, HasFewPairs, fixed_lists, is_of_shape, again, all_pairs, differences, fixed, floor_over, is_uneven, lonely, pairs_of, seat_of, going_down, going_up, next_in, quality_with, seated_so, in_both, with_floats, Quality, Reached, Seated}
@@ -34,7 +34,7 @@ known_few basis b h = first_few basis.shape (fixed_lists b) (of_shape basis b h)
 
 -- S1, or the first one where none is chosen
 first_or : (P : List ℕ → Type 0) (filling : Filling) (shape : Shape) (s1 : List ℕ) → P (numbers_from 1 shape.mdps) → P s1 → P (s1_by filling shape s1)
-first_or P S1 shape s1 first chosen = first
+first_or P ChoosingS1 shape s1 first chosen = first
 first_or P S2 shape s1 first chosen = chosen
 first_or P S2r shape s1 first chosen = chosen
 
@@ -114,7 +114,7 @@ more_is firm facts reached shape pairs all made left are same white black counte
 
 -- the counts are at most what is counted with lonely players
 counts_at : (filling : Filling) (basis : Basis) (lists : Arrangement) → more_in false basis.facts basis.reached basis.shape (fixed basis.facts basis.reached lists) ≤ more_by filling basis lists
-counts_at S1 basis lists = omega arith
+counts_at ChoosingS1 basis lists = omega arith
 counts_at S2 basis lists = omega arith
 counts_at S2r basis lists = omega arith
 

@@ -11,7 +11,7 @@ use Rattle.std.proofs.lemmas.Cmp.{nat_list_cmp_total}
 use Rattle.std.proofs.lemmas.List.{length-map}
 use Rattle.dutch_arrangements.specs.declared.bracket.Shape.{Shape}
 use Rattle.dutch_arrangements.specs.declared.prefix.Filling.{Filling}
-use Rattle.dutch_arrangements.specs.declared.prefix.Filling.TheVariants.{S1, S2, S2r}
+use Rattle.dutch_arrangements.specs.declared.prefix.Filling.TheVariants.{ChoosingS1, S2, S2r}
 use Rattle.dutch_arrangements.specs.Prelude.{Arrangement, arrangements, left_of, remainder_pairs, numbers_from, IsIn, Begins, BeginsAt, Beginning}
 use Rattle.dutch_player.specs.Prelude.{Facts}
 use Rattle.dutch_bracket.specs.declared.colours_missed.Miss.TheVariants.{Preference}
@@ -67,7 +67,7 @@ module _ (basis : Basis) (lower : List ℕ) (a : Arrangement) (of' : IsOf basis.
   -- C.6, where all residents have one score
   psd_at : (filling : Filling) (lists : Arrangement) → IsFlat facts reached → BeginsAt filling lists a → (has_s1 filling || is_uniform facts reached shape) ≡ true
       → it.psd ≡ psd_with facts reached shape (residents_score facts reached) (s1_by filling shape (lists_by filling lists).s1)
-  psd_at S1 lists flat h known = psd_of_all facts reached lower shape a of' flat (uniform_of facts reached shape of' known) arranged
+  psd_at ChoosingS1 lists flat h known = psd_of_all facts reached lower shape a of' flat (uniform_of facts reached shape of' known) arranged
   psd_at S2 lists flat h known = psd_by lists.s1 flat h.0
   psd_at S2r lists flat h known = psd_by lists.s1 flat h.0
 
@@ -96,7 +96,7 @@ module _ (basis : Basis) (lower : List ℕ) (a : Arrangement) (of' : IsOf basis.
   -- C.10: so many more miss
   more_holds : (filling : Filling) (lists : Arrangement) → BeginsAt filling lists a
       → count_in_pairs facts (misses Preference) (all_pairs reached.seats (lists_by filling lists)) + more_by filling basis (lists_by filling lists) ≤ it.missed_preferences
-  more_holds S1 lists h = missed_more (lists_by S1 lists) (has_fixed_pairs S1 lists a h)
+  more_holds ChoosingS1 lists h = missed_more (lists_by ChoosingS1 lists) (has_fixed_pairs ChoosingS1 lists a h)
   more_holds S2 lists h = missed_more (lists_by S2 lists) (has_fixed_pairs S2 lists a h)
   more_holds S2r lists h =
       omega (

@@ -5,7 +5,7 @@ use Rattle.trf16_report.specs.declared.cell.Colour.{Colour}
 use Rattle.trf16_report.specs.declared.cell.Colour.TheVariants.{White, Black}
 use Rattle.dutch_arrangements.specs.declared.bracket.Shape.{Shape}
 use Rattle.dutch_arrangements.specs.declared.prefix.Filling.{Filling}
-use Rattle.dutch_arrangements.specs.declared.prefix.Filling.TheVariants.{S1, S2, S2r}
+use Rattle.dutch_arrangements.specs.declared.prefix.Filling.TheVariants.{ChoosingS1, S2, S2r}
 use Rattle.dutch_arrangements.specs.Prelude.{Arrangement, numbers_from, Beginning}
 use Rattle.dutch_sequence.specs.declared.numbers.TheConstants.{LIMIT}
 use Rattle.dutch_player.specs.Prelude.{Facts}
@@ -16,7 +16,7 @@ use Rattle.dutch_floors.specs.declared.colour_floor.Wants.{Wants}
 
 -- S1; the first one, if none is chosen
 abbrev pub s1_by : Filling → Shape → List ℕ → List ℕ
-s1_by S1 shape s1 = numbers_from 1 shape.mdps
+s1_by ChoosingS1 shape s1 = numbers_from 1 shape.mdps
 s1_by S2 shape s1 = s1
 s1_by S2r shape s1 = s1
 
@@ -64,7 +64,7 @@ more_in firm facts reached shape known =
 
 -- C.10: how many more miss than in the pairs that are fixed; lonely players are known once S1R is chosen
 abbrev pub more_by : Filling → Basis → Arrangement → ℕ
-more_by S1 basis lists = more_in false basis.facts basis.reached basis.shape (fixed basis.facts basis.reached lists)
+more_by ChoosingS1 basis lists = more_in false basis.facts basis.reached basis.shape (fixed basis.facts basis.reached lists)
 more_by S2 basis lists = more_in false basis.facts basis.reached basis.shape (fixed basis.facts basis.reached lists)
 more_by S2r basis lists =
     max (more_in false basis.facts basis.reached basis.shape (fixed basis.facts basis.reached lists)) (lonely basis.facts basis.reached basis.shape lists)

@@ -14,5 +14,5 @@ pub record Above : Type 0 where
 -- what has been read: of each lower player whether some player of the bracket may meet them, and whether one may have the bye
 pub record IsRead (facts : Facts) (seats lower : List ℕ) (row : List Bool) (answer : Bool) : Type 0 where
   pub few : length lower ≤ LIMIT
-  pub met : row ≡ map (some_meets facts seats) lower
+  pub meetable : row ≡ map (some_meets facts seats) lower
   pub bye : answer ≡ list_any (may_bye facts) seats

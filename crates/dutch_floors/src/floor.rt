@@ -143,7 +143,7 @@ impl<'a> Floors<'a> {
         ensures { result.now ≡ s1_of self.now prefix.now }
     {
         match prefix.filling() {
-            Filling::S1 => return &self.first,
+            Filling::ChoosingS1 => return &self.first,
             Filling::S2 | Filling::S2r => return prefix.s1(),
         }
     }
@@ -217,7 +217,7 @@ impl<'a> Floors<'a> {
         ensures { result ≡ true → asked.now.prefix.now.filling ≡ S2r }
     {
         match asked.prefix.filling() {
-            Filling::S1 | Filling::S2 => false,
+            Filling::ChoosingS1 | Filling::S2 => false,
             Filling::S2r => {
                 let most = most_lonely(self.shaped.context, self.shaped.shape, lists);
                 missed <= usize::from(asked.most)
@@ -351,11 +351,11 @@ impl<'a> Floors<'a> {
         true
     }
 
-    /// The quality that a first pass aims at, if all residents have one score: what a beginning with the first S1
-    /// promises up to C.11. Any aim may be taken: what is chosen among the candidates that it is not better than is
+    /// The quality that a first pass has as its target, if all residents have one score: what a beginning with the first S1
+    /// promises up to C.11. Any target may be taken: what is chosen among the candidates that it is not better than is
     /// what is chosen among all.
     #[tactic(auto, using(dutch_candidates::proofs::ShapeNumbers::first_length))]
-    pub fn aim(&self) -> Option<Quality> {
+    pub fn target(&self) -> Option<Quality> {
         if !self.flat {
             return None;
         }

@@ -24,7 +24,7 @@ pub(crate) struct Ghosts<'a> {
     seats: &'a [u16],
     lower: &'a [u16],
     // by place in `lower`: whether some player of the bracket may meet that one
-    met: ArrayVec<bool, LIMIT>,
+    meetable: ArrayVec<bool, LIMIT>,
     // whether some player of the bracket may have the bye
     bye: bool,
 }
@@ -36,7 +36,7 @@ impl<'a> Model for Ghosts<'a> {
 
     ghost view = { λ g. record { facts = g.field.now; seats = g.seats.now; lower = g.lower.now } };
 
-    ghost invariant = { λ g. IsRead g.field.now g.seats.now g.lower.now g.met.items g.bye };
+    ghost invariant = { λ g. IsRead g.field.now g.seats.now g.lower.now g.meetable.items g.bye };
 }
 
 fn some_meets(field: &Field, seats: &[u16], lower: u16) -> bool
@@ -61,15 +61,15 @@ fn some_may_bye(field: &Field, seats: &[u16]) -> bool
     false
 }
 
-fn read_met(field: &Field, seats: &[u16], lower: &[u16]) -> ArrayVec<bool, LIMIT>
+fn read_meetable(field: &Field, seats: &[u16], lower: &[u16]) -> ArrayVec<bool, LIMIT>
     requires { length lower.now ≤ LIMIT }
     ensures { result.items ≡ map (some_meets field.now seats.now) lower.now }
 {
-    let mut met = ArrayVec::new();
+    let mut meetable = ArrayVec::new();
     for seat in lower {
-        met.push(some_meets(field, seats, *seat));
+        meetable.push(some_meets(field, seats, *seat));
     }
-    met
+    meetable
 }
 
 impl<'a> Ghosts<'a> {
@@ -95,7 +95,7 @@ impl<'a> Ghosts<'a> {
             field,
             seats,
             lower,
-            met: read_met(field, seats, lower),
+            meetable: read_meetable(field, seats, lower),
             bye: some_may_bye(field, seats),
         })
     }
@@ -126,7 +126,7 @@ impl<'a> Ghosts<'a> {
         requires { place < length self.now.lower }
         ensures { result ≡ some_meets self.now.facts self.now.seats (slice_index self.now.lower place) }
     {
-        self.met[place]
+        self.meetable[place]
     }
 
     /// The lower player at a place; seat 0 behind the last one.

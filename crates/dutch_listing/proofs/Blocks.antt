@@ -46,31 +46,31 @@ all-blocks P part block each None choices = all-made P (block None) choices (eac
 all-blocks P part block each (Some own) [] = tt {0}
 all-blocks P part block each (Some own) (choice ∷ choices) = (each (if_own part (Some own) choice) choice, all-made P (block None) choices (each None))
 
--- where each arrangement with an S1 and an S2 is idle
-module _ (Idle : Arrangement → Type 0) (s1 s2 : List ℕ) (each : (a : Arrangement) → s1 ≡ a.s1 → s2 ≡ a.s2 → Idle a) where
-  idle-arranged : (s1r : List ℕ) (lists : List (List ℕ)) → AllByRecursion Idle (map (arranged s1 s2 s1r) lists)
-  idle-arranged s1r lists = all-made Idle (arranged s1 s2 s1r) lists (λ s2r. each (arranged s1 s2 s1r s2r) refl refl)
+-- where each arrangement with an S1 and an S2 is pruned
+module _ (Pruned : Arrangement → Type 0) (s1 s2 : List ℕ) (each : (a : Arrangement) → s1 ≡ a.s1 → s2 ≡ a.s2 → Pruned a) where
+  pruned-arranged : (s1r : List ℕ) (lists : List (List ℕ)) → AllByRecursion Pruned (map (arranged s1 s2 s1r) lists)
+  pruned-arranged s1r lists = all-made Pruned (arranged s1 s2 s1r) lists (λ s2r. each (arranged s1 s2 s1r s2r) refl refl)
 
-  -- the blocks for S1R are idle
-  pub idle-s1r-blocks : (meets : ℕ → ℕ → Bool) (remainder : List ℕ) (own : Option Arrangement) (sets : List (List ℕ)) → AllByRecursion (AllByRecursion Idle) (s1r_blocks meets s1 s2 remainder own sets)
+  -- the blocks for S1R are pruned
+  pub pruned-s1r-blocks : (meets : ℕ → ℕ → Bool) (remainder : List ℕ) (own : Option Arrangement) (sets : List (List ℕ)) → AllByRecursion (AllByRecursion Pruned) (s1r_blocks meets s1 s2 remainder own sets)
   unfolding in_s1r
-  idle-s1r-blocks meets remainder own sets =
-      all-blocks (AllByRecursion Idle) (λ a. a.s1r) (in_s1r meets s1 s2 remainder) (λ own s1r. idle-arranged s1r _) own sets
+  pruned-s1r-blocks meets remainder own sets =
+      all-blocks (AllByRecursion Pruned) (λ a. a.s1r) (in_s1r meets s1 s2 remainder) (λ own s1r. pruned-arranged s1r _) own sets
 
   -- and so is all that is in them
-  pub idle-in-s2 : (meets : ℕ → ℕ → Bool) (k : ℕ) (residents : List ℕ) → AllByRecursion Idle (in_s2 meets k s1 residents None s2)
+  pub pruned-in-s2 : (meets : ℕ → ℕ → Bool) (k : ℕ) (residents : List ℕ) → AllByRecursion Pruned (in_s2 meets k s1 residents None s2)
   unfolding in_s2
-  idle-in-s2 meets k residents =
-      all-joined Idle _ (idle-s1r-blocks meets (left_of residents s2) None (exchanges (left_of residents s2) k))
+  pruned-in-s2 meets k residents =
+      all-joined Pruned _ (pruned-s1r-blocks meets (left_of residents s2) None (exchanges (left_of residents s2) k))
 
 -- a list begins with itself
 pub goes-whole : (front list : List ℕ) → front ≡ list → GoesOn front list
 goes-whole front list same = record { rest = []; is = sym same ∙ sym (append-nil front) }
 
 -- where S1, S2 and S1R are chosen, arrangements are skipped as their S2R are
-pub passes-arranged : (Idle : Arrangement → Type 0) (s1 s2 s1r chosen_s1 chosen_s2 chosen_s1r none : List ℕ) (very_next : Bool) → chosen_s1 ≡ s1 → chosen_s2 ≡ s2 → chosen_s1r ≡ s1r → (xs ys : List (List ℕ)) → Passes (IsPassedTuple Idle (record { filling = S2r; lists = arranged chosen_s1 chosen_s2 chosen_s1r none }) very_next) xs ys → Passes Idle (map (arranged s1 s2 s1r) xs) (map (arranged s1 s2 s1r) ys)
-passes-arranged Idle s1 s2 s1r chosen_s1 chosen_s2 chosen_s1r none very_next at_s1 at_s2 at_s1r xs ys =
-    passes-map (IsPassedTuple Idle (record { filling = S2r; lists = arranged chosen_s1 chosen_s2 chosen_s1r none }) very_next) Idle (arranged s1 s2 s1r) xs ys
+pub passes-arranged : (Pruned : Arrangement → Type 0) (s1 s2 s1r chosen_s1 chosen_s2 chosen_s1r none : List ℕ) (very_next : Bool) → chosen_s1 ≡ s1 → chosen_s2 ≡ s2 → chosen_s1r ≡ s1r → (xs ys : List (List ℕ)) → Passes (IsPassedTuple Pruned (record { filling = S2r; lists = arranged chosen_s1 chosen_s2 chosen_s1r none }) very_next) xs ys → Passes Pruned (map (arranged s1 s2 s1r) xs) (map (arranged s1 s2 s1r) ys)
+passes-arranged Pruned s1 s2 s1r chosen_s1 chosen_s2 chosen_s1r none very_next at_s1 at_s2 at_s1r xs ys =
+    passes-map (IsPassedTuple Pruned (record { filling = S2r; lists = arranged chosen_s1 chosen_s2 chosen_s1r none }) very_next) Pruned (arranged s1 s2 s1r) xs ys
     (λ s2r passed. passed.1 (arranged s1 s2 s1r s2r) (at_s1, at_s2, at_s1r, goes-whole s2r s2r refl))
 
 -- four lists that are copied
@@ -81,24 +81,24 @@ same-lists a b s1 s2 s1r s2r =
     ∙ ap (λ list. arranged b.s1 b.s2 list a.s2r) s1r
     ∙ ap (λ list. arranged b.s1 b.s2 b.s1r list) s2r
 
--- once S1 and S2 are chosen, all is idle where each arrangement that begins so is
-pub idle-behind-s2 : (Idle : Arrangement → Type 0) (s1 chosen_s1 s2 : List ℕ) → chosen_s1 ≡ s1 → ((a : Arrangement) → (chosen_s1 ≡ a.s1) × GoesOn s2 a.s2 → Idle a) → (meets : ℕ → ℕ → Bool) (k : ℕ) (residents : List ℕ) → AllByRecursion Idle (in_s2 meets k s1 residents None s2)
-idle-behind-s2 Idle s1 chosen_s1 s2 at_s1 each =
-    idle-in-s2 Idle s1 s2 (λ a is_s1 is_s2. each a (at_s1 ∙ is_s1, goes-whole s2 a.s2 is_s2))
+-- once S1 and S2 are chosen, all is pruned where each arrangement that begins so is
+pub pruned-behind-s2 : (Pruned : Arrangement → Type 0) (s1 chosen_s1 s2 : List ℕ) → chosen_s1 ≡ s1 → ((a : Arrangement) → (chosen_s1 ≡ a.s1) × GoesOn s2 a.s2 → Pruned a) → (meets : ℕ → ℕ → Bool) (k : ℕ) (residents : List ℕ) → AllByRecursion Pruned (in_s2 meets k s1 residents None s2)
+pruned-behind-s2 Pruned s1 chosen_s1 s2 at_s1 each =
+    pruned-in-s2 Pruned s1 s2 (λ a is_s1 is_s2. each a (at_s1 ∙ is_s1, goes-whole s2 a.s2 is_s2))
 
 -- and so once S1R is
-pub idle-behind-s1r : (Idle : Arrangement → Type 0) (s1 chosen_s1 s2 chosen_s2 s1r : List ℕ) → chosen_s1 ≡ s1 → chosen_s2 ≡ s2 → ((a : Arrangement) → (chosen_s1 ≡ a.s1) × GoesOn chosen_s2 a.s2 → s1r ≡ a.s1r → Idle a) → (meets : ℕ → ℕ → Bool) (remainder : List ℕ) → AllByRecursion Idle (in_s1r meets s1 s2 remainder None s1r)
+pub pruned-behind-s1r : (Pruned : Arrangement → Type 0) (s1 chosen_s1 s2 chosen_s2 s1r : List ℕ) → chosen_s1 ≡ s1 → chosen_s2 ≡ s2 → ((a : Arrangement) → (chosen_s1 ≡ a.s1) × GoesOn chosen_s2 a.s2 → s1r ≡ a.s1r → Pruned a) → (meets : ℕ → ℕ → Bool) (remainder : List ℕ) → AllByRecursion Pruned (in_s1r meets s1 s2 remainder None s1r)
 unfolding in_s1r
-idle-behind-s1r Idle s1 chosen_s1 s2 chosen_s2 s1r at_s1 at_s2 each meets remainder =
-    all-made Idle (arranged s1 s2 s1r) _ (λ s2r. each (arranged s1 s2 s1r s2r) (at_s1, goes-whole chosen_s2 s2 at_s2) refl)
+pruned-behind-s1r Pruned s1 chosen_s1 s2 chosen_s2 s1r at_s1 at_s2 each meets remainder =
+    all-made Pruned (arranged s1 s2 s1r) _ (λ s2r. each (arranged s1 s2 s1r s2r) (at_s1, goes-whole chosen_s2 s2 at_s2) refl)
 
--- choices of which idle ones may be passed over, but none while a cursor is left: the next one, the end, or a stop
-module _ (Idle : Arrangement → Type 0) (part : Arrangement → List ℕ) (block : Option Arrangement → List ℕ → List Arrangement) (IsIdle : List ℕ → Type 0) (each : (choice : List ℕ) → IsIdle choice → AllByRecursion Idle (block None choice)) (very : Bool) where
+-- choices of which pruned ones may be passed over, but none while a cursor is left: the next one, the end, or a stop
+module _ (Pruned : Arrangement → Type 0) (part : Arrangement → List ℕ) (block : Option Arrangement → List ℕ → List Arrangement) (IsPruned : List ℕ → Type 0) (each : (choice : List ℕ) → IsPruned choice → AllByRecursion Pruned (block None choice)) (very : Bool) where
   abbrev IsPassed : List ℕ → Type 0
-  IsPassed choice = (very ≡ false) × IsIdle choice
+  IsPassed choice = (very ≡ false) × IsPruned choice
 
-  passes-choices : (xs ys : List (List ℕ)) → Passes IsPassed xs ys → Passes (AllByRecursion Idle) (map (block None) xs) (map (block None) ys)
-  passes-choices xs ys passes = passes-map IsPassed (AllByRecursion Idle) (block None) xs ys (λ choice passed. each choice passed.1) passes
+  passes-choices : (xs ys : List (List ℕ)) → Passes IsPassed xs ys → Passes (AllByRecursion Pruned) (map (block None) xs) (map (block None) ys)
+  passes-choices xs ys passes = passes-map IsPassed (AllByRecursion Pruned) (block None) xs ys (λ choice passed. each choice passed.1) passes
 
   none-in : very ≡ true → (front : List (List ℕ)) → AllByRecursion IsPassed front → front ≡ []
   none-in is [] passed = refl
@@ -107,17 +107,17 @@ module _ (Idle : Arrangement → Type 0) (part : Arrangement → List ℕ) (bloc
   none-passed-over : very ≡ true → (xs ys : List (List ℕ)) → Passes IsPassed xs ys → xs ≡ ys
   none-passed-over is xs ys (front, same, passed) = same ∙ ap (λ list. list ++ ys) (none-in is front passed)
 
-  pub comes : (own : Option Arrangement) → very ≡ is_some own → (xs ys : List (List ℕ)) (choice : List ℕ) → Passes IsPassed xs (choice ∷ ys) → Passes (AllByRecursion Idle) (blocks_from part block own xs) (block (if_own part own choice) choice ∷ map (block None) ys)
+  pub comes : (own : Option Arrangement) → very ≡ is_some own → (xs ys : List (List ℕ)) (choice : List ℕ) → Passes IsPassed xs (choice ∷ ys) → Passes (AllByRecursion Pruned) (blocks_from part block own xs) (block (if_own part own choice) choice ∷ map (block None) ys)
   comes None is xs ys choice passes = passes-choices xs (choice ∷ ys) passes
   comes (Some own) is xs ys choice passes =
-      passes-none (AllByRecursion Idle) _ _ (block-comes part block (Some own) choice xs ys (none-passed-over is xs (choice ∷ ys) passes))
+      passes-none (AllByRecursion Pruned) _ _ (block-comes part block (Some own) choice xs ys (none-passed-over is xs (choice ∷ ys) passes))
 
-  pub ends : (own : Option Arrangement) → very ≡ is_some own → (xs : List (List ℕ)) → Passes IsPassed xs [] → Passes (AllByRecursion Idle) (blocks_from part block own xs) []
+  pub ends : (own : Option Arrangement) → very ≡ is_some own → (xs : List (List ℕ)) → Passes IsPassed xs [] → Passes (AllByRecursion Pruned) (blocks_from part block own xs) []
   ends None is xs passes = passes-choices xs [] passes
   ends (Some own) is xs passes =
-      passes-none (AllByRecursion Idle) _ _ (ap (blocks_from part block (Some own)) (none-passed-over is xs [] passes))
+      passes-none (AllByRecursion Pruned) _ _ (ap (blocks_from part block (Some own)) (none-passed-over is xs [] passes))
 
-  pub stops : (own : Option Arrangement) → very ≡ is_some own → (xs ys : List (List ℕ)) → Passes IsPassed xs ys → Passes (AllByRecursion Idle) (blocks_from part block own xs) (blocks_from part block own ys)
+  pub stops : (own : Option Arrangement) → very ≡ is_some own → (xs ys : List (List ℕ)) → Passes IsPassed xs ys → Passes (AllByRecursion Pruned) (blocks_from part block own xs) (blocks_from part block own ys)
   stops None is xs ys passes = passes-choices xs ys passes
   stops (Some own) is xs ys passes =
-      passes-none (AllByRecursion Idle) _ _ (ap (blocks_from part block (Some own)) (none-passed-over is xs ys passes))
+      passes-none (AllByRecursion Pruned) _ _ (ap (blocks_from part block (Some own)) (none-passed-over is xs ys passes))

@@ -1,4 +1,4 @@
-// What can tell that all candidates with a given beginning are idle: they may be passed over. Then a listing may leave
+// What can tell that all candidates with a given beginning are pruned: they may be passed over. Then a listing may leave
 // them all out. A bound works its answer out in its `Room`, which the caller of the listing lends to each question: so
 // no question makes a list. It may keep there what the next question can use, since the next beginning is often nearly
 // the same.
@@ -12,7 +12,7 @@ ghost use Rattle.dutch_arrangements.specs.declared.bracket.Shape.{Shape};
 use dutch_arrangements::Prefix;
 use dutch_sequence::Exchange;
 
-/// Tells by how candidates of a bracket and a shape begin that they are idle. It answers for all beginnings.
+/// Tells by how candidates of a bracket and a shape begin that they are pruned. It answers for all beginnings.
 pub trait Bound {
     /// Room in which it works a question out. It is lent for each question, so that no question makes it anew.
     type Room;
@@ -32,24 +32,24 @@ pub trait Bound {
     /// Who may be the one left over in it.
     ghost may_be_left: { Self → ℕ → Bool };
 
-    /// A candidate is idle: it may be passed over.
-    ghost is_idle: { Self → Arrangement → Bool };
+    /// A candidate is pruned: it may be passed over.
+    ghost is_pruned: { Self → Arrangement → Bool };
 
     /// Makes the room ready for questions, whatever stands in it.
     fn start(&self, room: &mut Self::Room)
         ensures { Holds self.now room.new };
 
-    /// Yes if it knows that every candidate with this beginning is idle. A no says nothing. The room is ready then for
+    /// Yes if it knows that every candidate with this beginning is pruned. A no says nothing. The room is ready then for
     /// the next question.
     fn cannot_win(&self, prefix: &Prefix<'_>, room: &mut Self::Room) -> bool
         requires { Holds self.now room.old }
-        ensures idle { result ≡ true → (a : Arrangement)
+        ensures pruned { result ≡ true → (a : Arrangement)
             → IsIn a (candidates (meets self.now) (may_be_left self.now) (frame self.now) (shape self.now))
-            → Begins prefix.now a → is_idle self.now a ≡ true }
+            → Begins prefix.now a → is_pruned self.now a ≡ true }
         ensures ready { Holds self.now room.new };
 
     /// Yes if it knows that every candidate with this beginning, whose S1 and S2 are chosen, and with such an S1R is
-    /// idle. A no says nothing.
+    /// pruned. A no says nothing.
     fn cannot_win_with(
         &self,
         prefix: &Prefix<'_>,
@@ -58,5 +58,5 @@ pub trait Bound {
     ) -> bool
         ensures { result ≡ true → (a : Arrangement)
             → IsIn a (candidates (meets self.now) (may_be_left self.now) (frame self.now) (shape self.now))
-            → Begins prefix.now a → IsExchange exchange.now a.s1r → is_idle self.now a ≡ true };
+            → Begins prefix.now a → IsExchange exchange.now a.s1r → is_pruned self.now a ≡ true };
 }

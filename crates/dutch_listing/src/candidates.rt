@@ -98,21 +98,21 @@ fn draw_listed<L: Arranges, C: Cuts>(
     lists: &mut Arrangement,
     budget: &mut Budget,
 ) -> Drawn
-    ensures answer { let Idle = C.Idle cuts.old in
+    ensures answer { let Pruned = C.Pruned cuts.old in
         let before = listed drawing.old.kept ++ L.coming drawing.old.level in
         MatchDrawn result
-        (Passes Idle before (lists.new ∷ L.coming drawing.new.level))
-        (Passes Idle before [])
-        (Passes Idle before (L.coming drawing.new.level)
+        (Passes Pruned before (lists.new ∷ L.coming drawing.new.level))
+        (Passes Pruned before [])
+        (Passes Pruned before (L.coming drawing.new.level)
         × (budget.new.used ≡ budget.new.limit)) }
     ensures taken { drawing.new.kept ≡ None }
-    ensures keeps { (a : Arrangement) → C.Idle cuts.new a → C.Idle cuts.old a }
+    ensures keeps { (a : Arrangement) → C.Pruned cuts.new a → C.Pruned cuts.old a }
     ensures spends { Spends budget.old budget.new }
 {
     Ok(drawing.kept.take(lists) || drawing.level.next(cuts, lists, budget)?)
 }
 
-/// What an arrangement is asked: whom it leaves over in its bracket, whether the rule lets it, and whether it is idle.
+/// What an arrangement is asked: whom it leaves over in its bracket, whether the rule lets it, and whether it is pruned.
 #[derive(Drop)]
 struct Tests<'q, 'c, R, C> {
     bracket: &'q Bracket,
@@ -120,7 +120,7 @@ struct Tests<'q, 'c, R, C> {
     cuts: &'c mut C,
 }
 
-/// Draws the next arrangement that leaves over whom its bracket may leave. It may skip those that are known to be idle.
+/// Draws the next arrangement that leaves over whom its bracket may leave. It may skip those that are known to be pruned.
 fn draw_legal<R: Rule, L: Arranges, C: Cuts>(
     tests: &mut Tests<'_, '_, R, C>,
     drawing: &mut Drawing<L>,
@@ -131,12 +131,12 @@ fn draw_legal<R: Rule, L: Arranges, C: Cuts>(
         let may = may_leave (R.may_be_left tests.old.rule.now) frame in
         let before = filter may (listed drawing.old.kept ++ L.coming drawing.old.level) in
         let after = filter may (listed drawing.new.kept ++ L.coming drawing.new.level) in
-        let Idle = C.Idle tests.old.cuts.now in
+        let Pruned = C.Pruned tests.old.cuts.now in
         MatchDrawn result
-        (Passes Idle before (candidate.new.lists ∷ after)
+        (Passes Pruned before (candidate.new.lists ∷ after)
         × (candidate.new.down ≡ down frame candidate.new.lists))
-        (Passes Idle before [])
-        (Passes Idle before after × (budget.new.used ≡ budget.new.limit)) }
+        (Passes Pruned before [])
+        (Passes Pruned before after × (budget.new.used ≡ budget.new.limit)) }
     ensures spends { Spends budget.old budget.new }
 {
     loop {
@@ -174,7 +174,7 @@ fn start_drawing<'a, R: Rule>(
 }
 
 /// The same answer, with the candidate that was filled where one was found.
-fn holding(step: Step<()>, filled: Candidate) -> Step<Candidate>
+fn with_candidate(step: Step<()>, filled: Candidate) -> Step<Candidate>
     ensures { MatchStep step (λ _. result ≡ Found filled) (result ≡ End) (result ≡ Undecided) }
 {
     match step {
@@ -322,7 +322,7 @@ impl<'a, R: Rule> Candidates<'a, R> {
         self.begin(FittingShape { bracket, shape }, None);
     }
 
-    // The next candidate. Those that are known to be idle may be skipped.
+    // The next candidate. Those that are known to be pruned may be skipped.
     fn go_on<C: Cuts>(
         &mut self,
         cuts: &mut C,
@@ -330,9 +330,9 @@ impl<'a, R: Rule> Candidates<'a, R> {
         budget: &mut Budget,
     ) -> Step<()>
         ensures answer { MatchStep result
-            (λ _. GivesPast self.old self.new (C.Idle cuts.old) candidate.new)
-            (EndsPast self.old self.new (C.Idle cuts.old))
-            (StopsPast self.old self.new (C.Idle cuts.old) budget.new) }
+            (λ _. GivesPast self.old self.new (C.Pruned cuts.old) candidate.new)
+            (EndsPast self.old self.new (C.Pruned cuts.old))
+            (StopsPast self.old self.new (C.Pruned cuts.old) budget.new) }
         ensures candidates { AreCandidates (R.meets self.old.rule)
             (R.may_be_left self.old.rule) self.old.frame self.old.shape self.old.coming }
         ensures too_many_left { leaves_too_many self.old.frame self.old.shape ≡ true
@@ -403,16 +403,16 @@ impl<'a, R: Rule> Candidates<'a, R> {
     {
         let mut candidate = Candidate::empty();
         let step = self.put_next(&mut candidate, budget);
-        holding(step, candidate)
+        with_candidate(step, candidate)
     }
 
-    /// Fills `candidate` with the next one, and may leave out those that the bound knows to be idle. The bound is asked
+    /// Fills `candidate` with the next one, and may leave out those that the bound knows to be pruned. The bound is asked
     /// about beginnings of arrangements, which takes no step: about the empty one at each call, and about others while
     /// a list is filled. And once S1 and S2 are chosen it is asked about exchanges: about all of one number and one
     /// difference, which is a step if they are left out, and about those that begin alike, which is none. `Found` says
-    /// that `candidate` has one; all that were to come before it are idle, and those behind it are still to come. `End`
-    /// says that all that were to come are idle; then none is to come. `Undecided` says that the budget was used up
-    /// first; then a part of what was to come is idle, and the rest is still to come. After `End` every further call
+    /// that `candidate` has one; all that were to come before it are pruned, and those behind it are still to come. `End`
+    /// says that all that were to come are pruned; then none is to come. `Undecided` says that the budget was used up
+    /// first; then a part of what was to come is pruned, and the rest is still to come. After `End` every further call
     /// answers `End` without a step.
     pub fn put_next_within<B: Bound>(
         &mut self,
@@ -425,9 +425,9 @@ impl<'a, R: Rule> Candidates<'a, R> {
         requires meets { B.meets within.old.bound.now ≡ R.meets self.old.rule }
         requires may_be_left { B.may_be_left within.old.bound.now ≡ R.may_be_left self.old.rule }
         ensures answer { MatchStep result
-            (λ _. GivesPast self.old self.new (λ a. B.is_idle within.old.bound.now a ≡ true) candidate.new)
-            (EndsPast self.old self.new (λ a. B.is_idle within.old.bound.now a ≡ true))
-            (StopsPast self.old self.new (λ a. B.is_idle within.old.bound.now a ≡ true) budget.new) }
+            (λ _. GivesPast self.old self.new (λ a. B.is_pruned within.old.bound.now a ≡ true) candidate.new)
+            (EndsPast self.old self.new (λ a. B.is_pruned within.old.bound.now a ≡ true))
+            (StopsPast self.old self.new (λ a. B.is_pruned within.old.bound.now a ≡ true) budget.new) }
         ensures too_many_left { leaves_too_many self.old.frame self.old.shape ≡ true
             → EndsAtOnce result budget.old budget.new }
         ensures ended { TellsEnd self.old self.new result }
@@ -452,9 +452,9 @@ impl<'a, R: Rule> Candidates<'a, R> {
         requires meets { B.meets bound.now ≡ R.meets self.old.rule }
         requires may_be_left { B.may_be_left bound.now ≡ R.may_be_left self.old.rule }
         ensures answer { MatchStep result
-            (λ c. GivesPast self.old self.new (λ a. B.is_idle bound.now a ≡ true) c)
-            (EndsPast self.old self.new (λ a. B.is_idle bound.now a ≡ true))
-            (StopsPast self.old self.new (λ a. B.is_idle bound.now a ≡ true) budget.new) }
+            (λ c. GivesPast self.old self.new (λ a. B.is_pruned bound.now a ≡ true) c)
+            (EndsPast self.old self.new (λ a. B.is_pruned bound.now a ≡ true))
+            (StopsPast self.old self.new (λ a. B.is_pruned bound.now a ≡ true) budget.new) }
         ensures too_many_left { leaves_too_many self.old.frame self.old.shape ≡ true
             → EndsAtOnce result budget.old budget.new }
         ensures ended { TellsEnd self.old self.new result }
@@ -467,7 +467,7 @@ impl<'a, R: Rule> Candidates<'a, R> {
         let mut candidate = Candidate::empty();
         let mut within = BoundWithRoom { bound, room };
         let step = self.put_next_within(&mut within, &mut candidate, budget);
-        holding(step, candidate)
+        with_candidate(step, candidate)
     }
 
     /// The candidate handed out last, or before that, the one behind which the listing began. A later listing can go on

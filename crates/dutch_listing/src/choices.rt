@@ -114,7 +114,7 @@ impl<'a, R: Rule> ByS2r<'a, R> {
 fn is_own_s2r(resume: &LastArrangement, s2r: &Numbers) -> bool
     ensures { result ≡ is_some (if_own (λ a. a.s2r) resume.now s2r.now.items) }
 {
-    match resume.held() {
+    match resume.get() {
         Some(own) => is_same(s2r, &own.s2r),
         None => false,
     }
@@ -127,7 +127,7 @@ fn choose_other<R: Rule, C: Cuts>(
     cuts: &mut C,
     budget: &mut Budget,
 ) -> Drawn
-    ensures answer { let IsPassed = IsPassedTuple (C.Idle cuts.old) chosen.now.lists chosen.now.very_next in
+    ensures answer { let IsPassed = IsPassedTuple (C.Pruned cuts.old) chosen.now.lists chosen.now.very_next in
         MatchDrawn result
         (Passes IsPassed (without_own others.old.resume others.old.s2r.choices.coming)
         (others.new.s2r.latest.items ∷ without_own others.new.resume others.new.s2r.choices.coming))
@@ -135,7 +135,7 @@ fn choose_other<R: Rule, C: Cuts>(
         (Passes IsPassed (without_own others.old.resume others.old.s2r.choices.coming)
         (without_own others.new.resume others.new.s2r.choices.coming)
         × (budget.new.used ≡ budget.new.limit)) }
-    ensures keeps { (a : Arrangement) → C.Idle cuts.new a → C.Idle cuts.old a }
+    ensures keeps { (a : Arrangement) → C.Pruned cuts.new a → C.Pruned cuts.old a }
     ensures spends { Spends budget.old budget.new }
 {
     if !others.resume.is_held() {
@@ -267,7 +267,7 @@ impl<'a, R: Rule> ByS1r<'a, R> {
 fn own_by_s1r<'r>(resume: &'r LastArrangement, s1r: &Numbers) -> Option<&'r Arrangement>
     ensures { option_copied result ≡ if_own (λ a. a.s1r) resume.now s1r.now.items }
 {
-    let own = resume.held()?;
+    let own = resume.get()?;
     if is_same(s1r, &own.s1r) {
         Some(own)
     } else {
@@ -403,7 +403,7 @@ impl<'a, R: Rule> ByS2<'a, R> {
 fn own_by_s2<'r>(resume: &'r LastArrangement, s2: &Numbers) -> Option<&'r Arrangement>
     ensures { option_copied result ≡ if_own (λ a. a.s2) resume.now s2.now.items }
 {
-    let own = resume.held()?;
+    let own = resume.get()?;
     if is_same(s2, &own.s2) {
         Some(own)
     } else {
@@ -518,7 +518,7 @@ impl<'a, R: Rule> ByS1<'a, R> {
 fn own_by_s1<'r>(resume: &'r LastArrangement, s1: &Numbers) -> Option<&'r Arrangement>
     ensures { option_copied result ≡ if_own (λ a. a.s1) resume.now s1.now.items }
 {
-    let own = resume.held()?;
+    let own = resume.get()?;
     if is_same(s1, &own.s1) {
         Some(own)
     } else {

@@ -1,4 +1,4 @@
-// What the levels of a listing see of a bound: which beginnings lead to idle arrangements alone.
+// What the levels of a listing see of a bound: which beginnings lead to pruned arrangements alone.
 ghost use Rattle.std.specs.Prelude.{◌≡◌, true};
 ghost use Rattle.dutch_arrangements.specs.Arrangements.{Arrangement, candidates};
 ghost use Rattle.dutch_sequence.specs.Exchanged.{IsExchange};
@@ -9,10 +9,10 @@ use crate::bound::Bound;
 use dutch_arrangements::Prefix;
 use dutch_sequence::Exchange;
 
-/// Tells of a beginning of arrangements whether all arrangements that begin so are idle.
+/// Tells of a beginning of arrangements whether all arrangements that begin so are pruned.
 pub trait Cuts {
-    /// An arrangement is idle.
-    ghost Idle: { Self → Arrangement → Type 0 };
+    /// An arrangement is pruned.
+    ghost Pruned: { Self → Arrangement → Type 0 };
 
     /// It is ready for a question about a beginning.
     ghost Ready: { Self → Type 0 };
@@ -20,39 +20,39 @@ pub trait Cuts {
     /// Becomes ready for questions about beginnings.
     fn start(&mut self)
         ensures ready { Ready self.new }
-        ensures keeps { (a : Arrangement) → Idle self.new a → Idle self.old a };
+        ensures keeps { (a : Arrangement) → Pruned self.new a → Pruned self.old a };
 
-    /// Yes if all arrangements that begin so are known to be idle. A no says nothing.
+    /// Yes if all arrangements that begin so are known to be pruned. A no says nothing.
     fn cuts(&mut self, prefix: &Prefix<'_>) -> bool
         requires { Ready self.old }
-        ensures told { result ≡ true → (a : Arrangement) → Begins prefix.now a → Idle self.old a }
+        ensures told { result ≡ true → (a : Arrangement) → Begins prefix.now a → Pruned self.old a }
         ensures ready { Ready self.new }
-        ensures keeps { (a : Arrangement) → Idle self.new a → Idle self.old a };
+        ensures keeps { (a : Arrangement) → Pruned self.new a → Pruned self.old a };
 
-    /// Yes if all arrangements that begin so are known to be idle, as the answer to its first question. A no says
+    /// Yes if all arrangements that begin so are known to be pruned, as the answer to its first question. A no says
     /// nothing.
     fn cuts_at_first(&mut self, prefix: &Prefix<'_>) -> bool
-        ensures told { result ≡ true → (a : Arrangement) → Begins prefix.now a → Idle self.old a }
-        ensures keeps { (a : Arrangement) → Idle self.new a → Idle self.old a }
+        ensures told { result ≡ true → (a : Arrangement) → Begins prefix.now a → Pruned self.old a }
+        ensures keeps { (a : Arrangement) → Pruned self.new a → Pruned self.old a }
     {
         self.start();
         self.cuts(prefix)
     }
 
-    /// Yes if all arrangements that begin so, and whose S1R is such an exchange, are known to be idle. A no says
+    /// Yes if all arrangements that begin so, and whose S1R is such an exchange, are known to be pruned. A no says
     /// nothing.
     fn cuts_exchange(&mut self, prefix: &Prefix<'_>, exchange: &Exchange<'_>) -> bool
         ensures told { result ≡ true → (a : Arrangement) → Begins prefix.now a → IsExchange exchange.now a.s1r
-            → Idle self.old a }
-        ensures keeps { (a : Arrangement) → Idle self.new a → Idle self.old a };
+            → Pruned self.old a }
+        ensures keeps { (a : Arrangement) → Pruned self.new a → Pruned self.old a };
 }
 
-/// Tells of nothing: no arrangement is idle.
+/// Tells of nothing: no arrangement is pruned.
 #[derive(Drop)]
 pub struct NoCuts;
 
 impl Cuts for NoCuts {
-    ghost Idle = { λ _ _. ⊥ };
+    ghost Pruned = { λ _ _. ⊥ };
 
     ghost Ready = { λ _. Unit {0} };
 
@@ -67,8 +67,8 @@ impl Cuts for NoCuts {
     }
 }
 
-/// A bound, with the room that it is lent for one question after another. An arrangement is idle if it is no candidate,
-/// or an idle one.
+/// A bound, with the room that it is lent for one question after another. An arrangement is pruned if it is no candidate,
+/// or a pruned one.
 #[derive(Drop)]
 pub struct BoundWithRoom<'b, B: Bound> {
     pub bound: &'b B,
@@ -76,9 +76,9 @@ pub struct BoundWithRoom<'b, B: Bound> {
 }
 
 impl<'b, B: Bound> Cuts for BoundWithRoom<'b, B> {
-    ghost Idle = { λ w a.
+    ghost Pruned = { λ w a.
         IsIn a (candidates (B.meets w.bound.now) (B.may_be_left w.bound.now) (B.frame w.bound.now)
-        (B.shape w.bound.now)) → B.is_idle w.bound.now a ≡ true };
+        (B.shape w.bound.now)) → B.is_pruned w.bound.now a ≡ true };
 
     ghost Ready = { λ w. B.Holds w.bound.now w.room.now };
 

@@ -21,14 +21,14 @@ pub trait Arranges {
     /// The arrangements to come.
     ghost coming: { Self → List Arrangement };
 
-    /// Fills `lists` with the next arrangement. Those that are known to be idle may be skipped. If there is none,
-    /// all that were to come are idle; what is to come after that is nowhere said.
+    /// Fills `lists` with the next arrangement. Those that are known to be pruned may be skipped. If there is none,
+    /// all that were to come are pruned; what is to come after that is nowhere said.
     fn next<C: Cuts>(&mut self, cuts: &mut C, lists: &mut Arrangement, budget: &mut Budget) -> Drawn
         ensures answer { MatchDrawn result
-            (Passes (C.Idle cuts.old) (coming self.old) (lists.new ∷ coming self.new))
-            (Passes (C.Idle cuts.old) (coming self.old) [])
-            (Passes (C.Idle cuts.old) (coming self.old) (coming self.new) × (budget.new.used ≡ budget.new.limit)) }
-        ensures keeps { (a : Arrangement) → C.Idle cuts.new a → C.Idle cuts.old a }
+            (Passes (C.Pruned cuts.old) (coming self.old) (lists.new ∷ coming self.new))
+            (Passes (C.Pruned cuts.old) (coming self.old) [])
+            (Passes (C.Pruned cuts.old) (coming self.old) (coming self.new) × (budget.new.used ≡ budget.new.limit)) }
+        ensures keeps { (a : Arrangement) → C.Pruned cuts.new a → C.Pruned cuts.old a }
         ensures spends { Spends budget.old budget.new };
 }
 
@@ -39,7 +39,7 @@ pub trait Blocks {
     /// The blocks to come, each with the arrangements in it.
     ghost blocks: { Self → List (List Arrangement) };
 
-    /// Begins the next block in place. Blocks in which all are idle may be skipped.
+    /// Begins the next block in place. Blocks in which all are pruned may be skipped.
     fn next_block<C: Cuts>(
         &mut self,
         cuts: &mut C,
@@ -47,12 +47,12 @@ pub trait Blocks {
         budget: &mut Budget,
     ) -> Drawn
         ensures answer { MatchDrawn result
-            (Passes (AllByRecursion (C.Idle cuts.old)) (blocks self.old)
+            (Passes (AllByRecursion (C.Pruned cuts.old)) (blocks self.old)
             (Self.Block.coming block.new ∷ blocks self.new))
-            (Passes (AllByRecursion (C.Idle cuts.old)) (blocks self.old) [])
-            (Passes (AllByRecursion (C.Idle cuts.old)) (blocks self.old) (blocks self.new)
+            (Passes (AllByRecursion (C.Pruned cuts.old)) (blocks self.old) [])
+            (Passes (AllByRecursion (C.Pruned cuts.old)) (blocks self.old) (blocks self.new)
             × (budget.new.used ≡ budget.new.limit)) }
-        ensures keeps { (a : Arrangement) → C.Idle cuts.new a → C.Idle cuts.old a }
+        ensures keeps { (a : Arrangement) → C.Pruned cuts.new a → C.Pruned cuts.old a }
         ensures spends { Spends budget.old budget.new };
 }
 

@@ -1,5 +1,5 @@
-// The next choice past those that are known to be idle: at each beginning where the search of the choices stands still
-// the cuts are asked, and what they know to be idle is left.
+// The next choice past those that are known to be pruned: at each beginning where the search of the choices stands still
+// the cuts are asked, and what they know to be pruned is left.
 ghost use Rattle.std.specs.Prelude.{◌≡◌, ◌∷◌, []};
 ghost use Rattle.dutch_arrangements.specs.Arrangements.{Arrangement};
 ghost use Rattle.dutch_arrangements.specs.Past.{IsPassedSet, IsPassedTuple};
@@ -36,19 +36,19 @@ pub fn choose_next<G: Generator>(chooser: &mut Chooser<G>, budget: &mut Budget) 
     chooser.choices.put_next(&mut chooser.latest, budget)
 }
 
-/// Goes on to the next tuple for the list that is being filled. All that was passed over is idle.
+/// Goes on to the next tuple for the list that is being filled. All that was passed over is pruned.
 pub fn choose_tuple<R: Rule, C: Cuts>(
     tuples: &mut Chooser<Transpositions<'_, R>>,
     chosen: &Chosen<'_>,
     cuts: &mut C,
     budget: &mut Budget,
 ) -> Drawn
-    ensures answer { let IsPassed = IsPassedTuple (C.Idle cuts.old) chosen.now.lists chosen.now.very_next in
+    ensures answer { let IsPassed = IsPassedTuple (C.Pruned cuts.old) chosen.now.lists chosen.now.very_next in
         MatchDrawn result
         (Passes IsPassed tuples.old.choices.coming (tuples.new.latest.items ∷ tuples.new.choices.coming))
         (Passes IsPassed tuples.old.choices.coming [] × (tuples.new.choices.coming ≡ []))
         (Passes IsPassed tuples.old.choices.coming tuples.new.choices.coming × (budget.new.used ≡ budget.new.limit)) }
-    ensures keeps { (a : Arrangement) → C.Idle cuts.new a → C.Idle cuts.old a }
+    ensures keeps { (a : Arrangement) → C.Pruned cuts.new a → C.Pruned cuts.old a }
     ensures spends { Spends budget.old budget.new }
 {
     cuts.start();
@@ -65,19 +65,19 @@ pub fn choose_tuple<R: Rule, C: Cuts>(
     }
 }
 
-/// Goes on to the next S1R, where S1 and S2 are chosen. All that was passed over is idle.
+/// Goes on to the next S1R, where S1 and S2 are chosen. All that was passed over is pruned.
 pub fn choose_set<C: Cuts>(
     sets: &mut Chooser<Exchanges>,
     chosen: &Chosen<'_>,
     cuts: &mut C,
     budget: &mut Budget,
 ) -> Drawn
-    ensures answer { let IsPassed = IsPassedSet (C.Idle cuts.old) chosen.now.lists chosen.now.very_next in
+    ensures answer { let IsPassed = IsPassedSet (C.Pruned cuts.old) chosen.now.lists chosen.now.very_next in
         MatchDrawn result
         (Passes IsPassed sets.old.choices.coming (sets.new.latest.items ∷ sets.new.choices.coming))
         (Passes IsPassed sets.old.choices.coming [] × (sets.new.choices.coming ≡ []))
         (Passes IsPassed sets.old.choices.coming sets.new.choices.coming × (budget.new.used ≡ budget.new.limit)) }
-    ensures keeps { (a : Arrangement) → C.Idle cuts.new a → C.Idle cuts.old a }
+    ensures keeps { (a : Arrangement) → C.Pruned cuts.new a → C.Pruned cuts.old a }
     ensures spends { Spends budget.old budget.new }
 {
     loop {

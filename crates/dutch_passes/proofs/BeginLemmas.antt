@@ -1,4 +1,4 @@
--- A pass begins with all candidates of its shape, or with the first that can be chosen: those before it are idle.
+-- A pass begins with all candidates of its shape, or with the first that can be chosen: those before it are pruned.
 use Rattle.std.proofs.Common.{◌≡◌, Bool, Option, None, filter, inl, inr, refl, sym, ap, ◌∙◌, subst}
 use Rattle.std.proofs.lemmas.Bool.{and_parts}
 use Rattle.dutch_arrangements.specs.declared.bracket.Shape.{Shape}
@@ -14,8 +14,8 @@ use Rattle.dutch_choice.specs.declared.start.Start.TheVariants.{Anew}
 use Rattle.dutch_choice.specs.Prelude.{StandsAt, StandsBehindFirst, is_better_here}
 use Rattle.dutch_choice.proofs.Listings.{narrowed_here, narrowed_inside, wished_inside}
 use Rattle.dutch_passes.specs.declared.pass.Pass.{Pass}
-use Rattle.dutch_passes.specs.Prelude.{IsChosenNext, IsHere, IsKept, IsLentFor, ListsFor, LooksThrough, aim_in, best_near, best_yet, is_near, is_open, is_sought}
-use Rattle.dutch_passes.proofs.AimLemmas.{unfit_skipped}
+use Rattle.dutch_passes.specs.Prelude.{IsChosenNext, IsHere, IsIncumbent, IsLentFor, ListsFor, LooksThrough, target_in, best_near, best_yet, is_near, is_open, is_sought}
+use Rattle.dutch_passes.proofs.TargetLemmas.{unfit_skipped}
 use Rattle.dutch_passes.proofs.SkippedLemmas.{left_was_there}
 
 -- the one that stands drawn is of the bracket
@@ -26,12 +26,12 @@ drawn_is_here context shape listing drawn stands = record {
 }
 
 -- once it is looked at, the pass goes on behind it
-pub begun_behind : (pass : Pass) (kept : Option Best) (listing : Listing NarrowedRule) (drawn : Candidate) → StandsBehindFirst pass.shaped.context.now pass.shaped.shape listing drawn
-    → IsKept pass.shaped.context.now kept → IsChosenNext pass None kept drawn.lists → LooksThrough pass kept listing
+pub begun_behind : (pass : Pass) (incumbent : Option Best) (listing : Listing NarrowedRule) (drawn : Candidate) → StandsBehindFirst pass.shaped.context.now pass.shaped.shape listing drawn
+    → IsIncumbent pass.shaped.context.now incumbent → IsChosenNext pass None incumbent drawn.lists → LooksThrough pass incumbent listing
 unfolding best_near
-begun_behind pass kept listing drawn stands is next = record {
-  chosen = unfit_skipped pass.shaped.context.now pass.wish (aim_in pass.aim) _ _ stands.passes ∙ sym (next listing.coming);
-  kept_is = is;
+begun_behind pass incumbent listing drawn stands is next = record {
+  chosen = unfit_skipped pass.shaped.context.now pass.wish (target_in pass.target) _ _ stands.passes ∙ sym (next listing.coming);
+  incumbent_is = is;
   inside = λ lists m. left_was_there _ lists _ _ stands.passes (inr m);
   shape_is = stands.shape_is;
 }
@@ -42,13 +42,13 @@ pub begun_anew : (pass : Pass) (listing : Listing NarrowedRule) → IsOf pass.sh
 unfolding best_near best_yet
 begun_anew pass listing of' all shape =
     let context = pass.shaped.context.now in
-    let sought : Arrangement → Bool = is_sought context pass.wish (aim_in pass.aim) in
+    let sought : Arrangement → Bool = is_sought context pass.wish (target_in pass.target) in
     record {
       chosen = ap (best (is_better_here context))
           (wished_inside context pass.wish pass.shaped.shape of' pass.shaped.fits sought
-          (λ a is. (and_parts (can_be_chosen_here context a) (is_wished pass.wish a) (and_parts (is_open context pass.wish a) (is_near context (aim_in pass.aim) a) is).0).1)
+          (λ a is. (and_parts (can_be_chosen_here context a) (is_wished pass.wish a) (and_parts (is_open context pass.wish a) (is_near context (target_in pass.target) a) is).0).1)
           ∙ ap (filter sought) (sym all));
-      kept_is = tt;
+      incumbent_is = tt;
       inside = λ lists m. narrowed_inside context pass.wish pass.shaped.shape lists (subst (IsIn lists) all m);
       shape_is = shape;
     }

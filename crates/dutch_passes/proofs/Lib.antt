@@ -1,5 +1,5 @@
-pub mod AimLemmas
+pub mod TargetLemmas
 pub mod BeginLemmas
-pub mod KeptBest
+pub mod IncumbentLemmas
 pub mod KeptValues
 pub mod SkippedLemmas

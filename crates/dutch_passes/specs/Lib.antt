@@ -1,6 +1,6 @@
--- What the contracts of dutch_passes name: aims, what a pass keeps and draws, and remembered values of C.7.
-pub mod Kept
-pub mod Aims
+-- What the contracts of dutch_passes name: targets, incumbents, what a pass draws, and remembered values of C.7.
+pub mod Incumbent
+pub mod Targets
 pub mod Remembered
 pub mod Passes
 pub mod Prelude

@@ -1,12 +1,12 @@
 // What draws the candidates of a bracket for a pass (C.04.3 B.8).
 //
 // A guide may pass over candidates without a look at them, by whatever it knows of those that begin alike. It passes
-// over only those that are idle. Where few steps do not suffice it may weigh the pairs, and so know more.
+// over only those that are pruned. Where few steps do not suffice it may weigh the pairs, and so know more.
 ghost use Rattle.std.specs.Prelude.{◌≡◌, [], Option};
 ghost use Rattle.std.specs.Result.{MatchResult};
 ghost use Rattle.dutch_bracket.specs.Prelude.{Context};
 ghost use Rattle.dutch_candidates.specs.declared.wish.Wish.{Wish};
-ghost use Rattle.dutch_passes.specs.Passes.{Draws, ListsFor, PassesIdle};
+ghost use Rattle.dutch_passes.specs.Passes.{Draws, ListsFor, PassesPruned};
 ghost use Rattle.dutch_arrangements.specs.Prelude.{MatchDrawn, Spends};
 ghost use Rattle.dutch_arrangements.specs.declared.bracket.Shape.{Shape};
 
@@ -33,7 +33,7 @@ pub trait Guide {
     /// seats.
     ghost knows: { Self → Context → Shape → Option Wish → Type 0 };
 
-    /// Draws the next candidate of a pass that it does not know to be idle. Those that it passes over are idle. A no
+    /// Draws the next candidate of a pass that it does not know to be pruned. Those that it passes over are pruned. A no
     /// says that there is no other.
     fn draw(
         &mut self,
@@ -47,7 +47,7 @@ pub trait Guide {
         requires lists { ListsFor so_far.pass.now lister.old.listing }
         requires shape { lister.old.listing.shape ≡ so_far.pass.now.shaped.shape }
         ensures answer { MatchDrawn result (Draws so_far.entry lister.old lister.new)
-            (PassesIdle so_far.entry lister.old.listing.coming [])
+            (PassesPruned so_far.entry lister.old.listing.coming [])
             (budget.new.used ≡ budget.new.limit) }
         ensures known { knows self.new so_far.entry.pass.now.shaped.context.now so_far.entry.pass.now.shaped.shape
             so_far.entry.pass.now.wish }
@@ -60,7 +60,7 @@ pub trait Guide {
     fn can_weigh(&self, next: bool) -> bool;
 
     /// Weighs the pairs of the bracket, and of the next one, if that is wanted (C.7), so that it knows more of the
-    /// candidates that grant what is wished. It answers what a pass may aim at. Nothing is promised of an aim.
+    /// candidates that grant what is wished. It answers what a pass may have as its target. Nothing is promised of a target.
     fn weigh(
         &mut self,
         wish: Option<Wish>,

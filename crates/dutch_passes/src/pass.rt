@@ -3,42 +3,42 @@ ghost use Rattle.std.specs.Prelude.{◌≡◌, true, false};
 ghost use Rattle.dutch_arrangements.specs.Prelude.{Arrangement, IsExchange, IsIn};
 ghost use Rattle.dutch_bracket.specs.Prelude.{OfEachWithBeginning, candidates_in, quality_in};
 ghost use Rattle.dutch_candidates.specs.Wishes.{is_wished};
-ghost use Rattle.dutch_passes.specs.Aims.{aim_in, loses};
+ghost use Rattle.dutch_passes.specs.Targets.{target_in, loses};
 
-use crate::kept::Kept;
+use crate::incumbent::Incumbent;
 use dutch_arrangements::{Exchange, Prefix};
 use dutch_bracket::quality::Quality;
 use dutch_bracket::shaped::ShapedBracket;
 use dutch_candidates::wish::Wish;
 use dutch_choice::barred::{rules_out, rules_out_with};
 
-/// One pass over the candidates of a shape, in a bracket above all lower seats by rank. With an aim it seeks only those
-/// that the aim is not better than, and with a wish only those that grant it.
+/// One pass over the candidates of a shape, in a bracket above all lower seats by rank. With a target it seeks only those
+/// that the target is not better than, and with a wish only those that grant it.
 #[derive(Drop)]
 pub struct Pass<'a> {
     pub shaped: ShapedBracket<'a>,
     pub wish: Option<Wish>,
-    pub aim: Option<Quality>,
+    pub target: Option<Quality>,
 }
 
-/// A pass, and the candidate that it has kept so far.
+/// A pass, and its incumbent so far.
 #[derive(Clone, Copy)]
 pub struct PassSoFar<'a, 'k> {
     pub pass: &'a Pass<'a>,
-    pub kept: &'k Kept,
+    pub incumbent: &'k Incumbent,
 }
 
-/// Yes if the aim is better, or if the quality is not better than that of the candidate that is kept: then no candidate
+/// Yes if the target is better, or if the quality is not better than that of the incumbent: then no candidate
 /// with it takes the place of that one.
-pub fn loses(quality: &Quality, aim: &Option<Quality>, kept: &Kept) -> bool
-    ensures { result ≡ loses (aim_in aim.now) kept.now (quality_in quality.now) }
+pub fn loses(quality: &Quality, target: &Option<Quality>, incumbent: &Incumbent) -> bool
+    ensures { result ≡ loses (target_in target.now) incumbent.now (quality_in quality.now) }
 {
-    if let Some(aim) = aim {
-        if aim.is_better(quality) {
+    if let Some(target) = target {
+        if target.is_better(quality) {
             return true;
         }
     }
-    match kept.best() {
+    match incumbent.best() {
         Some(best) => !quality.is_better(&best.quality),
         None => false,
     }

@@ -8,7 +8,7 @@ ghost use Rattle.std.specs.Result.{MatchResult};
 ghost use Rattle.dutch_arrangements.specs.Prelude.{Spends};
 ghost use Rattle.dutch_choice.specs.Prelude.{IsBest};
 ghost use Rattle.dutch_choice.specs.declared.start.Start.TheVariants.{Anew};
-ghost use Rattle.dutch_passes.specs.Kept.{IsKept};
+ghost use Rattle.dutch_passes.specs.Incumbent.{IsIncumbent};
 ghost use Rattle.dutch_passes.specs.Passes.{IsChosenNext, IsEnd, IsHere, IsLentFor, ListsFor, LooksFor, LooksThrough};
 ghost use Rattle.dutch_passes.specs.Passes.{SeeksTheSame, near_of, wished_of};
 
@@ -34,8 +34,8 @@ pub struct PassRoom<'a, 'l, 'r, 'n, G: Guide> {
     pub start: Start,
 }
 
-/// Keeps a candidate in place of the one that is kept, if it grants what is wished, does not lose and can be chosen.
-#[tactic(auto, using(crate::proofs::AimLemmas::unwished_passed, crate::proofs::AimLemmas::loser_passed, crate::proofs::AimLemmas::winner_kept, crate::proofs::AimLemmas::unfit_passed))]
+/// Keeps a candidate in place of the incumbent, if it grants what is wished, does not lose and can be chosen.
+#[tactic(auto, using(crate::proofs::TargetLemmas::unwished_passed, crate::proofs::TargetLemmas::loser_passed, crate::proofs::TargetLemmas::winner_kept, crate::proofs::TargetLemmas::unfit_passed))]
 fn consider<G: Guide>(
     pass: &Pass<'_>,
     candidate: &Candidate,
@@ -43,12 +43,12 @@ fn consider<G: Guide>(
     budget: &mut Budget,
 ) -> Result<(), Stopped>
     requires candidate { IsHere pass.now.shaped.context.now candidate.now }
-    requires kept { IsKept pass.now.shaped.context.now judge.old.kept }
+    requires incumbent { IsIncumbent pass.now.shaped.context.now judge.old.incumbent }
     requires look { LooksFor pass.now judge.old.look }
     ensures answer { MatchResult result
-        (λ _. IsChosenNext pass.now judge.old.kept judge.new.kept candidate.now.lists)
+        (λ _. IsChosenNext pass.now judge.old.incumbent judge.new.incumbent candidate.now.lists)
         (λ _. budget.new.used ≡ budget.new.limit) }
-    ensures kept { IsKept pass.now.shaped.context.now judge.new.kept }
+    ensures incumbent { IsIncumbent pass.now.shaped.context.now judge.new.incumbent }
     ensures look { LooksFor pass.now judge.new.look }
     ensures guide { judge.new.guide ≡ judge.old.guide }
     ensures spends { Spends budget.old budget.new }
@@ -58,11 +58,11 @@ fn consider<G: Guide>(
     }
     judge_candidate(pass.shaped.context, candidate, judge, budget)?;
     let work = &mut *judge.work;
-    if loses(&work.room.quality, &pass.aim, &judge.kept) {
+    if loses(&work.room.quality, &pass.target, &judge.incumbent) {
         return Ok(());
     }
     if can_be_chosen(pass.shaped.context, candidate, &mut judge.left, budget)? {
-        judge.kept.keep(candidate, &mut work.room.quality);
+        judge.incumbent.keep(candidate, &mut work.room.quality);
     }
     Ok(())
 }
@@ -77,7 +77,7 @@ fn begin<G: Guide>(
     requires lister { IsLentFor pass.now search.old.start search.old.lister.now }
     requires look { LooksFor pass.now search.old.judge.value.look }
     ensures answer { MatchResult result
-        (λ _. LooksThrough pass.now search.new.judge.value.kept search.new.lister.now.listing)
+        (λ _. LooksThrough pass.now search.new.judge.value.incumbent search.new.lister.now.listing)
         (λ _. budget.new.used ≡ budget.new.limit) }
     ensures lists { ListsFor pass.now search.new.lister.now.listing }
     ensures start { search.new.start ≡ Anew }
@@ -86,7 +86,7 @@ fn begin<G: Guide>(
     ensures spends { Spends budget.old budget.new }
 {
     let judge = &mut *search.judge;
-    judge.kept.clear();
+    judge.incumbent.clear();
     match search.start {
         Start::Drawn => {
             search.start = Start::Anew;
@@ -107,12 +107,12 @@ fn go_on<'a, G: Guide>(
     judge: &mut Judge<'_, G>,
     budget: &mut Budget,
 ) -> Result<(), Stopped>
-    requires looks { LooksThrough pass.now judge.old.kept lister.old.listing }
+    requires looks { LooksThrough pass.now judge.old.incumbent lister.old.listing }
     requires lists { ListsFor pass.now lister.old.listing }
     requires look { LooksFor pass.now judge.old.look }
     requires guide { G.knows judge.old.guide.value pass.now.shaped.context.now pass.now.shaped.shape pass.now.wish }
     ensures answer { MatchResult result
-        (λ _. MatchOption judge.new.kept (near_of pass.now ≡ None)
+        (λ _. MatchOption judge.new.incumbent (near_of pass.now ≡ None)
         (IsBest pass.now.shaped.context.now (near_of pass.now)))
         (λ _. budget.new.used ≡ budget.new.limit) }
     ensures lists { ListsFor pass.now lister.new.listing }
@@ -123,7 +123,7 @@ fn go_on<'a, G: Guide>(
     while judge.guide.draw(
         PassSoFar {
             pass,
-            kept: &judge.kept,
+            incumbent: &judge.incumbent,
         },
         lister,
         &mut *judge.work,
@@ -146,7 +146,7 @@ fn best_near<'a, G: Guide>(
     requires look { LooksFor pass.now search.old.judge.value.look }
     requires guide { G.knows search.old.judge.value.guide.value pass.now.shaped.context.now pass.now.shaped.shape pass.now.wish }
     ensures answer { MatchResult result
-        (λ _. MatchOption search.new.judge.value.kept (near_of pass.now ≡ None)
+        (λ _. MatchOption search.new.judge.value.incumbent (near_of pass.now ≡ None)
         (IsBest pass.now.shaped.context.now (near_of pass.now)))
         (λ _. budget.new.used ≡ budget.new.limit) }
     ensures lister { IsLentFor pass.now search.new.start search.new.lister.now }
@@ -158,9 +158,9 @@ fn best_near<'a, G: Guide>(
     go_on(pass, search.lister, &mut *search.judge, budget)
 }
 
-/// Keeps what a pass with an aim chooses: the best of all. It keeps none if there is no aim, or if the pass finds none
+/// Keeps what a pass with a target chooses: the best of all. It keeps none if there is no target, or if the pass finds none
 /// that can be chosen, which says nothing of the choice.
-fn best_by_aim<'a, G: Guide>(
+fn best_by_target<'a, G: Guide>(
     pass: &'a Pass<'a>,
     search: &mut PassRoom<'_, '_, '_, '_, G>,
     budget: &mut Budget,
@@ -169,22 +169,22 @@ fn best_by_aim<'a, G: Guide>(
     requires look { LooksFor pass.now search.old.judge.value.look }
     requires guide { G.knows search.old.judge.value.guide.value pass.now.shaped.context.now pass.now.shaped.shape pass.now.wish }
     ensures answer { MatchResult result
-        (λ _. IfSome search.new.judge.value.kept (IsBest pass.now.shaped.context.now (wished_of pass.now)))
+        (λ _. IfSome search.new.judge.value.incumbent (IsBest pass.now.shaped.context.now (wished_of pass.now)))
         (λ _. budget.new.used ≡ budget.new.limit) }
     ensures lister { IsLentFor pass.now search.new.start search.new.lister.now }
     ensures look { LooksFor pass.now search.new.judge.value.look }
     ensures guide { G.knows search.new.judge.value.guide.value pass.now.shaped.context.now pass.now.shaped.shape pass.now.wish }
     ensures spends { Spends budget.old budget.new }
 {
-    if pass.aim.is_none() {
-        search.judge.kept.clear();
+    if pass.target.is_none() {
+        search.judge.incumbent.clear();
         return Ok(());
     }
     best_near(pass, search, budget)
 }
 
-/// Keeps what a pass with its aim ends with; if that is nothing, what the same pass without an aim ends with.
-#[tactic(auto, using(crate::proofs::AimLemmas::without_aim))]
+/// Keeps what a pass with its target ends with; if that is nothing, what the same pass without a target ends with.
+#[tactic(auto, using(crate::proofs::TargetLemmas::without_target))]
 fn best_in_passes<G: Guide>(
     pass: &mut Pass<'_>,
     search: &mut PassRoom<'_, '_, '_, '_, G>,
@@ -193,7 +193,7 @@ fn best_in_passes<G: Guide>(
     requires lister { IsLentFor pass.old search.old.start search.old.lister.now }
     requires look { LooksFor pass.old search.old.judge.value.look }
     requires guide { G.knows search.old.judge.value.guide.value pass.old.shaped.context.now pass.old.shaped.shape pass.old.wish }
-    ensures answer { MatchResult result (λ _. IsEnd pass.old search.new.judge.value.kept)
+    ensures answer { MatchResult result (λ _. IsEnd pass.old search.new.judge.value.incumbent)
         (λ _. budget.new.used ≡ budget.new.limit) }
     ensures lister { IsLentFor pass.old search.new.start search.new.lister.now }
     ensures look { LooksFor pass.old search.new.judge.value.look }
@@ -201,11 +201,11 @@ fn best_in_passes<G: Guide>(
     ensures pass { SeeksTheSame pass.old pass.new }
     ensures spends { Spends budget.old budget.new }
 {
-    best_by_aim(pass, search, budget)?;
-    if search.judge.kept.best().is_some() {
+    best_by_target(pass, search, budget)?;
+    if search.judge.incumbent.best().is_some() {
         return Ok(());
     }
-    pass.aim = None;
+    pass.target = None;
     best_near(pass, search, budget)
 }
 
@@ -237,7 +237,7 @@ fn best_within<G: Guide>(
     requires lister { IsLentFor pass.old search.old.start search.old.lister.now }
     requires look { LooksFor pass.old search.old.judge.value.look }
     requires guide { G.knows search.old.judge.value.guide.value pass.old.shaped.context.now pass.old.shaped.shape pass.old.wish }
-    ensures answer { MatchResult result (λ ended. ended ≡ true → IsEnd pass.old search.new.judge.value.kept)
+    ensures answer { MatchResult result (λ ended. ended ≡ true → IsEnd pass.old search.new.judge.value.incumbent)
         (λ _. budget.new.used ≡ budget.new.limit) }
     ensures lister { IsLentFor pass.old search.new.start search.new.lister.now }
     ensures look { LooksFor pass.old search.new.judge.value.look }
@@ -269,16 +269,16 @@ fn best_by_weight<G: Guide>(
     requires lister { IsLentFor pass.old search.old.start search.old.lister.now }
     requires look { LooksFor pass.old search.old.judge.value.look }
     requires guide { G.knows search.old.judge.value.guide.value pass.old.shaped.context.now pass.old.shaped.shape pass.old.wish }
-    ensures answer { MatchResult result (λ _. IsEnd pass.old search.new.judge.value.kept)
+    ensures answer { MatchResult result (λ _. IsEnd pass.old search.new.judge.value.incumbent)
         (λ _. budget.new.used ≡ budget.new.limit) }
     ensures spends { Spends budget.old budget.new }
 {
-    pass.aim = search.judge.guide.weigh(pass.wish, false, budget)?;
+    pass.target = search.judge.guide.weigh(pass.wish, false, budget)?;
     if tells_next(pass, &*search.judge.guide) {
         if best_within(pass, search, few.saturating_mul(4), budget)? {
             return Ok(());
         }
-        pass.aim = search.judge.guide.weigh(pass.wish, true, budget)?;
+        pass.target = search.judge.guide.weigh(pass.wish, true, budget)?;
     }
     best_in_passes(pass, search, budget)
 }
@@ -294,7 +294,7 @@ pub fn best_in_time<G: Guide>(
     requires lister { IsLentFor pass.old search.old.start search.old.lister.now }
     requires look { LooksFor pass.old search.old.judge.value.look }
     requires guide { G.knows search.old.judge.value.guide.value pass.old.shaped.context.now pass.old.shaped.shape pass.old.wish }
-    ensures answer { MatchResult result (λ _. IsEnd pass.old search.new.judge.value.kept)
+    ensures answer { MatchResult result (λ _. IsEnd pass.old search.new.judge.value.incumbent)
         (λ _. budget.new.used ≡ budget.new.limit) }
     ensures spends { Spends budget.old budget.new }
 {

@@ -17,7 +17,7 @@ ghost use Rattle.dutch_passes.specs.Passes.{IsHere};
 ghost use Rattle.dutch_arrangements.specs.Prelude.{Spends};
 
 use crate::guide::{Guide, Workroom};
-use crate::kept::Kept;
+use crate::incumbent::Incumbent;
 use dutch_arrangements::{Budget, Candidate, LIMIT, Numbers, Stopped};
 use dutch_bracket::context::Context;
 use dutch_bracket::fault::PairFault;
@@ -271,7 +271,7 @@ pub struct Judge<'a, G: Guide> {
     pub work: Box<Workroom<G::Notes>>,
     pub left: Seats,
     /// The best candidate so far, and in the end what is chosen.
-    pub kept: Kept,
+    pub incumbent: Incumbent,
     /// What draws the candidates.
     pub guide: Box<G>,
 }
@@ -290,7 +290,7 @@ pub(crate) fn judge_candidate<G: Guide>(
         (λ _. quality_in judge.new.work.value.room.quality ≡ quality_here context.now candidate.now.lists)
         (λ _. budget.new.used ≡ budget.new.limit) }
     ensures look { LooksBelow context.now judge.new.look }
-    ensures kept { judge.new.kept ≡ judge.old.kept }
+    ensures incumbent { judge.new.incumbent ≡ judge.old.incumbent }
     ensures guide { judge.new.guide ≡ judge.old.guide }
     ensures spends { Spends budget.old budget.new }
 {

@@ -91,7 +91,7 @@ impl Barrier {
 }
 
 /// The labels of a matching as a barrier, if they are one that blocks the round.
-fn confirmed(
+fn checked_barrier(
     alloc: Global,
     field: &Field,
     players: &[u16],
@@ -120,7 +120,7 @@ pub fn barrier_of(alloc: Global, field: &Field, steps: u64) -> Result<Option<Bar
     let all = everybody(field);
     let mut left = steps;
     match greatest(alloc, &Meetings::new(field, &all), &mut left) {
-        Ok(found) => confirmed(alloc, field, &all, &found),
+        Ok(found) => checked_barrier(alloc, field, &all, &found),
         Err(Fault::Stopped) => Ok(None),
         Err(Fault::OutOfMemory) => Err(PairFault::OutOfMemory),
     }

@@ -74,7 +74,7 @@ impl<'a> Bound for Wished<'a> {
     ghost may_be_left = { λ w. left_narrowed (Some w.wish)
         (number_may_be_left w.shaped.context.now.facts w.shaped.context.now.reached) };
 
-    ghost is_idle = { λ w a. not (grants w.wish a) };
+    ghost is_pruned = { λ w a. not (grants w.wish a) };
 
     ghost Holds = { λ _ _. Unit {0} };
 

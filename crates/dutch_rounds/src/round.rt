@@ -54,7 +54,11 @@ pub enum AllStages {
 }
 
 /// The pairs of the next round of a field, by seat, and the seat that has the bye, if one has.
-fn paired<F: Finder>(alloc: Global, field: &Field, limit: u64) -> Result<(Vec<Pair>, Seats), Halt>
+fn pairs_and_bye<F: Finder>(
+    alloc: Global,
+    field: &Field,
+    limit: u64,
+) -> Result<(Vec<Pair>, Seats), Halt>
     ensures { MatchResult result
         (λ made. ArePairs field.now made.0.items made.1.items × (completable field.now (everybody field.now) ≡ true))
         (IsHalt field.now limit) }
@@ -75,7 +79,7 @@ pub fn pair_round<F: Finder>(alloc: Global, field: &Field, limit: u64) -> Result
     ensures outcome { IfOk result (IsOutcome field.now limit) }
     ensures completion { IfOk result (TellsCompletion field.now) }
 {
-    match paired::<F>(alloc, field, limit) {
+    match pairs_and_bye::<F>(alloc, field, limit) {
         Ok((pairs, bye)) => Ok(Outcome::Paired(boards(alloc, field, &pairs, &bye)?)),
         Err(Halt::NoPairing) => Ok(Outcome::NoPairing),
         Err(Halt::Undecided { bracket, used }) => Ok(Outcome::Undecided { bracket, used }),

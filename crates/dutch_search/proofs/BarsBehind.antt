@@ -1,17 +1,17 @@
--- Where a floor lies beyond the bar of the candidate that is kept, or of the aim, no candidate behind it is better (C.04.3 C.6 to C.19).
+-- Where a floor lies beyond the bar of the incumbent, or of the target, no candidate behind it is better (C.04.3 C.6 to C.19).
 use Rattle.std.proofs.Common.{◌≡◌, ℕ, ◌<◌, ◌≤◌, ◌⊎◌, true, false, not, Option, Some, None, inl, inr, refl, ap, subst, ◌∙◌, arith}
 use Rattle.std.proofs.Math.Logic.{∥∥₁_elim}
 use Rattle.dutch_arrangements.specs.Prelude.{Arrangement, IsIn}
 use mathlib.Core.Bool.{Bool-set}
 use Rattle.dutch_bracket.specs.Prelude.{Quality, is_better, next_in, quality_in, candidates_in, quality_here}
-use Rattle.dutch_passes.specs.Prelude.{aim_in, beats, wins, kept_in}
+use Rattle.dutch_passes.specs.Prelude.{target_in, beats, wins, incumbent_in}
 use Rattle.dutch_search.specs.Prelude.{HasNoBetterNext, IsBehindAim, IsBehindKept, Weighs, context_of, pass_of}
 use Rattle.dutch_choice.specs.declared.finder.Best.{Best}
 use Rattle.dutch_bracket.specs.declared.quality.Quality.{Quality as Fields}
-use Rattle.dutch_weights.specs.declared.weight_floor.Bar.{Bar}
-use Rattle.dutch_weights.specs.Prelude.{HasBar, IsBar, Weighed}
+use Rattle.dutch_weight_floors.specs.declared.weight_floor.Bar.{Bar}
+use Rattle.dutch_weight_floors.specs.Prelude.{HasBar, IsBar, Weighed}
 use Rattle.dutch_search.specs.declared.skipper.Skipper.{Skipper}
-use Rattle.dutch_weights.proofs.WeightsBehind.{no_lighter, behind_all, then_worse}
+use Rattle.dutch_weight_floors.proofs.WeightsBehind.{no_lighter, behind_all, then_worse}
 
 module _ (s : Skipper) (a : Arrangement) (m : IsIn a (candidates_in (pass_of s).shaped)) (least : ℕ) (weighs : Weighs s least a) where
   abbrev it : Quality
@@ -44,19 +44,19 @@ module _ (s : Skipper) (a : Arrangement) (m : IsIn a (candidates_in (pass_of s).
   better_by None same f bar at' passed reaches = absurd at'
   better_by (Some w) same f bar at' passed reaches = better_here w same f bar at' passed reaches
 
-  -- the kept candidate is not worse than one that its bar reaches
-  pub behind_kept : (bar : Bar) (best : Best) → s.bars.now.kept ≡ Some bar → s.so_far.kept.now ≡ Some best → Reaches bar (quality_in best.quality) → IsBehindKept s a
-  behind_kept bar best bar_is there reaches =
+  -- the incumbent is not worse than one that its bar reaches
+  pub behind_incumbent : (bar : Bar) (best : Best) → s.bars.now.incumbent ≡ Some bar → s.so_far.incumbent.now ≡ Some best → Reaches bar (quality_in best.quality) → IsBehindKept s a
+  behind_incumbent bar best bar_is there reaches =
       ∥∥₁_elim s.best (Bool-set _ _) (λ has.
       let here' : HasBar s.weights.now (Some (quality_in best.quality)) (Some bar) =
       subst (λ (o : Option Bar). HasBar s.weights.now (Some (quality_in best.quality)) o) bar_is
-      (subst (λ (o : Option Best). HasBar s.weights.now (kept_in o) s.bars.now.kept) there has) in
+      (subst (λ (o : Option Best). HasBar s.weights.now (incumbent_in o) s.bars.now.incumbent) there has) in
       ap (λ (o : Option Best). not (wins it o)) there ∙ ap not (no_better_by s.weights.now refl (quality_in best.quality) bar here' reaches))
 
-  -- the aim is better than one beyond its bar
-  pub behind_aim : (bar : Bar) (aim : Fields) → s.bars.now.aim ≡ Some bar → (pass_of s).aim ≡ Some aim → bar.weight < least → Reaches bar (quality_in aim) → IsBehindAim s a
-  behind_aim bar aim bar_is there passed reaches =
-      ∥∥₁_elim s.aim (Bool-set _ _) (λ has.
-      let here' : HasBar s.weights.now (Some (quality_in aim)) (Some bar) =
-      subst (λ (o : Option Bar). HasBar s.weights.now (Some (quality_in aim)) o) bar_is (subst (λ (o : Option Fields). HasBar s.weights.now (aim_in o) s.bars.now.aim) there has) in
-      ap (λ (o : Option Fields). beats (aim_in o) it) there ∙ better_by s.weights.now refl (quality_in aim) bar here' passed reaches)
+  -- the target is better than one beyond its bar
+  pub behind_target : (bar : Bar) (target : Fields) → s.bars.now.target ≡ Some bar → (pass_of s).target ≡ Some target → bar.weight < least → Reaches bar (quality_in target) → IsBehindAim s a
+  behind_target bar target bar_is there passed reaches =
+      ∥∥₁_elim s.target (Bool-set _ _) (λ has.
+      let here' : HasBar s.weights.now (Some (quality_in target)) (Some bar) =
+      subst (λ (o : Option Bar). HasBar s.weights.now (Some (quality_in target)) o) bar_is (subst (λ (o : Option Fields). HasBar s.weights.now (target_in o) s.bars.now.target) there has) in
+      ap (λ (o : Option Fields). beats (target_in o) it) there ∙ better_by s.weights.now refl (quality_in target) bar here' passed reaches)

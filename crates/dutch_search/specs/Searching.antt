@@ -3,7 +3,7 @@ use Rattle.std.specs.Prelude.{Option}
 use Rattle.std.specs.Option.{ForSome}
 use Rattle.dutch_passes.specs.declared.pass.Pass.{Pass}
 use Rattle.dutch_floors.specs.Behind.{IsBasisFor}
-use Rattle.dutch_weights.specs.Prelude.{AreOf, Weighed}
+use Rattle.dutch_weight_floors.specs.Prelude.{AreOf, Weighed}
 use Rattle.dutch_search.specs.declared.both.BothFloors.{BothFloors}
 
 -- floors by weight, if there are any, are those of the bracket, the shape and the wish of a pass

@@ -3,9 +3,9 @@ use Rattle.std.specs.Prelude.{◌≡◌, ℕ, not, true}
 use Rattle.dutch_arrangements.specs.Prelude.{Arrangement, ExchangeClass, IsIn, Beginning}
 use Rattle.dutch_bracket.specs.Prelude.{Context, OfEachWithBeginning, candidates_in, quality_here, NextValue}
 use Rattle.dutch_passes.specs.declared.pass.Pass.{Pass}
-use Rattle.dutch_passes.specs.Prelude.{aim_in, beats, wins}
+use Rattle.dutch_passes.specs.Prelude.{target_in, beats, wins}
 use Rattle.dutch_search.specs.declared.skipper.Skipper.{Skipper}
-use Rattle.dutch_weights.specs.Prelude.{BeginsWith, KnowsNext, WeighsNoLess}
+use Rattle.dutch_weight_floors.specs.Prelude.{BeginsWith, KnowsNext, WeighsNoLess}
 
 module _ (skipper : Skipper) where
   -- the pass of a skipper
@@ -33,10 +33,10 @@ module _ (skipper : Skipper) where
   abbrev pub HasNoBetterNext : NextValue → Arrangement → Type 0
   HasNoBetterNext other a = KnowsNext skipper.weights.now (quality_here context_of a) other
 
-  -- the aim is better than a candidate
+  -- the target is better than a candidate
   abbrev pub IsBehindAim : Arrangement → Type 0
-  IsBehindAim a = beats (aim_in pass_of.aim) (quality_here context_of a) ≡ true
+  IsBehindAim a = beats (target_in pass_of.target) (quality_here context_of a) ≡ true
 
-  -- a candidate is not better than the one that is kept
+  -- a candidate is not better than the incumbent
   abbrev pub IsBehindKept : Arrangement → Type 0
-  IsBehindKept a = not (wins (quality_here context_of a) skipper.so_far.kept.now) ≡ true
+  IsBehindKept a = not (wins (quality_here context_of a) skipper.so_far.incumbent.now) ≡ true

@@ -5,7 +5,7 @@ ghost use Rattle.dutch_floors.specs.Behind.{IsBasisFor};
 use dutch_bracket::context::Context;
 use dutch_bracket::shaped::ShapedBracket;
 use dutch_floors::floor::Floors;
-use dutch_weights::weight_floor::WeightFloors;
+use dutch_weight_floors::weight_floor::WeightFloors;
 
 /// The more pairs the shape has, the shorter a turn is: its steps are divided by one, and by one more for each so many
 /// pairs.

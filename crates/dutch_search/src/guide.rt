@@ -4,9 +4,9 @@ ghost use Rattle.std.specs.Prelude.{◌≡◌, ◌+◌, ◌-◌, ◌<◌, ◌≤
 ghost use Rattle.std.specs.Option.{ForSome};
 ghost use Rattle.std.specs.Result.{MatchResult};
 ghost use Rattle.dutch_arrangements.specs.Prelude.{MatchStep, Spends};
-ghost use Rattle.dutch_passes.specs.Prelude.{Draws, ListsFor, PassesIdle, aim_in, kept_in};
+ghost use Rattle.dutch_passes.specs.Prelude.{Draws, ListsFor, PassesPruned, target_in, incumbent_in};
 ghost use Rattle.dutch_search.specs.Searching.{AreFor};
-ghost use Rattle.dutch_weights.specs.Prelude.{HasBar};
+ghost use Rattle.dutch_weight_floors.specs.Prelude.{HasBar};
 
 use crate::bars::bars_of;
 use crate::both::{BothFloors, LARGE_TURN, TURN_PAIRS, is_large, is_weighed};
@@ -21,9 +21,9 @@ use dutch_candidates::narrowed::NarrowedRule;
 use dutch_candidates::wish::Wish;
 use dutch_listing::BoundWithRoom;
 use dutch_passes::{Guide, PassSoFar, Workroom};
-use dutch_weights::asking::{Bars, FloorRequest};
-use dutch_weights::scope::Scope;
-use dutch_weights::weight_floor::WeightFloors;
+use dutch_weight_floors::asking::{Bars, FloorRequest};
+use dutch_weight_floors::scope::Scope;
+use dutch_weight_floors::weight_floor::WeightFloors;
 
 impl<'a> BothFloors<'a> {
     /// The steps of a turn. Without floors by weight they are all that are left. With them they are so many that
@@ -41,21 +41,21 @@ impl<'a> BothFloors<'a> {
                 limit: left,
             };
         };
-        let patience = weights.patience(budget.used);
+        let wait = weights.steps_before_asking(budget.used);
         let steps = if is_large(self.shaped.context) {
-            patience.saturating_mul(LARGE_TURN)
+            wait.saturating_mul(LARGE_TURN)
         } else {
-            patience / (1 + (self.shaped.shape.pairs / TURN_PAIRS) as u64)
+            wait / (1 + (self.shaped.shape.pairs / TURN_PAIRS) as u64)
         };
         let limit = steps.max(1).min(left);
         Budget { used: 0, limit }
     }
 
-    /// Tells which beginnings a pass may skip, by the bars of its aim and of the candidate that it keeps.
+    /// Tells which beginnings a pass may skip, by the bars of its target and of its incumbent.
     fn skipper<'k>(&'k self, so_far: PassSoFar<'k, 'k>, bars: &'k Bars) -> Skipper<'k, 'k>
         requires known { AreFor so_far.pass.now self.now }
-        requires aim { HasBar self.now.weights (aim_in so_far.pass.now.aim) bars.now.aim }
-        requires kept { HasBar self.now.weights (kept_in so_far.kept.now) bars.now.kept }
+        requires target { HasBar self.now.weights (target_in so_far.pass.now.target) bars.now.target }
+        requires incumbent { HasBar self.now.weights (incumbent_in so_far.incumbent.now) bars.now.incumbent }
         ensures { result.so_far ≡ so_far.entry }
     {
         Skipper {
@@ -66,7 +66,7 @@ impl<'a> BothFloors<'a> {
         }
     }
 
-    /// Keeps floors by weight, the first by a cheapest matching of the bracket. It answers what to aim at.
+    /// Keeps floors by weight, the first by a cheapest matching of the bracket. It answers the target.
     fn weigh_by(
         &mut self,
         weights: WeightFloors<'a>,
@@ -89,7 +89,7 @@ impl<'a> BothFloors<'a> {
         let found = weights.ask(&all, budget)?;
         weights.note(before, budget.used);
         self.weights = Some(weights);
-        Ok(self.aim_for(&found))
+        Ok(self.target_for(&found))
     }
 
     /// What follows a turn that found nothing, if steps are left: if pairs are weighed, further floors by weight are
@@ -118,7 +118,7 @@ impl<'a> BothFloors<'a> {
         match &mut self.weights {
             Some(weights) => {
                 let LastBeginning { scope, pairs } = &notes.last;
-                weights.tell_more(&FloorRequest { scope, pairs }, bars, budget)
+                weights.ask_more(&FloorRequest { scope, pairs }, bars, budget)
             }
             None => Ok(()),
         }
@@ -133,7 +133,7 @@ fn count(turn: &Budget, budget: &mut Budget)
     budget.used = budget.used.saturating_add(turn.used).min(budget.limit);
 }
 
-/// Draws the next candidate that is not known to be idle, in one turn.
+/// Draws the next candidate that is not known to be pruned, in one turn.
 fn draw_once(
     skipper: &Skipper<'_, '_>,
     lister: &mut Lister<'_, NarrowedRule<'_>>,
@@ -144,8 +144,8 @@ fn draw_once(
     requires shape { lister.old.listing.shape ≡ skipper.now.so_far.pass.now.shaped.shape }
     ensures answer { MatchStep result
         (λ _. Draws skipper.now.so_far lister.old lister.new)
-        (PassesIdle skipper.now.so_far lister.old.listing.coming [])
-        (PassesIdle skipper.now.so_far lister.old.listing.coming lister.new.listing.coming
+        (PassesPruned skipper.now.so_far lister.old.listing.coming [])
+        (PassesPruned skipper.now.so_far lister.old.listing.coming lister.new.listing.coming
         × (turn.new.used ≡ turn.new.limit)) }
     ensures frame { lister.new.listing.frame ≡ lister.old.listing.frame }
     ensures shape { lister.new.listing.shape ≡ lister.old.listing.shape }
@@ -167,7 +167,7 @@ impl<'a> Guide for BothFloors<'a> {
     ghost use Rattle.std.specs.Prelude.{◌≡◌};
     ghost use Rattle.std.specs.Option.{ForSome};
     ghost use Rattle.dutch_floors.specs.Behind.{IsBasis};
-    ghost use Rattle.dutch_weights.specs.Prelude.{AreOf};
+    ghost use Rattle.dutch_weight_floors.specs.Prelude.{AreOf};
 
     ghost knows = { λ floors context shape wish. (floors.shaped.context.now ≡ context) × ((floors.shaped.shape ≡ shape)
         × (IsBasis context.facts context.reached context.lower shape floors.counts
@@ -211,10 +211,10 @@ impl<'a> Guide for BothFloors<'a> {
         if is_weighed(context, next) {
             spend((count * count) as u64 / LOOKS_IN_A_STEP, budget)?;
             // (where memory is refused or a weight does not fit, no floors are found)
-            if let Ok(Some(weights)) = WeightFloors::weighed(context, shape, wish, next) {
+            if let Ok(Some(weights)) = WeightFloors::weigh(context, shape, wish, next) {
                 return self.weigh_by(weights, budget);
             }
         }
-        Ok(self.counts.aim())
+        Ok(self.counts.target())
     }
 }

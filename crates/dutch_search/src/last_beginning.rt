@@ -3,7 +3,7 @@ use arrayvec::ArrayVec;
 use dutch_arrangements::{LIMIT, Prefix};
 use dutch_bracket::seated::Pair;
 use dutch_floors::notes::FloorNotes;
-use dutch_weights::scope::Scope;
+use dutch_weight_floors::scope::Scope;
 
 /// The beginning that a walk asked about last. If the steps end, the walk is stuck there.
 #[derive(Default, Drop)]

@@ -1,14 +1,14 @@
-// What a pass over the candidates of a shape may skip (C.04.3 B.8), specified by the candidates that are idle.
+// What a pass over the candidates of a shape may skip (C.04.3 B.8), specified by the candidates that are pruned.
 //
-// A candidate is idle if it cannot be chosen, if it does not grant what is wished, or if it loses: the aim of the pass
-// is better than it, or it is not better than the candidate that is kept. The candidates are listed by the rules of the
+// A candidate is pruned if it cannot be chosen, if it does not grant what is wished, or if it loses: the target of the pass
+// is better than it, or it is not better than the incumbent. The candidates are listed by the rules of the
 // bracket, narrowed to the wish; if a beginning rules the wish out, no candidate with it grants the wish. The floor of
 // a beginning is a quality that no candidate with it is better than: if the floor loses, they all lose. With a wish, a
 // floor that holds only for those that grant it is enough, as floors by weight do.
 ghost use Rattle.std.specs.Prelude.{◌≡◌, true, false};
 ghost use Rattle.dutch_bracket.specs.Prelude.{quality_here, HasNoBetter, is_better, next_in, quality_in};
 ghost use Rattle.dutch_floors.specs.KnownPairs.{AreKnown};
-ghost use Rattle.dutch_passes.specs.Prelude.{Loses, LosesIfOpen, is_idle_to};
+ghost use Rattle.dutch_passes.specs.Prelude.{Loses, LosesIfOpen, is_pruned_by};
 ghost use Rattle.dutch_search.specs.Skips.{HasNoBetterNext, IsBehindAim, IsBehindKept, OfEach, OfEachWith, Weighs};
 ghost use Rattle.dutch_search.specs.Skips.{context_of};
 
@@ -42,27 +42,30 @@ impl<'a, 'k> Skipper<'a, 'k> {
         self.counts.has_no_better_next(prefix, quality)
     }
 
-    /// How many miss their preference in the aim and in the candidate that is kept (C.10): the lesser number, and the
+    /// How many miss their preference in the target and in the incumbent (C.10): the lesser number, and the
     /// greater one.
     fn missed_bars(&self) -> (u16, u16) {
-        let aim = self.so_far.pass.aim.as_ref();
-        let kept = self.so_far.kept.best();
-        match (aim, kept) {
-            (Some(aim), Some(kept)) => {
-                let (aim, kept) = (aim.missed_preferences, kept.quality.missed_preferences);
-                (aim.min(kept), aim.max(kept))
+        let target = self.so_far.pass.target.as_ref();
+        let incumbent = self.so_far.incumbent.best();
+        match (target, incumbent) {
+            (Some(target), Some(incumbent)) => {
+                let (target, incumbent) = (
+                    target.missed_preferences,
+                    incumbent.quality.missed_preferences,
+                );
+                (target.min(incumbent), target.max(incumbent))
             }
-            (Some(aim), None) => (aim.missed_preferences, aim.missed_preferences),
-            (None, Some(kept)) => {
-                let kept = &kept.quality;
-                (kept.missed_preferences, kept.missed_preferences)
+            (Some(target), None) => (target.missed_preferences, target.missed_preferences),
+            (None, Some(incumbent)) => {
+                let incumbent = &incumbent.quality;
+                (incumbent.missed_preferences, incumbent.missed_preferences)
             }
             (None, None) => (0, u16::MAX),
         }
     }
 
     /// Yes if all candidates with a beginning lose by counts. A no says nothing.
-    #[tactic(auto, using(dutch_passes::proofs::AimLemmas::floor_loses))]
+    #[tactic(auto, using(dutch_passes::proofs::TargetLemmas::floor_loses))]
     fn loses_by_counts(&self, prefix: &Prefix<'_>, work: &mut Workroom<WalkNotes>) -> bool
         requires known { AreKnown self.now.counts.now work.old.notes.floors.known }
         ensures loses { result ≡ true → OfEach self.now prefix.now (Loses self.now.so_far) }
@@ -77,7 +80,11 @@ impl<'a, 'k> Skipper<'a, 'k> {
         if !self.fill_floor(&asked, work) {
             return false;
         }
-        loses(&work.room.quality, &self.so_far.pass.aim, self.so_far.kept)
+        loses(
+            &work.room.quality,
+            &self.so_far.pass.target,
+            self.so_far.incumbent,
+        )
     }
 
     /// Yes if C.7 needs no further look: the weights tell of the next bracket, or by counts no candidate with a
@@ -92,32 +99,32 @@ impl<'a, 'k> Skipper<'a, 'k> {
         }
     }
 
-    /// Yes if the aim is better than every candidate with a beginning that weighs so much at least. The aim is better
+    /// Yes if the target is better than every candidate with a beginning that weighs so much at least. The target is better
     /// than a candidate that weighs more, if that has a higher PSD or no better value of the next bracket (C.6, C.7).
-    fn is_behind_aim(&self, prefix: &Prefix<'_>, least: Wide) -> bool
+    fn is_behind_target(&self, prefix: &Prefix<'_>, least: Wide) -> bool
         ensures { result ≡ true
             → OfEach self.now prefix.now (λ a. Weighs self.now least a → IsBehindAim self.now a) }
     {
-        let Some(bar) = &self.bars.aim else {
+        let Some(bar) = &self.bars.target else {
             return false;
         };
-        let Some(aim) = &self.so_far.pass.aim else {
+        let Some(target) = &self.so_far.pass.target else {
             return false;
         };
-        bar.is_passed(least) && (bar.is_above(least) || self.knows_next(prefix, aim))
+        bar.is_passed(least) && (bar.is_above(least) || self.knows_next(prefix, target))
     }
 
-    /// Yes if no candidate with a beginning that weighs so much at least is better than the one that is kept. One that
+    /// Yes if no candidate with a beginning that weighs so much at least is better than the incumbent. One that
     /// weighs no less than that is not better, if it has a higher PSD or no better value of the next bracket (C.6,
     /// C.7).
-    fn is_behind_kept(&self, prefix: &Prefix<'_>, least: Wide) -> bool
+    fn is_behind_incumbent(&self, prefix: &Prefix<'_>, least: Wide) -> bool
         ensures { result ≡ true
             → OfEach self.now prefix.now (λ a. Weighs self.now least a → IsBehindKept self.now a) }
     {
-        let Some(bar) = &self.bars.kept else {
+        let Some(bar) = &self.bars.incumbent else {
             return false;
         };
-        let Some(best) = self.so_far.kept.best() else {
+        let Some(best) = self.so_far.incumbent.best() else {
             return false;
         };
         bar.is_above(least) || (bar.is_reached(least) && self.knows_next(prefix, &best.quality))
@@ -133,7 +140,7 @@ impl<'a, 'k> Skipper<'a, 'k> {
         let Some(least) = weights.least_by(place, prefix) else {
             return false;
         };
-        self.is_behind_kept(prefix, least) || self.is_behind_aim(prefix, least)
+        self.is_behind_incumbent(prefix, least) || self.is_behind_target(prefix, least)
     }
 
     /// Yes if all candidates with a beginning lose by any of the floors by weight. A no says nothing.
@@ -164,7 +171,7 @@ impl<'a, 'k> Skipper<'a, 'k> {
         let Some(least) = weights.least_with(place, prefix, exchange) else {
             return false;
         };
-        self.is_behind_kept(prefix, least) || self.is_behind_aim(prefix, least)
+        self.is_behind_incumbent(prefix, least) || self.is_behind_target(prefix, least)
     }
 
     /// Yes if all candidates with a beginning and such an S1R lose by a floor that counts the order of S1R. A no says
@@ -190,7 +197,7 @@ impl<'a, 'k> Bound for Skipper<'a, 'k> {
     ghost use Rattle.dutch_bracket.specs.Prelude.{frame_here, numbers_meet, number_may_be_left};
     ghost use Rattle.dutch_candidates.specs.Wishes.{left_narrowed, meets_narrowed};
     ghost use Rattle.dutch_floors.specs.KnownPairs.{AreKnown};
-    ghost use Rattle.dutch_passes.specs.Prelude.{is_idle_to};
+    ghost use Rattle.dutch_passes.specs.Prelude.{is_pruned_by};
     ghost use Rattle.dutch_search.specs.Skips.{context_of};
 
     ghost frame = { λ s. frame_here (context_of s) };
@@ -203,7 +210,7 @@ impl<'a, 'k> Bound for Skipper<'a, 'k> {
     ghost may_be_left = { λ s. left_narrowed s.so_far.pass.now.wish
         (number_may_be_left (context_of s).facts (context_of s).reached) };
 
-    ghost is_idle = { λ s. is_idle_to s.so_far };
+    ghost is_pruned = { λ s. is_pruned_by s.so_far };
 
     ghost Holds = { λ s work. AreKnown s.counts.now work.notes.floors.known };
 
@@ -212,7 +219,7 @@ impl<'a, 'k> Bound for Skipper<'a, 'k> {
         work.notes.floors.clear(pass.shaped.context.len());
     }
 
-    #[tactic(auto, using(dutch_choice::proofs::Listings::narrowed_inside, dutch_passes::proofs::AimLemmas::unwished_is_idle, dutch_passes::proofs::AimLemmas::loser_is_idle, dutch_passes::proofs::AimLemmas::loser_if_open_is_idle), unfolding(dutch_bracket::specs::Brackets::candidates_of))]
+    #[tactic(auto, using(dutch_choice::proofs::Listings::narrowed_inside, dutch_passes::proofs::TargetLemmas::unwished_is_pruned, dutch_passes::proofs::TargetLemmas::loser_is_pruned, dutch_passes::proofs::TargetLemmas::loser_if_open_is_pruned), unfolding(dutch_bracket::specs::Brackets::candidates_of))]
     fn cannot_win(&self, prefix: &Prefix<'_>, work: &mut Workroom<WalkNotes>) -> bool {
         if is_barred(self.so_far.pass, prefix) {
             return true;
@@ -220,14 +227,14 @@ impl<'a, 'k> Bound for Skipper<'a, 'k> {
         if self.weights.is_some() {
             work.notes.last.note(prefix);
         }
-        // (with no aim and nothing kept no quality loses)
-        if self.so_far.pass.aim.is_none() && self.so_far.kept.best().is_none() {
+        // (with no target and no incumbent no quality loses)
+        if self.so_far.pass.target.is_none() && self.so_far.incumbent.best().is_none() {
             return false;
         }
         self.loses_by_weight(prefix) || self.loses_by_counts(prefix, work)
     }
 
-    #[tactic(auto, using(dutch_choice::proofs::Listings::narrowed_inside, dutch_passes::proofs::AimLemmas::unwished_is_idle, dutch_passes::proofs::AimLemmas::loser_if_open_is_idle), unfolding(dutch_bracket::specs::Brackets::candidates_of))]
+    #[tactic(auto, using(dutch_choice::proofs::Listings::narrowed_inside, dutch_passes::proofs::TargetLemmas::unwished_is_pruned, dutch_passes::proofs::TargetLemmas::loser_if_open_is_pruned), unfolding(dutch_bracket::specs::Brackets::candidates_of))]
     fn cannot_win_with(
         &self,
         prefix: &Prefix<'_>,
@@ -237,7 +244,7 @@ impl<'a, 'k> Bound for Skipper<'a, 'k> {
         if is_barred_with(self.so_far.pass, exchange) {
             return true;
         }
-        if self.so_far.pass.aim.is_none() && self.so_far.kept.best().is_none() {
+        if self.so_far.pass.target.is_none() && self.so_far.incumbent.best().is_none() {
             return false;
         }
         self.loses_by_order(prefix, exchange)

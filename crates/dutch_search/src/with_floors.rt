@@ -17,7 +17,7 @@ use dutch_candidates::greatest::Lister;
 use dutch_candidates::narrowed::NarrowedRule;
 use dutch_choice::finder::{Best, Finder, FinderRequest};
 use dutch_floors::floor::Floors;
-use dutch_passes::{Judge, Kept, Pass, PassRoom, Workroom, best_in_time, look_below};
+use dutch_passes::{Incumbent, Judge, Pass, PassRoom, Workroom, best_in_time, look_below};
 
 /// How many steps are spent on what the next bracket can be at best: a step for each player of the bracket with each of
 /// the next scoregroup, and a listing.
@@ -89,7 +89,7 @@ fn judge_for<'a>(
         look: look_below(shaped.context)?,
         work: Box::new(alloc, Workroom::default())?,
         left: Seats::new(),
-        kept: Kept::none(alloc)?,
+        incumbent: Incumbent::none(alloc)?,
         guide,
     };
     Ok(Box::new(alloc, judge)?)
@@ -114,13 +114,13 @@ fn search_in_passes(
     if best_in_time(pass, search, budget).is_err() {
         return Ok(Step::Undecided);
     }
-    match search.judge.kept.take(pass.shaped.context.alloc())? {
+    match search.judge.incumbent.take(pass.shaped.context.alloc())? {
         Some(best) => Ok(Step::Found(best)),
         None => Ok(Step::End),
     }
 }
 
-/// The finder with floors by counts and by weight. It answers what a pass with an aim finds; if that finds nothing, what
+/// The finder with floors by counts and by weight. It answers what a pass with a target finds; if that finds nothing, what
 /// a pass without one finds.
 #[derive(Drop)]
 pub struct WithFloors;
@@ -137,7 +137,7 @@ impl Finder for WithFloors {
         let mut pass = Pass {
             shaped: asked.shaped,
             wish: asked.wish,
-            aim: guide.counts.aim(),
+            target: guide.counts.target(),
         };
         let judge = judge_for(&pass, guide)?;
         let mut search = PassRoom {

@@ -1,4 +1,4 @@
--- What a search leaves out: all below a beginning goes on from it, so it is idle if all that begins so is.
+-- What a search leaves out: all below a beginning goes on from it, so it is pruned if all that begins so is.
 use Rattle.std.proofs.Common.{◌≡◌, ℕ, zero, suc, ◌-◌, Bool, true, false, cond, List, [], ◌∷◌, ◌++◌, length, Option, refl, sym, ◌∙◌, ap, append_assoc, arith, subst}
 use Rattle.std.specs.List.{flat_map, AllByRecursion}
 use Rattle.std.proofs.lemmas.List.{append-nil}
@@ -50,12 +50,12 @@ unfolding ahead
 ahead-left plan path number end spent =
     ap (λ none. below plan (plan.places - length path) path number ++ (none ++ after plan plan.places [] path)) (sym spent)
 
--- so where all that begins so is idle, what is below a path may be left out
-pub idle-left : (plan : Plan) (Idle : List ℕ → Type 0) (path : List ℕ) (number end : ℕ) → IsSpent plan path end → ((c : List ℕ) → GoesOn path c → Idle c) → Passes Idle (hits (ahead plan path number)) (hits (ahead plan path end))
-idle-left plan Idle path number end spent idle = (
+-- so where all that begins so is pruned, what is below a path may be left out
+pub pruned-left : (plan : Plan) (Pruned : List ℕ → Type 0) (path : List ℕ) (number end : ℕ) → IsSpent plan path end → ((c : List ℕ) → GoesOn path c → Pruned c) → Passes Pruned (hits (ahead plan path number)) (hits (ahead plan path end))
+pruned-left plan Pruned path number end spent pruned = (
   hits (below plan (plan.places - length path) path number),
   ap hits (ahead-left plan path number end spent) ∙ hits-append (below plan (plan.places - length path) path number) (ahead plan path end),
-  all-each (GoesOn path) Idle idle (hits (below plan (plan.places - length path) path number)) (below-beginning plan (plan.places - length path) path number),
+  all-each (GoesOn path) Pruned pruned (hits (below plan (plan.places - length path) path number)) (below-beginning plan (plan.places - length path) path number),
 )
 
 -- what is below a beginning from the next number on is past each path that has the number there

@@ -55,76 +55,76 @@ map-appended : {S T : Type 0} (f : S → T) (xs ys : List S) → map f (xs ++ ys
 map-appended f [] ys = refl
 map-appended f (x ∷ xs) ys = ap (λ rest. f x ∷ rest) (map-appended f xs ys)
 
-module _ {T : Type 0} (Idle : T → Type 0) where
+module _ {T : Type 0} (Pruned : T → Type 0) where
   -- nothing is skipped
-  pub passes-none : (xs ys : List T) → xs ≡ ys → Passes Idle xs ys
+  pub passes-none : (xs ys : List T) → xs ≡ ys → Passes Pruned xs ys
   passes-none xs ys same = ([], same, tt {0})
 
   -- all are skipped
-  pub passes-all : (xs : List T) → AllByRecursion Idle xs → Passes Idle xs []
+  pub passes-all : (xs : List T) → AllByRecursion Pruned xs → Passes Pruned xs []
   passes-all xs all = (xs, sym (append-nil xs), all)
 
   -- what skips and then skips more
-  pub passes-more : (xs ys zs : List T) → Passes Idle xs ys → Passes Idle ys zs → Passes Idle xs zs
-  passes-more xs ys zs (front, same, idle) (front', same', idle') = (
+  pub passes-more : (xs ys zs : List T) → Passes Pruned xs ys → Passes Pruned ys zs → Passes Pruned xs zs
+  passes-more xs ys zs (front, same, pruned) (front', same', pruned') = (
     front ++ front',
     same ∙ ap (λ rest. front ++ rest) same' ∙ sym (append_assoc front front' zs),
-    all-append Idle front front' idle idle',
+    all-append Pruned front front' pruned pruned',
   )
 
   -- what is left may be named otherwise
-  pub passes-same : (xs ys zs : List T) → Passes Idle xs ys → ys ≡ zs → Passes Idle xs zs
+  pub passes-same : (xs ys zs : List T) → Passes Pruned xs ys → ys ≡ zs → Passes Pruned xs zs
   passes-same xs ys zs passes same = passes-more xs ys zs passes (passes-none ys zs same)
 
   -- what stands behind is no matter
-  pub passes-before : (xs ys more : List T) → Passes Idle xs ys → Passes Idle (xs ++ more) (ys ++ more)
-  passes-before xs ys more (front, same, idle) =
-      (front, ap (λ list. list ++ more) same ∙ append_assoc front ys more, idle)
+  pub passes-before : (xs ys more : List T) → Passes Pruned xs ys → Passes Pruned (xs ++ more) (ys ++ more)
+  passes-before xs ys more (front, same, pruned) =
+      (front, ap (λ list. list ++ more) same ∙ append_assoc front ys more, pruned)
 
   -- whole blocks that are skipped
-  pub passes-blocks : (xs ys : List (List T)) → Passes (AllByRecursion Idle) xs ys → Passes Idle (joined xs) (joined ys)
-  passes-blocks xs ys (front, same, idle) =
-      (joined front, ap joined same ∙ joined-append front ys, all-joined Idle front idle)
+  pub passes-blocks : (xs ys : List (List T)) → Passes (AllByRecursion Pruned) xs ys → Passes Pruned (joined xs) (joined ys)
+  passes-blocks xs ys (front, same, pruned) =
+      (joined front, ap joined same ∙ joined-append front ys, all-joined Pruned front pruned)
 
-  -- from a block of which all is idle to the next ones
-  pub passes-between : (block : List T) (blocks others : List (List T)) → Passes Idle block [] → Passes (AllByRecursion Idle) blocks others → Passes Idle (block ++ joined blocks) (joined others)
+  -- from a block of which all is pruned to the next ones
+  pub passes-between : (block : List T) (blocks others : List (List T)) → Passes Pruned block [] → Passes (AllByRecursion Pruned) blocks others → Passes Pruned (block ++ joined blocks) (joined others)
   passes-between block blocks others ended passes =
       passes-more (block ++ joined blocks) (joined blocks) (joined others) (passes-before block [] (joined blocks) ended) (passes-blocks blocks others passes)
 
   -- through a test
-  pub passes-filter : (p : T → Bool) (xs ys : List T) → Passes Idle xs ys → Passes Idle (filter p xs) (filter p ys)
-  passes-filter p xs ys (front, same, idle) =
-      (filter p front, ap (filter p) same ∙ filter-append p front ys, all-filter Idle p front idle)
+  pub passes-filter : (p : T → Bool) (xs ys : List T) → Passes Pruned xs ys → Passes Pruned (filter p xs) (filter p ys)
+  passes-filter p xs ys (front, same, pruned) =
+      (filter p front, ap (filter p) same ∙ filter-append p front ys, all-filter Pruned p front pruned)
 
   -- what holds of each to come holds of each that is left
-  pub passes-keeps : (P : T → Type 0) (xs ys : List T) → Passes Idle xs ys → AllByRecursion P xs → AllByRecursion P ys
-  passes-keeps P xs ys (front, same, idle) all = all-behind P front ys (subst (AllByRecursion P) same all)
+  pub passes-keeps : (P : T → Type 0) (xs ys : List T) → Passes Pruned xs ys → AllByRecursion P xs → AllByRecursion P ys
+  passes-keeps P xs ys (front, same, pruned) all = all-behind P front ys (subst (AllByRecursion P) same all)
 
   -- no more are left than were to come
-  pub passes-fewer : (xs ys : List T) → Passes Idle xs ys → length ys ≤ length xs
-  passes-fewer xs ys (front, same, idle) = omega (arith, ap length same, length-append front ys)
+  pub passes-fewer : (xs ys : List T) → Passes Pruned xs ys → length ys ≤ length xs
+  passes-fewer xs ys (front, same, pruned) = omega (arith, ap length same, length-append front ys)
 
 -- through a map
 pub passes-map : {S T : Type 0} (P : S → Type 0) (Q : T → Type 0) (f : S → T) (xs ys : List S) → ((x : S) → P x → Q (f x)) → Passes P xs ys → Passes Q (map f xs) (map f ys)
-passes-map P Q f xs ys from (front, same, idle) =
-    (map f front, ap (map f) same ∙ map-appended f front ys, all-map P Q f front from idle)
+passes-map P Q f xs ys from (front, same, pruned) =
+    (map f front, ap (map f) same ∙ map-appended f front ys, all-map P Q f front from pruned)
 
 all-both : {T : Type 0} (P Q R : T → Type 0) (front ys : List T) → ((x : T) → R x → P x → Q x) → AllByRecursion R (front ++ ys) → AllByRecursion P front → AllByRecursion Q front
-all-both P Q R [] ys from all idle = tt {0}
-all-both P Q R (x ∷ front) ys from all idle = (from x all.0 idle.0, all-both P Q R front ys from all.1 idle.1)
+all-both P Q R [] ys from all pruned = tt {0}
+all-both P Q R (x ∷ front) ys from all pruned = (from x all.0 pruned.0, all-both P Q R front ys from all.1 pruned.1)
 
 -- where a fact follows for those to come
 pub passes-weaker : {T : Type 0} (P Q R : T → Type 0) (xs ys : List T) → ((x : T) → R x → P x → Q x) → AllByRecursion R xs → Passes P xs ys → Passes Q xs ys
-passes-weaker P Q R xs ys from all (front, same, idle) =
-    (front, same, all-both P Q R front ys from (subst (AllByRecursion R) same all) idle)
+passes-weaker P Q R xs ys from all (front, same, pruned) =
+    (front, same, all-both P Q R front ys from (subst (AllByRecursion R) same all) pruned)
 
--- where nothing is idle, nothing is skipped
+-- where nothing is pruned, nothing is skipped
 none-passed-in : {T : Type 0} (front : List T) → AllByRecursion (λ _. ⊥) front → front ≡ []
-none-passed-in [] idle = refl
-none-passed-in (x ∷ front) idle = absurd idle.0
+none-passed-in [] pruned = refl
+none-passed-in (x ∷ front) pruned = absurd pruned.0
 
 pub none-passed : {T : Type 0} (xs ys : List T) → Passes (λ _. ⊥) xs ys → xs ≡ ys
-none-passed xs ys (front, same, idle) = same ∙ ap (λ list. list ++ ys) (none-passed-in front idle)
+none-passed xs ys (front, same, pruned) = same ∙ ap (λ list. list ++ ys) (none-passed-in front pruned)
 
 -- a filter passes over the first of a list, or keeps it
 pub filter-keeps : {T : Type 0} (p : T → Bool) (x : T) (xs : List T) → p x ≡ true → filter p (x ∷ xs) ≡ x ∷ filter p xs

@@ -56,9 +56,9 @@ MatchProgress (Err e) beginning whole over stopped = stopped
 abbrev pub way : Budget → ℕ → ℕ
 way budget free_moves = 4 * (budget.limit - budget.used) + free_moves
 
--- a list goes on as another one does, once some of its beginning is skipped, each member of which is idle [own]
+-- a list goes on as another one does, once some of its beginning is skipped, each member of which is pruned [own]
 abbrev pub Passes : {T : Type 0} → (T → Type 0) → List T → List T → Type 0
-Passes {T} Idle before after = (skipped : List T) × (before ≡ skipped ++ after) × AllByRecursion Idle skipped
+Passes {T} Pruned before after = (skipped : List T) × (before ≡ skipped ++ after) × AllByRecursion Pruned skipped
 
 -- a call keeps the limit of a budget, and takes back no step; that none is above the limit each budget says itself [own]
 pub record Spends (old new : Budget) : Type 0 where

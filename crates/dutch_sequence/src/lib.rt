@@ -2,7 +2,7 @@
 //!
 //! `Transpositions`, `Exchanges` and `LimboExchanges` list the choices of D.1, D.2 and D.3. A call answers the first of
 //! what is still to come, the end if nothing is, or that its limit was reached; then what is to come stays as it was. A
-//! caller who knows that some choices are idle goes on by `advance`, which stands still at each beginning. There the
+//! caller who knows that some choices are pruned goes on by `advance`, which stands still at each beginning. There the
 //! caller may `leave` all choices that begin so.
 //!
 //! A `Budget` counts steps, each a number tried at a place, and no call goes beyond its limit. Nothing takes memory:

@@ -2,7 +2,7 @@
 // and can be stopped before each trial.
 //
 // A caller may be asked about each beginning at which the search arrives: the search stands still there, at no step. If
-// the caller knows that every whole path with that beginning is idle, it leaves the beginning, and so passes over all
+// the caller knows that every whole path with that beginning is pruned, it leaves the beginning, and so passes over all
 // of them. When you change it, keep this: a path is left only by setting its next number past all that its place tries,
 // and where nothing is left, each trial is made and counted.
 //

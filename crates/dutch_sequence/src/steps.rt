@@ -32,7 +32,7 @@ pub type Drawn = Result<bool, Stopped>;
 /// How far a search came that stands still at each beginning.
 #[derive(Clone, Copy)]
 pub enum Progress {
-    /// It stands at a beginning. A caller who knows that all that begins so is idle may leave it.
+    /// It stands at a beginning. A caller who knows that all that begins so is pruned may leave it.
     Beginning,
     /// It has found the next one.
     Whole,

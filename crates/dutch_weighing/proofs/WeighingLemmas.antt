@@ -10,10 +10,10 @@ use Rattle.dutch_weighing.specs.declared.weighing.PairWeight.{PairWeight}
 use Rattle.dutch_weighing.proofs.PairPlaces.{inside, same_place}
 
 -- what is said of the next bracket has no part in what weighs without it
-pub next_is_idle : (scale : Scale) (facts : Facts) (seated : Seated) (next : NextValue)
+pub next_is_pruned : (scale : Scale) (facts : Facts) (seated : Seated) (next : NextValue)
     → weight_with scale 0 [] (quality_with facts seated next) ≡ weight_with scale 0 [] (quality_with facts seated no_value)
 unfolding weight_with quality_with
-next_is_idle scale facts seated next = refl
+next_is_pruned scale facts seated next = refl
 
 pub at_least : (n most : ℕ) → ¬ (n < most) → most ≤ n
 at_least n most not = grind arith

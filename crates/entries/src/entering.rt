@@ -146,7 +146,7 @@ fn players_changed<'a>(
 }
 
 // The report with each of its players changed so.
-fn changed<'a>(
+fn report_with<'a>(
     alloc: Global,
     report: &Report<'a>,
     change: Change<'_>,
@@ -167,7 +167,7 @@ fn resummed<'a>(alloc: Global, report: Report<'a>) -> Result<Report<'a>, AllocEr
     if report.has_other_points() {
         return Ok(report);
     }
-    changed(alloc, &report, Change::Points)
+    report_with(alloc, &report, Change::Points)
 }
 
 // A report, unless a rule on two players is broken in it.
@@ -202,6 +202,6 @@ pub fn entered<'a>(
     ensures { Gives (λ found. found) result (entered options entries.now report.now) }
 {
     let all = cells_of_all(alloc, options, report, entries)?;
-    let with_new = changed(alloc, report, Change::Cells(&all))?;
+    let with_new = report_with(alloc, report, Change::Cells(&all))?;
     judged(resummed(alloc, with_new)?)
 }

@@ -174,7 +174,7 @@ impl<'a> Bound for Keeps<'a> {
 
     ghost may_be_left = { λ k. ⟦<Free as Rule>⟧.may_be_left k.rule.now };
 
-    ghost is_idle = { λ _ a. not (slice_index a.s1r 0 == 1) || not (slice_index a.s1r 1 == 2) };
+    ghost is_pruned = { λ _ a. not (slice_index a.s1r 0 == 1) || not (slice_index a.s1r 1 == 2) };
 
     ghost Holds = { λ _ _. Unit {0} };
 
@@ -221,7 +221,7 @@ impl<'a> Bound for KnowsNothing<'a> {
 
     ghost may_be_left = { λ b. ⟦<Free as Rule>⟧.may_be_left b.rule.now };
 
-    ghost is_idle = { λ _ _. false };
+    ghost is_pruned = { λ _ _. false };
 
     ghost Holds = { λ _ _. Unit {0} };
 
@@ -241,7 +241,7 @@ impl<'a> Bound for KnowsNothing<'a> {
     }
 }
 
-// A bound that knows of S1R by their exchange alone: those of 1 and 2 whose sum is greater by 2 are idle.
+// A bound that knows of S1R by their exchange alone: those of 1 and 2 whose sum is greater by 2 are pruned.
 #[derive(Drop)]
 struct ByDifference<'a> {
     bracket: &'a Bracket,
@@ -263,7 +263,7 @@ impl<'a> Bound for ByDifference<'a> {
 
     ghost may_be_left = { λ b. ⟦<Free as Rule>⟧.may_be_left b.rule.now };
 
-    ghost is_idle = { λ _ a. sum_of a.s1r == 5 };
+    ghost is_pruned = { λ _ a. sum_of a.s1r == 5 };
 
     ghost Holds = { λ _ _. Unit {0} };
 

@@ -33,7 +33,7 @@ impl Forest {
     }
 
     /// The first base on the way from a vertex to the root that is noted.
-    fn meeting(&self, v: u16) -> Option<u16>
+    fn meeting_node(&self, v: u16) -> Option<u16>
         requires { v < self.now.size }
         ensures { IfSome result (λ base. base < self.now.size) }
     {
@@ -96,7 +96,7 @@ impl Forest {
         ensures { self.new.size ≡ self.old.size }
     {
         self.note_way(v);
-        let Some(base) = self.meeting(u) else {
+        let Some(base) = self.meeting_node(u) else {
             return;
         };
         self.folded.fill(false);

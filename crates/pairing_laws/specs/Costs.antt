@@ -3,9 +3,9 @@ use Rattle.dual.specs.Prelude.{Costs}
 use Rattle.std.specs.Prelude.{Option}
 use Rattle.dutch_candidates.specs.declared.wish.Wish.{Wish}
 use Rattle.dutch_bracket.specs.Prelude.{Context}
-use Rattle.dutch_weights.specs.Prelude.{Scope, Order, costs_in}
+use Rattle.dutch_weight_floors.specs.Prelude.{Scope, Order, costs_in}
 use Rattle.dutch_weighing.specs.Prelude.{Scale}
-use Rattle.dutch_weights.specs.declared.scoped.Reach.{Reach}
+use Rattle.dutch_weight_floors.specs.declared.scoped.Reach.{Reach}
 
 -- `costs_in` for a bracket above its lower seats, on a scale [own]
 abbrev pub costs_here : Context → Scale → Scope → Option Wish → Reach → Order → Costs

@@ -33,8 +33,8 @@ player start score played opponents latest = record {
 }
 
 -- a player who may not, and who played no game
-abbrev pub idle_winner : ℕ → ℕ → SeatFacts
-idle_winner start score = record {
+abbrev pub pruned_winner : ℕ → ℕ → SeatFacts
+pruned_winner start score = record {
   start = start;
   score = score;
   played = [];
@@ -93,7 +93,7 @@ leader_quality missed = record {
 abbrev pub pair_given_up : Facts
 pair_given_up =
     before 2 3
-    (idle_winner 1 2 ∷ idle_winner 2 2 ∷ player 3 1 (White ∷ []) (4 ∷ []) None ∷ player 4 1 (Black ∷ []) (3 ∷ []) None ∷ [])
+    (pruned_winner 1 2 ∷ pruned_winner 2 2 ∷ player 3 1 (White ∷ []) (4 ∷ []) None ∷ player 4 1 (Black ∷ []) (3 ∷ []) None ∷ [])
 
 -- four players who have all met [with boards_of]
 abbrev pub all_met : Facts
@@ -112,4 +112,4 @@ two_leaders total =
 
 -- three players, of whom the one with a forfeit win has no colour history and cannot have the bye [with boards_of]
 abbrev pub forfeit_winner : Facts
-forfeit_winner = before 2 5 (player 1 2 (White ∷ []) (5 ∷ []) None ∷ player 2 2 (Black ∷ []) (6 ∷ []) None ∷ idle_winner 3 2 ∷ [])
+forfeit_winner = before 2 5 (player 1 2 (White ∷ []) (5 ∷ []) None ∷ player 2 2 (Black ∷ []) (6 ∷ []) None ∷ pruned_winner 3 2 ∷ [])

@@ -9,14 +9,14 @@ ghost use Rattle.dutch_bracket.specs.Prelude.{quality_here, IsSmall, JoinsBelow,
 ghost use Rattle.dutch_bracket.specs.Prelude.{players_below, seat_below, Quality, is_better, next_in, IsAbove};
 ghost use Rattle.dutch_bracket.specs.Prelude.{seats_meet, number_pairs};
 ghost use Rattle.dutch_candidates.specs.Wishes.{is_wished};
-ghost use Rattle.dutch_weights.specs.Prelude.{Covers, Scope, Order, added_in};
+ghost use Rattle.dutch_weight_floors.specs.Prelude.{Covers, Scope, Order, added_in};
 ghost use Rattle.dutch_weighing.specs.Prelude.{HasDigits, IsOn, IsScale, IsScaleFor, Scale, alone_by, weighing};
 ghost use Rattle.dutch_weighing.specs.Prelude.{weight_below, weight_of, HasSameNextOn};
 ghost use Rattle.dutch_candidates.specs.declared.wish.Wish.{Wish};
 ghost use Rattle.dutch_bracket.specs.declared.reached.BracketKind.TheVariants.{Ordinary};
-ghost use Rattle.dutch_weights.specs.declared.scoped.Reach.TheVariants.{Next};
+ghost use Rattle.dutch_weight_floors.specs.declared.scoped.Reach.TheVariants.{Next};
 ghost use Rattle.pairing_laws.specs.Costs.{costs_here};
-ghost use Rattle.dual.specs.Prelude.{FloorTable, IsFloor, extra_in, cost};
+ghost use Rattle.dual.specs.Prelude.{FloorTable, IsFloor, slack_in, cost};
 
 /// C.6 to C.19: the weight of a candidate is the sum of what each of its pairs and each of its downfloaters weighs
 /// alone, and, where C.7 is measured, of what its value of the next bracket weighs.
@@ -42,7 +42,7 @@ pub fn the_lighter_is_better()
 /// wished, if something is, weighs no less than a floor over the next lower scoregroup too says. The floor has to hold
 /// however many are left over there. It says its base, and what the pairs of the beginning add, each once, less its
 /// debt.
-#[tactic(auto, using(dutch_weights::proofs::C07NextWeights::weighs_more_next))]
+#[tactic(auto, using(dutch_weight_floors::proofs::C07NextWeights::weighs_more_next))]
 pub fn a_floor_for_the_next_group_bounds_the_weight()
     ensures { (context : Context) (scale : Scale) (scope : Scope) (wish : Option Wish) (order : Order) (shape : Shape)
         (a : Arrangement) → FitsHere context shape → IsIn a (candidates_here context shape) → is_wished wish a ≡ true
@@ -50,7 +50,7 @@ pub fn a_floor_for_the_next_group_bounds_the_weight()
         → IsScaleFor context.facts context.reached context.lower shape scale → (floor : FloorTable)
         → ((left : ℕ) → IsFloor (costs_here context scale scope wish Next order)
         (numbers_from 1 (count_below context.facts context.reached context.lower)) left floor)
-        → floor.base + sum_by (extra_in floor) (number_pairs (fixed_lists b))
+        → floor.base + sum_by (slack_in floor) (number_pairs (fixed_lists b))
         ≤ floor.debt + (weight_of scale (quality_here context a) + added_in order a) }
 {}
 

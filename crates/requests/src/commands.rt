@@ -187,15 +187,15 @@ pub fn command_for<'a>(alloc: Global, which: CommandName) -> CommandResult<'a>
 {
     let texts = texts_of(which);
     match which {
-        CommandName::Check => optioned(alloc, "check", texts, &CHECK),
-        CommandName::Format => optioned(alloc, "format", texts, &FORMAT),
-        CommandName::Enter => optioned(alloc, "enter", texts, &ENTER),
-        CommandName::Pair => optioned(alloc, "pair", texts, &PAIR),
-        CommandName::Boards => optioned(alloc, "boards", texts, &BOARDS),
-        CommandName::Candidates => optioned(alloc, "candidates", texts, &CANDIDATES),
-        CommandName::Explain => optioned(alloc, "explain", texts, &EXPLAIN),
-        CommandName::Standings => optioned(alloc, "standings", texts, &STANDINGS),
-        CommandName::Sheet => optioned(alloc, "sheet", texts, &SHEET),
+        CommandName::Check => command_with(alloc, "check", texts, &CHECK),
+        CommandName::Format => command_with(alloc, "format", texts, &FORMAT),
+        CommandName::Enter => command_with(alloc, "enter", texts, &ENTER),
+        CommandName::Pair => command_with(alloc, "pair", texts, &PAIR),
+        CommandName::Boards => command_with(alloc, "boards", texts, &BOARDS),
+        CommandName::Candidates => command_with(alloc, "candidates", texts, &CANDIDATES),
+        CommandName::Explain => command_with(alloc, "explain", texts, &EXPLAIN),
+        CommandName::Standings => command_with(alloc, "standings", texts, &STANDINGS),
+        CommandName::Sheet => command_with(alloc, "sheet", texts, &SHEET),
     }
 }
 
@@ -215,7 +215,7 @@ fn texts_of(which: CommandName) -> HelpTexts<'static> {
 }
 
 // A command with the texts of its help and with its options.
-fn optioned<'a>(
+fn command_with<'a>(
     alloc: Global,
     name: &'a str,
     texts: HelpTexts<'a>,
@@ -224,7 +224,7 @@ fn optioned<'a>(
     ensures app { IfOk result (λ command. app_of command ≡ with_options (new_app name.entry.now) options.now) }
     ensures local { IfOk result (λ command. (fields_of command).has_globals ≡ false) }
 {
-    with_options(alloc, described(alloc, name, texts), options)
+    with_options(alloc, command_named(alloc, name, texts), options)
 }
 
 // A command with some more options.
@@ -244,7 +244,7 @@ fn with_options<'a>(
 }
 
 /// A command with the texts of its help, and with no options yet.
-pub fn described<'a>(alloc: Global, name: &'a str, texts: HelpTexts<'a>) -> Command<'a>
+pub fn command_named<'a>(alloc: Global, name: &'a str, texts: HelpTexts<'a>) -> Command<'a>
     ensures app { app_of result ≡ new_app name.entry.now }
     ensures local { (fields_of result).has_globals ≡ false }
 {

@@ -12,7 +12,9 @@ ghost use Rattle.requests.specs.Words.{with_bye};
 ghost use Rattle.requests.specs.Words.{arbiter_app, settled, versioned, with_command};
 ghost use Rattle.requests.specs.Words.{with_commands, without_help};
 
-use crate::commands::{COMMANDS, CommandName, CommandResult, HelpTexts, command_for, described};
+use crate::commands::{
+    COMMANDS, CommandName, CommandResult, HelpTexts, command_for, command_named,
+};
 use crate::entries_in::enter_options;
 use crate::options::{
     BoardsOptions, CandidatesOptions, CheckOptions, CursorSyntax, EnterOptions, ExplainOptions,
@@ -296,7 +298,7 @@ fn arbiter_command<'a>(alloc: Global) -> CommandResult<'a>
     ensures app { IfOk result (λ command. app_of command ≡ arbiter_app) }
     ensures local { IfOk result (λ command. (fields_of command).has_globals ≡ false) }
 {
-    let command = with_settings(named(alloc)?);
+    let command = with_settings(bare_command(alloc)?);
     with_commands(alloc, command, &COMMANDS)
 }
 
@@ -333,11 +335,11 @@ fn with_named<'a>(alloc: Global, command: Command<'a>, name: CommandName) -> Com
 
 // The name and the texts of the program.
 #[tactic(auto, unfolding(crate::specs::Words::versioned))]
-fn named<'a>(alloc: Global) -> CommandResult<'a>
+fn bare_command<'a>(alloc: Global) -> CommandResult<'a>
     ensures app { IfOk result (λ command. app_of command ≡ versioned (new_app (codes "arbiter"))) }
     ensures local { IfOk result (λ command. (fields_of command).has_globals ≡ false) }
 {
-    described(
+    command_named(
         alloc,
         "arbiter",
         HelpTexts {

@@ -48,12 +48,16 @@ pub fn boards_of(alloc: Global, report: &Report<'_>, round: u8) -> Result<Vec<Bo
     requires { 0 < round }
     ensures { IfOk result (λ boards. boards.items ≡ boards_of report.now round) }
 {
-    let in_order = ranked(alloc, unordered(alloc, report, round)?)?;
+    let in_order = ranked(alloc, boards_unordered(alloc, report, round)?)?;
     in_order.iter().map(|ranked| ranked.board).collect(alloc)
 }
 
 // The boards in the order of the players' lines.
-fn unordered(alloc: Global, report: &Report<'_>, round: u8) -> Result<Vec<RankedBoard>, AllocError>
+fn boards_unordered(
+    alloc: Global,
+    report: &Report<'_>,
+    round: u8,
+) -> Result<Vec<RankedBoard>, AllocError>
     requires { 0 < round }
     ensures { IfOk result (λ boards. boards.items ≡ boards_unordered report.now round) }
 {

@@ -350,7 +350,7 @@ fn laid_out<'a>(alloc: Global, bytes: &'a [u8], bye: u16) -> Result<Report<'a>, 
 }
 
 // A report, unless its players break a rule.
-fn accepted<'a>(report: Report<'a>, fits: Result<(), Fault>) -> Result<Report<'a>, Fault>
+fn report_if_fitting<'a>(report: Report<'a>, fits: Result<(), Fault>) -> Result<Report<'a>, Fault>
     ensures { MatchResult fits (λ _. result ≡ Ok report.entry) (λ fault. result ≡ Err fault) }
 {
     match fits {
@@ -384,7 +384,7 @@ pub fn read_with<'a>(alloc: Global, bytes: &'a [u8], bye: u16) -> Result<Report<
 {
     let report = laid_out(alloc, bytes, bye)?;
     let fits = players_fit(&report);
-    accepted(report, fits)
+    report_if_fitting(report, fits)
 }
 
 /// Reads a report as `read_with` does, but for the last rule: the points fields are read, and not compared with any
@@ -399,5 +399,5 @@ pub fn read_unsummed<'a>(alloc: Global, bytes: &'a [u8], bye: u16) -> Result<Rep
 {
     let report = laid_out(alloc, bytes, bye)?;
     let fits = all_cells_fit(&report);
-    accepted(report, fits)
+    report_if_fitting(report, fits)
 }

@@ -23,7 +23,11 @@ fn enter<'a>(draft: &mut Draft<'a>, player: Player<'a>) -> Result<(), AllocError
 }
 
 // A draft with all players, in the order of their lines, and without a line.
-fn entered<'a>(alloc: Global, report: &Report<'a>, new: &NewStarts) -> Result<Draft<'a>, AllocError>
+fn players_alone<'a>(
+    alloc: Global,
+    report: &Report<'a>,
+    new: &NewStarts,
+) -> Result<Draft<'a>, AllocError>
     requires new { new_in new.now ≡ new_start report.now }
     requires own { IsDistinct nat_eq (starts_of report.now.players) }
     ensures alone { IfOk result (λ draft. draft ≡ players_alone (renumbered report.now)) }
@@ -51,7 +55,7 @@ pub fn renumbered_players_alone<'a>(
     // no two of the players have the same start rank
     let _ = report.count();
     let new = NewStarts::of(alloc, report)?;
-    let draft = entered(alloc, report, &new)?;
+    let draft = players_alone(alloc, report, &new)?;
     let notes = Notes::new(alloc)?;
     let apart = draft.apart(alloc, &notes)?;
     Ok(draft.into_report(notes, apart))

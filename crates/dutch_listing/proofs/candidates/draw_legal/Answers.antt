@@ -7,31 +7,31 @@ use Rattle.dutch_listing.proofs.candidates.draw_legal.Goals as goal
 
 pub loop-candidate-init : goal.loop-candidate-init
 loop-candidate-init g c = record {
-  passes = passes-none (g.C.Cuts.Idle c.args.tests.now.cuts.now) _ _ refl;
+  passes = passes-none (g.C.Cuts.Pruned c.args.tests.now.cuts.now) _ _ refl;
   bracket = refl;
   rule = refl;
-  keeps = λ a idle. idle;
+  keeps = λ a pruned. pruned;
   spends = spends-none _;
 }
 
 pub returns-then-not-branch-clause-answer : goal.returns-then-not-branch-clause-answer
 returns-then-not-branch-clause-answer g c =
-    let Idle = g.C.Cuts.Idle c.args.tests.now.cuts.now in
+    let Pruned = g.C.Cuts.Pruned c.args.tests.now.cuts.now in
     let may = may_leave (g.R.Rule.may_be_left c.args.tests.now.rule.now) c.args.tests.now.bracket.now in
-    passes-more Idle _ _ _ c.loop-candidate.invariant.passes (passes-filter Idle may _ _ (passes-each _ Idle _ _ c.loop-candidate.invariant.keeps (drawn _ _ _ c.if-not-branch.true c.in_ok-draw_listed.ensures.answer)))
+    passes-more Pruned _ _ _ c.loop-candidate.invariant.passes (passes-filter Pruned may _ _ (passes-each _ Pruned _ _ c.loop-candidate.invariant.keeps (drawn _ _ _ c.if-not-branch.true c.in_ok-draw_listed.ensures.answer)))
 
 pub returns-in_err-draw_listed-clause-answer : goal.returns-in_err-draw_listed-clause-answer
 returns-in_err-draw_listed-clause-answer g c =
-    let Idle = g.C.Cuts.Idle c.args.tests.now.cuts.now in
+    let Pruned = g.C.Cuts.Pruned c.args.tests.now.cuts.now in
     let may = may_leave (g.R.Rule.may_be_left c.args.tests.now.rule.now) c.args.tests.now.bracket.now in
-    let kept = passes-none Idle _ _ (ap (λ kept. filter may (listed kept ++ g.L.Arranges.coming c.draw_listed.new.drawing.level)) (sym c.in_err-draw_listed.ensures.taken)) in
-    let passed = passes-more Idle _ _ _ (passes-filter Idle may _ _ (passes-each _ Idle _ _ c.loop-candidate.invariant.keeps c.in_err-draw_listed.ensures.answer.0)) kept in
-    drawn-stopped _ _ _ _ c.from_residual.ensures.0 (passes-more Idle _ _ _ c.loop-candidate.invariant.passes passed, c.in_err-draw_listed.ensures.answer.1)
+    let kept = passes-none Pruned _ _ (ap (λ kept. filter may (listed kept ++ g.L.Arranges.coming c.draw_listed.new.drawing.level)) (sym c.in_err-draw_listed.ensures.taken)) in
+    let passed = passes-more Pruned _ _ _ (passes-filter Pruned may _ _ (passes-each _ Pruned _ _ c.loop-candidate.invariant.keeps c.in_err-draw_listed.ensures.answer.0)) kept in
+    drawn-stopped _ _ _ _ c.from_residual.ensures.0 (passes-more Pruned _ _ _ c.loop-candidate.invariant.passes passed, c.in_err-draw_listed.ensures.answer.1)
 
 pub returns-in-Ok-true-clause-answer : goal.returns-in-Ok-true-clause-answer
 unfolding may_leave
 returns-in-Ok-true-clause-answer g c =
-    let Idle = g.C.Cuts.Idle c.args.tests.now.cuts.now in
+    let Pruned = g.C.Cuts.Pruned c.args.tests.now.cuts.now in
     let may_be_left = g.R.Rule.may_be_left c.args.tests.now.rule.now in
     let frame = c.args.tests.now.bracket.now in
     let may = may_leave may_be_left frame in
@@ -41,9 +41,9 @@ returns-in-Ok-true-clause-answer g c =
     ∙ ap (λ over. not tests.bracket.now.last || leaves_one (g.R.Rule.may_be_left tests.rule.now) over) (c.deref.ensures.0 ∙ c.put_left_over.ensures)
     ∙ ap (λ rule. not tests.bracket.now.last || leaves_one (g.R.Rule.may_be_left rule) (down tests.bracket.now left)) c.loop-candidate.invariant.rule
     ∙ ap (λ (frame : Frame). not frame.last || leaves_one may_be_left (down frame left)) c.loop-candidate.invariant.bracket in (
-      passes-more Idle _ _ _ c.loop-candidate.invariant.passes
-          (passes-more Idle _ _ _ (passes-filter Idle may _ _ (passes-each _ Idle _ _ c.loop-candidate.invariant.keeps (drawn _ _ _ c.if-not-branch.false c.in_ok-draw_listed.ensures.answer)))
-          (passes-none Idle _ _
+      passes-more Pruned _ _ _ c.loop-candidate.invariant.passes
+          (passes-more Pruned _ _ _ (passes-filter Pruned may _ _ (passes-each _ Pruned _ _ c.loop-candidate.invariant.keeps (drawn _ _ _ c.if-not-branch.false c.in_ok-draw_listed.ensures.answer)))
+          (passes-none Pruned _ _
           (filter-keeps may c.draw_listed.new.lists (g.L.Arranges.coming c.draw_listed.new.drawing.level) (sym asked ∙ drawn _ _ _ c.in-Ok-true.field-0-test c.in-Ok-true.ensures.answer)
           ∙ ap (λ kept. c.draw_listed.new.lists ∷ filter may (listed kept ++ g.L.Arranges.coming c.draw_listed.new.drawing.level)) (sym c.in_ok-draw_listed.ensures.taken)))),
       c.put_left_over.ensures ∙ ap (λ frame. down frame left) c.loop-candidate.invariant.bracket,
@@ -51,18 +51,18 @@ returns-in-Ok-true-clause-answer g c =
 
 pub returns-in-Err-clause-answer : goal.returns-in-Err-clause-answer
 returns-in-Err-clause-answer g c =
-    let Idle = g.C.Cuts.Idle c.args.tests.now.cuts.now in
+    let Pruned = g.C.Cuts.Pruned c.args.tests.now.cuts.now in
     let may = may_leave (g.R.Rule.may_be_left c.args.tests.now.rule.now) c.args.tests.now.bracket.now in (
-      passes-more Idle _ _ _ c.loop-candidate.invariant.passes
-          (passes-more Idle _ _ _ (passes-filter Idle may _ _ (passes-each _ Idle _ _ c.loop-candidate.invariant.keeps (drawn _ _ _ c.if-not-branch.false c.in_ok-draw_listed.ensures.answer)))
-          (passes-none Idle _ _ (ap (λ kept. filter may (listed kept ++ g.L.Arranges.coming c.draw_listed.new.drawing.level)) (sym c.hold.ensures)))),
+      passes-more Pruned _ _ _ c.loop-candidate.invariant.passes
+          (passes-more Pruned _ _ _ (passes-filter Pruned may _ _ (passes-each _ Pruned _ _ c.loop-candidate.invariant.keeps (drawn _ _ _ c.if-not-branch.false c.in_ok-draw_listed.ensures.answer)))
+          (passes-none Pruned _ _ (ap (λ kept. filter may (listed kept ++ g.L.Arranges.coming c.draw_listed.new.drawing.level)) (sym c.hold.ensures)))),
       c.in-Err.ensures.answer,
     )
 
 pub loop-candidate-preserved : goal.loop-candidate-preserved
 unfolding may_leave
 loop-candidate-preserved g c =
-    let Idle = g.C.Cuts.Idle c.args.tests.now.cuts.now in
+    let Pruned = g.C.Cuts.Pruned c.args.tests.now.cuts.now in
     let may_be_left = g.R.Rule.may_be_left c.args.tests.now.rule.now in
     let frame = c.args.tests.now.bracket.now in
     let may = may_leave may_be_left frame in
@@ -73,14 +73,14 @@ loop-candidate-preserved g c =
     ∙ ap (λ rule. not tests.bracket.now.last || leaves_one (g.R.Rule.may_be_left rule) (down tests.bracket.now left)) c.loop-candidate.invariant.rule
     ∙ ap (λ (frame : Frame). not frame.last || leaves_one may_be_left (down frame left)) c.loop-candidate.invariant.bracket in
     record {
-      passes = passes-more Idle _ _ _ c.loop-candidate.invariant.passes
-          (passes-more Idle _ _ _ (passes-filter Idle may _ _ (passes-each _ Idle _ _ c.loop-candidate.invariant.keeps (drawn _ _ _ c.if-not-branch.false c.in_ok-draw_listed.ensures.answer)))
-          (passes-none Idle _ _
+      passes = passes-more Pruned _ _ _ c.loop-candidate.invariant.passes
+          (passes-more Pruned _ _ _ (passes-filter Pruned may _ _ (passes-each _ Pruned _ _ c.loop-candidate.invariant.keeps (drawn _ _ _ c.if-not-branch.false c.in_ok-draw_listed.ensures.answer)))
+          (passes-none Pruned _ _
           (filter-drops may c.draw_listed.new.lists (g.L.Arranges.coming c.draw_listed.new.drawing.level) (sym asked ∙ drawn _ _ _ c.in-Ok-false.field-0-test c.in-Ok-false.ensures.answer)
           ∙ ap (λ kept. filter may (listed kept ++ g.L.Arranges.coming c.draw_listed.new.drawing.level)) (sym c.in_ok-draw_listed.ensures.taken))));
       bracket = c.loop-candidate.invariant.bracket;
       rule = c.loop-candidate.invariant.rule;
-      keeps = λ a idle. c.loop-candidate.invariant.keeps a (c.draw_listed.ensures.keeps a idle);
+      keeps = λ a pruned. c.loop-candidate.invariant.keeps a (c.draw_listed.ensures.keeps a pruned);
       spends = spends-more (spends-more c.loop-candidate.invariant.spends c.in_ok-draw_listed.ensures.spends) c.ask_leave.ensures.spends;
     }
 

@@ -4,12 +4,12 @@ use Rattle.dutch_listing.proofs.candidates.draw_legal.Given as goal
 
 abbrev pub invariant-loop-candidate : goal.invariant-loop-candidate
 invariant-loop-candidate g l = record {
-  passes : Passes (g.C.Cuts.Idle l.initial.tests.cuts.now)
+  passes : Passes (g.C.Cuts.Pruned l.initial.tests.cuts.now)
       (filter (may_leave (g.R.Rule.may_be_left l.initial.tests.rule.now) l.initial.tests.bracket.now) (listed l.initial.drawing.kept ++ g.L.Arranges.coming l.initial.drawing.level))
       (filter (may_leave (g.R.Rule.may_be_left l.initial.tests.rule.now) l.initial.tests.bracket.now) (listed l.drawing.kept ++ g.L.Arranges.coming l.drawing.level));
   bracket : l.tests.bracket.now ≡ l.initial.tests.bracket.now;
   rule : l.tests.rule.now ≡ l.initial.tests.rule.now;
-  keeps : (a : Arrangement) → g.C.Cuts.Idle l.tests.cuts.now a → g.C.Cuts.Idle l.initial.tests.cuts.now a;
+  keeps : (a : Arrangement) → g.C.Cuts.Pruned l.tests.cuts.now a → g.C.Cuts.Pruned l.initial.tests.cuts.now a;
   spends : Spends l.initial.budget l.budget;
 }
 

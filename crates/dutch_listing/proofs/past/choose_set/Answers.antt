@@ -9,9 +9,9 @@ pub returns-in_err-leave-in-Beginning-clause-answer : goal.returns-in_err-leave-
 returns-in_err-leave-in-Beginning-clause-answer g c =
     let was = c.loop-cuts.invariant in
     let chosen = c.args.chosen.now in
-    let Idle = g.C.Cuts.Idle c.args.cuts.now in
+    let Pruned = g.C.Cuts.Pruned c.args.cuts.now in
     let stands = came _ _ _ _ c.in-Beginning.is c.in_ok-advance.ensures.answer in
-    let left = sets-left Idle chosen.lists chosen.very_next c.if-not-chosen.true c.advance.new.self.exchange
+    let left = sets-left Pruned chosen.lists chosen.very_next c.if-not-chosen.true c.advance.new.self.exchange
     (λ a begins is.
     was.keeps a (c.cuts_exchange.ensures.told c.if-cuts_exchange.true a begins
     (subst (λ (exchange : ExchangeClass). IsExchange exchange a.s1r) (sym c.exchange.ensures) is)))
@@ -22,15 +22,15 @@ pub loop-cuts-preserved-then-cuts_exchange : goal.loop-cuts-preserved-then-cuts_
 loop-cuts-preserved-then-cuts_exchange g c =
     let was = c.loop-cuts.invariant in
     let chosen = c.args.chosen.now in
-    let Idle = g.C.Cuts.Idle c.args.cuts.now in
+    let Pruned = g.C.Cuts.Pruned c.args.cuts.now in
     let stands = came _ _ _ _ c.in-Beginning.is c.in_ok-advance.ensures.answer in
-    let left = sets-left Idle chosen.lists chosen.very_next c.if-not-chosen.true c.advance.new.self.exchange
+    let left = sets-left Pruned chosen.lists chosen.very_next c.if-not-chosen.true c.advance.new.self.exchange
     (λ a begins is.
     was.keeps a (c.cuts_exchange.ensures.told c.if-cuts_exchange.true a begins
     (subst (λ (exchange : ExchangeClass). IsExchange exchange a.s1r) (sym c.exchange.ensures) is)))
     _ _ c.leave.ensures.passes in
     record {
       passes = passes-more _ _ _ _ (passes-same _ _ _ _ was.passes (sym stands.0)) left;
-      keeps = λ a idle. was.keeps a (c.cuts_exchange.ensures.keeps a idle);
+      keeps = λ a pruned. was.keeps a (c.cuts_exchange.ensures.keeps a pruned);
       spends = spends-more (spends-more was.spends c.advance.ensures.spends) c.leave.ensures.spends;
     }

@@ -3,8 +3,8 @@ use Rattle.dutch_listing.proofs.past.choose_set.Given as goal
 
 abbrev pub invariant-loop-cuts : goal.invariant-loop-cuts
 invariant-loop-cuts g l = record {
-  passes : Passes (IsPassedSet (g.C.Cuts.Idle l.initial.cuts) l.chosen.lists l.chosen.very_next) l.initial.sets.choices.coming l.sets.choices.coming;
-  keeps : (a : Arrangement) → g.C.Cuts.Idle l.cuts a → g.C.Cuts.Idle l.initial.cuts a;
+  passes : Passes (IsPassedSet (g.C.Cuts.Pruned l.initial.cuts) l.chosen.lists l.chosen.very_next) l.initial.sets.choices.coming l.sets.choices.coming;
+  keeps : (a : Arrangement) → g.C.Cuts.Pruned l.cuts a → g.C.Cuts.Pruned l.initial.cuts a;
   spends : Spends l.initial.budget l.budget;
 }
 

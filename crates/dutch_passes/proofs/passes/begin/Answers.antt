@@ -23,8 +23,8 @@ consider-requires-clause-candidate g c =
 pub returns-in_ok-consider-in-Drawn-clause-answer : goal.returns-in_ok-consider-in-Drawn-clause-answer
 returns-in_ok-consider-in-Drawn-clause-answer g c =
     let lister = c.args.search.now.lister.now in
-    begun_behind c.args.pass.now c.consider.new.judge.kept lister.listing lister.drawn (stands g (goal.at.returns-in_ok-consider-in-Drawn-clause-answer g c).In-Drawn)
-    c.consider.ensures.kept (subst (λ kept. IsChosenNext c.args.pass.now kept c.consider.new.judge.kept lister.drawn.lists) c.clear.ensures c.in_ok-consider-in-Drawn.ensures.answer)
+    begun_behind c.args.pass.now c.consider.new.judge.incumbent lister.listing lister.drawn (stands g (goal.at.returns-in_ok-consider-in-Drawn-clause-answer g c).In-Drawn)
+    c.consider.ensures.incumbent (subst (λ incumbent. IsChosenNext c.args.pass.now incumbent c.consider.new.judge.incumbent lister.drawn.lists) c.clear.ensures c.in_ok-consider-in-Drawn.ensures.answer)
 
 pub returns-in-Anew-clause-answer : goal.returns-in-Anew-clause-answer
 returns-in-Anew-clause-answer g c =
@@ -32,5 +32,5 @@ returns-in-Anew-clause-answer g c =
     let context = pass.shaped.context.now in
     let before = c.args.search.now.lister.now.listing in
     let lists = c.requires.lister.0 in
-    subst (λ kept. LooksThrough pass kept c.restart.new.self) (sym c.clear.ensures) (begun_anew pass c.restart.new.self (sound_here context pass.wish before lists)
+    subst (λ incumbent. LooksThrough pass incumbent c.restart.new.self) (sym c.clear.ensures) (begun_anew pass c.restart.new.self (sound_here context pass.wish before lists)
     (listed_narrowed context pass.wish before lists pass.shaped.shape c.restart.new.self.coming c.restart.ensures.coming) c.restart.ensures.shape)

@@ -3,8 +3,8 @@ use Rattle.std.proofs.Common.{[], inl, inr, refl, sym, ap, ◌∙◌, subst}
 use Rattle.dutch_arrangements.specs.Prelude.{Frame, down}
 use Rattle.dutch_sequence.proofs.Spending.{spends-more}
 use Rattle.dutch_bracket.proofs.LegalPairs.{legal_of}
-use Rattle.dutch_passes.specs.Prelude.{aim_in, near_of}
-use Rattle.dutch_passes.proofs.AimLemmas.{best_last, handed, skipped_same}
+use Rattle.dutch_passes.specs.Prelude.{target_in, near_of}
+use Rattle.dutch_passes.proofs.TargetLemmas.{best_last, handed, skipped_same}
 use Rattle.dutch_choice.proofs.Listings.{lists_stay}
 use Rattle.dutch_passes.proofs.SkippedLemmas.{left_was_there}
 use Rattle.dutch_passes.proofs.passes.go_on.Goals as goal
@@ -24,13 +24,13 @@ pub loop-judge-preserved : goal.loop-judge-preserved
 loop-judge-preserved g c =
     let pass = c.args.pass.now in
     let found = rw c.if-branch.true at c.in_ok-draw.ensures.answer in
-    let kept = c.loop-judge.judge.kept in
+    let incumbent = c.loop-judge.judge.incumbent in
     let before = c.loop-judge.lister.listing in
     record {
       looks = record {
-        chosen = c.loop-judge.invariant.looks.chosen ∙ skipped_same pass.shaped.context.now pass.wish (aim_in pass.aim) kept before.coming _ c.loop-judge.invariant.looks.kept_is found.0
+        chosen = c.loop-judge.invariant.looks.chosen ∙ skipped_same pass.shaped.context.now pass.wish (target_in pass.target) incumbent before.coming _ c.loop-judge.invariant.looks.incumbent_is found.0
             ∙ sym (c.in_ok-consider.ensures.answer c.draw.new.lister.listing.coming);
-        kept_is = c.consider.ensures.kept;
+        incumbent_is = c.consider.ensures.incumbent;
         inside = λ lists m. c.loop-judge.invariant.looks.inside lists (left_was_there _ lists before.coming _ found.0 (inr m));
         shape_is = c.in_ok-draw.ensures.shape ∙ c.loop-judge.invariant.looks.shape_is;
       };
@@ -44,7 +44,7 @@ pub returns-clause-answer : goal.returns-clause-answer
 returns-clause-answer g c =
     let pass = c.args.pass.now in
     let ended = rw c.if-branch.false at c.in_ok-draw.ensures.answer in
-    let kept = c.loop-judge.judge.kept in
-    handed pass.shaped.context.now kept (near_of pass) c.loop-judge.invariant.looks.kept_is
-    (best_last pass.shaped.context.now pass.wish (aim_in pass.aim) kept (near_of pass)
-    (c.loop-judge.invariant.looks.chosen ∙ skipped_same pass.shaped.context.now pass.wish (aim_in pass.aim) kept c.loop-judge.lister.listing.coming [] c.loop-judge.invariant.looks.kept_is ended))
+    let incumbent = c.loop-judge.judge.incumbent in
+    handed pass.shaped.context.now incumbent (near_of pass) c.loop-judge.invariant.looks.incumbent_is
+    (best_last pass.shaped.context.now pass.wish (target_in pass.target) incumbent (near_of pass)
+    (c.loop-judge.invariant.looks.chosen ∙ skipped_same pass.shaped.context.now pass.wish (target_in pass.target) incumbent c.loop-judge.lister.listing.coming [] c.loop-judge.invariant.looks.incumbent_is ended))

@@ -1,4 +1,4 @@
--- What is chosen of a shape is what is chosen of the candidate that is kept and of those to come.
+-- What is chosen of a shape is what is chosen of the incumbent and those to come.
 use Rattle.std.proofs.Common.{length}
 use Rattle.dutch_arrangements.specs.Prelude.{Spends}
 use Rattle.dutch_passes.specs.Prelude.{ListsFor, LooksFor, LooksThrough}
@@ -9,7 +9,7 @@ decreases-loop-judge g l = length l.lister.listing.coming
 
 abbrev pub invariant-loop-judge : goal.invariant-loop-judge
 invariant-loop-judge g l = record {
-  looks : LooksThrough l.pass l.judge.kept l.lister.listing;
+  looks : LooksThrough l.pass l.judge.incumbent l.lister.listing;
   lists : ListsFor l.pass l.lister.listing;
   look : LooksFor l.pass l.judge.look;
   guide : g.G.Guide.knows l.judge.guide.value l.pass.shaped.context.now l.pass.shaped.shape l.pass.wish;

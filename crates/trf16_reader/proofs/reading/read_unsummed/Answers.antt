@@ -7,5 +7,5 @@ pub returns : goal.returns
 unfolding verdict_unsummed
 returns c =
     let sheet = c.in_ok-report.report in
-    accepted-gives sheet c.all_cells_fit-fits.result (all_cells_fit sheet sheet.players) c.accepted.result (verdict_unsummed c.args.bytes.now c.args.bye) c.accepted.ensures c.all_cells_fit-fits.ensures
+    accepted-gives sheet c.all_cells_fit-fits.result (all_cells_fit sheet sheet.players) c.report_if_fitting.result (verdict_unsummed c.args.bytes.now c.args.bye) c.report_if_fitting.ensures c.all_cells_fit-fits.ensures
     (rw c.in_ok-report.ensures refl)

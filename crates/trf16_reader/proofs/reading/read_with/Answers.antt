@@ -7,5 +7,5 @@ pub returns : goal.returns
 unfolding verdict
 returns c =
     let sheet = c.in_ok-report.report in
-    accepted-gives sheet c.players_fit-fits.result (players_fit sheet sheet.players) c.accepted.result (verdict c.args.bytes.now c.args.bye) c.accepted.ensures c.players_fit-fits.ensures
+    accepted-gives sheet c.players_fit-fits.result (players_fit sheet sheet.players) c.report_if_fitting.result (verdict c.args.bytes.now c.args.bye) c.report_if_fitting.ensures c.players_fit-fits.ensures
     (rw c.in_ok-report.ensures refl)

@@ -9,15 +9,15 @@ use Rattle.dutch_listing.proofs.candidates.Candidates.go_on.Goals.{then-self-2-v
 pub returns-then-self-2-clause-answer : goal.returns-then-self-2-clause-answer
 returns-then-self-2-clause-answer g c =
     let own = c.self.inside in
-    let Idle = g.C.Cuts.Idle c.args.cuts.now in
+    let Pruned = g.C.Cuts.Pruned c.args.cuts.now in
     let before = filter (may_leave (g.R.Rule.may_be_left own.rule.now) own.fitting.bracket.now) (listed own.drawing.kept ++ own.drawing.level) in
     let coming : before ≡ c.args.self.now.coming =
     sym (ap (λ told. still_coming told before) c.if-self.false) ∙ ap (λ (l : Listing g.row.R.Denot). l.coming) c.self.view_is in (
       elim c.then-self-2.branch [
-        | then-self-2-via-then-self-2 w ↦ passes-none Idle _ _ (sym coming ∙ c.self.invariant.1 w.if-self-2.true)
+        | then-self-2-via-then-self-2 w ↦ passes-none Pruned _ _ (sym coming ∙ c.self.invariant.1 w.if-self-2.true)
         | then-self-2-via-else-self-2+then-cuts_at_first w ↦
-            passes-all Idle _
-            (all-of Idle _
+            passes-all Pruned _
+            (all-of Pruned _
             (λ a. w.cuts_at_first.ensures.told w.if-cuts_at_first.true a (subst (λ filling. BeginsAt filling w.nothing.result.lists a) (sym w.nothing.ensures) (tt {0}))))
       ],
       refl,
@@ -48,7 +48,7 @@ invariant_of-self-in-Ok-true g c =
       c.self.invariant.0,
       λ too_many_left. absurd (true≢false (sym too_many_left ∙ c.if-self-2.false)),
       subst (λ told. IsOne (still_coming told after)) (sym c.if-self.false)
-          (later-candidates _ _ _ _ (g.C.Cuts.Idle c.cuts_at_first.new.self) before _ _ (drawn _ _ _ c.in-Ok-true.field-0-test c.in-Ok-true.ensures.answer).0 all),
+          (later-candidates _ _ _ _ (g.C.Cuts.Pruned c.cuts_at_first.new.self) before _ _ (drawn _ _ _ c.in-Ok-true.field-0-test c.in-Ok-true.ensures.answer).0 all),
     )
 
 pub invariant_of-self-in-Err : goal.invariant_of-self-in-Err
@@ -62,5 +62,5 @@ invariant_of-self-in-Err g c =
       c.self.invariant.0,
       λ too_many_left. absurd (true≢false (sym too_many_left ∙ c.if-self-2.false)),
       subst (λ told. IsOne (still_coming told after)) (sym c.if-self.false)
-          (still-candidates _ _ _ _ (g.C.Cuts.Idle c.cuts_at_first.new.self) before after c.in-Err.ensures.answer.0 all),
+          (still-candidates _ _ _ _ (g.C.Cuts.Pruned c.cuts_at_first.new.self) before after c.in-Err.ensures.answer.0 all),
     )

@@ -4,14 +4,14 @@ use Rattle.dutch_listing.proofs.candidates.Candidates.next_within.Goals as goal
 pub returns-clause-answer : goal.returns-clause-answer
 returns-clause-answer g c =
     let gave = c.put_next_within-step.new in
-    step-holding _ _ _ gave.candidate c.put_next_within-step.result c.holding.result c.holding.ensures
+    step-holding _ _ _ gave.candidate c.put_next_within-step.result c.with_candidate.result c.with_candidate.ensures
     c.put_next_within-step.ensures.answer
 
 pub returns-clause-too_many_left : goal.returns-clause-too_many_left
-returns-clause-too_many_left g c many = step-holding _ _ _ c.put_next_within-step.new.candidate c.put_next_within-step.result c.holding.result c.holding.ensures (c.put_next_within-step.ensures.too_many_left many)
+returns-clause-too_many_left g c many = step-holding _ _ _ c.put_next_within-step.new.candidate c.put_next_within-step.result c.with_candidate.result c.with_candidate.ensures (c.put_next_within-step.ensures.too_many_left many)
 
 pub returns-clause-ended : goal.returns-clause-ended
-returns-clause-ended g c = step-holding _ _ _ c.put_next_within-step.new.candidate c.put_next_within-step.result c.holding.result c.holding.ensures c.put_next_within-step.ensures.ended
+returns-clause-ended g c = step-holding _ _ _ c.put_next_within-step.new.candidate c.put_next_within-step.result c.with_candidate.result c.with_candidate.ensures c.put_next_within-step.ensures.ended
 
 pub returns-clause-after_end : goal.returns-clause-after_end
-returns-clause-after_end g c told = step-holding _ _ _ c.put_next_within-step.new.candidate c.put_next_within-step.result c.holding.result c.holding.ensures (c.put_next_within-step.ensures.after_end told)
+returns-clause-after_end g c told = step-holding _ _ _ c.put_next_within-step.new.candidate c.put_next_within-step.result c.with_candidate.result c.with_candidate.ensures (c.put_next_within-step.ensures.after_end told)

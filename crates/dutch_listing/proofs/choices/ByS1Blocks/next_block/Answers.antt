@@ -20,7 +20,7 @@ returns-clause-answer g c =
     let meets = g.R.Rule.meets own.rule.now in
     let made : joined c.start.new.self ≡ in_s1 meets own.k own.residents.items (if_own (λ a. a.s1) at s1) s1 =
     c.start.ensures ∙ ap (λ taken. in_s1 meets own.k own.residents.items taken s1) c.own_by_s1-own.ensures in
-    passes-none (AllByRecursion (g.C.Cuts.Idle c.args._cuts.now)) _ _
+    passes-none (AllByRecursion (g.C.Cuts.Pruned c.args._cuts.now)) _ _
     (sym c.self.view_is
     ∙ block-comes (λ a. a.s1) (in_s1 meets own.k own.residents.items) at s1 own.sets.coming later (drawn _ _ _ c.if-not-branch.false c.in_ok-put_next.ensures.answer)
     ∙ ap (λ block. block ∷ s1_blocks meets own.k own.residents.items None later) (sym made)
@@ -30,7 +30,7 @@ pub returns-in_err-put_next-clause-answer : goal.returns-in_err-put_next-clause-
 returns-in_err-put_next-clause-answer g c =
     let own = c.self.inside in
     drawn-stopped _ _ _ _ c.from_residual.ensures.0 (
-      passes-none (AllByRecursion (g.C.Cuts.Idle c.args._cuts.now)) _ _
+      passes-none (AllByRecursion (g.C.Cuts.Pruned c.args._cuts.now)) _ _
           (sym c.self.view_is
           ∙ ap (s1_blocks (g.R.Rule.meets own.rule.now) own.k own.residents.items own.resume) (sym c.in_err-put_next.ensures.answer.0)),
       c.in_err-put_next.ensures.answer.1,
@@ -40,7 +40,7 @@ pub returns-then-not-branch-clause-answer : goal.returns-then-not-branch-clause-
 returns-then-not-branch-clause-answer g c =
     let own = c.self.inside in
     let meets = g.R.Rule.meets own.rule.now in
-    passes-none (AllByRecursion (g.C.Cuts.Idle c.args._cuts.now)) _ _
+    passes-none (AllByRecursion (g.C.Cuts.Pruned c.args._cuts.now)) _ _
     (sym c.self.view_is
     ∙ ap (s1_blocks meets own.k own.residents.items own.resume) (drawn _ _ _ c.if-not-branch.true c.in_ok-put_next.ensures.answer).0
     ∙ no-blocks (λ a. a.s1) (in_s1 meets own.k own.residents.items) own.resume)

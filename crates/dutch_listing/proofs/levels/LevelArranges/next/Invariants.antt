@@ -4,9 +4,9 @@ use Rattle.dutch_listing.proofs.levels.LevelArranges.next.Given as goal
 
 abbrev pub invariant-loop-self : goal.invariant-loop-self
 invariant-loop-self g l = record {
-  passes : Passes (g.C.Cuts.Idle l.initial.cuts) (within l.initial.self-inside.block.has_begun (g.B.Block.Arranges.coming l.initial.self-inside.block.level) ++ joined (g.B.Blocks.blocks l.initial.self-inside.blocks))
+  passes : Passes (g.C.Cuts.Pruned l.initial.cuts) (within l.initial.self-inside.block.has_begun (g.B.Block.Arranges.coming l.initial.self-inside.block.level) ++ joined (g.B.Blocks.blocks l.initial.self-inside.blocks))
       (within l.self-inside.block.has_begun (g.B.Block.Arranges.coming l.self-inside.block.level) ++ joined (g.B.Blocks.blocks l.self-inside.blocks));
-  keeps : (a : Arrangement) → g.C.Cuts.Idle l.cuts a → g.C.Cuts.Idle l.initial.cuts a;
+  keeps : (a : Arrangement) → g.C.Cuts.Pruned l.cuts a → g.C.Cuts.Pruned l.initial.cuts a;
   spends : Spends l.initial.budget l.budget;
 }
 

@@ -1,15 +1,15 @@
--- What the turns before skipped is idle too.
+-- What the turns before skipped is pruned too.
 use Rattle.std.proofs.Common.{◌≡◌, ◌∷◌, true, ap, subst, ◌∙◌}
 use Rattle.dutch_arrangements.specs.Prelude.{Frame, down}
 use Rattle.dutch_sequence.proofs.Spending.{spends-more}
-use Rattle.dutch_passes.specs.Prelude.{PassesIdle, is_idle_to}
+use Rattle.dutch_passes.specs.Prelude.{PassesPruned, is_pruned_by}
 use Rattle.dutch_search.proofs.PassesTwice.{passes_twice}
 use Rattle.dutch_search.proofs.guide.BothFloorsGuide.draw.Goals as goal
 
 pub returns-in-Found-clause-answer : goal.returns-in-Found-clause-answer
 returns-in-Found-clause-answer c = (
-  passes_twice (λ a. is_idle_to c.args.so_far a ≡ true) c.args.lister.now.listing.coming c.loop-self.lister.listing.coming _ c.loop-self.invariant.passed
-      (subst (λ so_far. PassesIdle so_far c.loop-self.lister.listing.coming (c.draw_once-step.new.lister.drawn.lists ∷ c.draw_once-step.new.lister.listing.coming)) c.skipper.ensures c.in-Found.ensures.answer.0),
+  passes_twice (λ a. is_pruned_by c.args.so_far a ≡ true) c.args.lister.now.listing.coming c.loop-self.lister.listing.coming _ c.loop-self.invariant.passed
+      (subst (λ so_far. PassesPruned so_far c.loop-self.lister.listing.coming (c.draw_once-step.new.lister.drawn.lists ∷ c.draw_once-step.new.lister.listing.coming)) c.skipper.ensures c.in-Found.ensures.answer.0),
   c.in-Found.ensures.answer.1 ∙ ap (λ (frame : Frame). down frame c.draw_once-step.new.lister.drawn.lists) c.loop-self.invariant.frame,
 )
 
@@ -17,8 +17,8 @@ pub loop-self-preserved : goal.loop-self-preserved
 loop-self-preserved c =
     let before = c.loop-self.invariant in
     record {
-      passed = passes_twice (λ a. is_idle_to c.args.so_far a ≡ true) c.args.lister.now.listing.coming c.loop-self.lister.listing.coming _ before.passed
-          (subst (λ so_far. PassesIdle so_far c.loop-self.lister.listing.coming c.draw_once-step.new.lister.listing.coming) c.skipper.ensures c.in-Undecided.ensures.answer.0);
+      passed = passes_twice (λ a. is_pruned_by c.args.so_far a ≡ true) c.args.lister.now.listing.coming c.loop-self.lister.listing.coming _ before.passed
+          (subst (λ so_far. PassesPruned so_far c.loop-self.lister.listing.coming c.draw_once-step.new.lister.listing.coming) c.skipper.ensures c.in-Undecided.ensures.answer.0);
       frame = c.draw_once-step.ensures.frame ∙ before.frame;
       shape = c.draw_once-step.ensures.shape ∙ before.shape;
       rule = c.draw_once-step.ensures.rule ∙ before.rule;

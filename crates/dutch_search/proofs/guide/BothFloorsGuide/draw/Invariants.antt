@@ -1,12 +1,12 @@
--- What was skipped in the turns so far is idle, and the walk goes on with the rest.
+-- What was skipped in the turns so far is pruned, and the walk goes on with the rest.
 use Rattle.std.proofs.Common.{◌≡◌, ◌-◌}
 use Rattle.dutch_arrangements.specs.Prelude.{Spends}
-use Rattle.dutch_passes.specs.Prelude.{PassesIdle}
+use Rattle.dutch_passes.specs.Prelude.{PassesPruned}
 use Rattle.dutch_search.proofs.guide.BothFloorsGuide.draw.Given as goal
 
 abbrev pub invariant-loop-self : goal.invariant-loop-self
 invariant-loop-self l = record {
-  passed : PassesIdle l.so_far l.initial.lister.listing.coming l.lister.listing.coming;
+  passed : PassesPruned l.so_far l.initial.lister.listing.coming l.lister.listing.coming;
   frame : l.lister.listing.frame ≡ l.initial.lister.listing.frame;
   shape : l.lister.listing.shape ≡ l.initial.lister.listing.shape;
   rule : l.lister.listing.rule ≡ l.initial.lister.listing.rule;

@@ -1,6 +1,0 @@
--- There is a place for each vertex so far.
-use Rattle.std.proofs.Common.{◌≡◌, vec_len}
-use Rattle.cheapest.proofs.pairs.wanted.Given as goal
-
-abbrev pub invariant-loop-v : goal.invariant-loop-v
-invariant-loop-v l = vec_len l.wanted ≡ l.v

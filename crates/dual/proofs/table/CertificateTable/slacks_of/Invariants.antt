@@ -1,0 +1,11 @@
+-- The rows so far are written.
+use Rattle.std.proofs.Common.{◌≡◌, ◌*◌, ◌^◌, All, length, take}
+use Rattle.dual.specs.Prelude.{AllBear, HasSlacks, certificate_in}
+use Rattle.dual.proofs.table.CertificateTable.slacks_of.Given as goal
+
+abbrev pub invariant-loop-a : goal.invariant-loop-a
+invariant-loop-a g l = record {
+  size : length l.slacks.items ≡ l.size * l.size;
+  bear : All (λ u. AllBear (g.R.MatchingRule.costs l.pool.rule.now) (certificate_in l.self) (2 ^ 512) u l.pool.players.now) (take l.a-index l.pool.players.now);
+  told : All (λ u. HasSlacks (g.R.MatchingRule.costs l.pool.rule.now) (certificate_in l.self) u l.pool.players.now (u * l.size) l.slacks.items) (take l.a-index l.pool.players.now);
+}

@@ -1,0 +1,83 @@
+// The best candidate that a pass has found so far, if it has found one. Its place is on the heap, as it is large.
+ghost use Rattle.std.specs.Prelude.{◌≡◌, None, Some, IfOk, option_copied, option_map};
+ghost use Rattle.std.specs.Result.{MatchResult};
+
+use dutch_arrangements::Candidate;
+use dutch_bracket::fault::PairFault;
+use dutch_bracket::quality::Quality;
+use dutch_choice::finder::Best;
+use std::alloc::Global;
+use std::marker::Model;
+use std::mem::{replace, swap};
+
+/// A place for the best candidate so far, with its quality.
+#[derive(Drop)]
+pub struct Incumbent {
+    best: Box<Best>,
+    is_there: bool,
+}
+
+impl Model for Incumbent {
+    ghost use Rattle.std.specs.Prelude.{Option};
+    ghost use Rattle.dutch_arrangements.specs.Prelude.{only_if};
+    ghost use Rattle.dutch_choice.specs.declared.finder.Best.{Best};
+
+    ghost Value = { Option Best };
+
+    ghost view = { λ k. only_if k.is_there k.best.value };
+}
+
+impl Incumbent {
+    /// An empty place.
+    pub fn none(alloc: Global) -> Result<Incumbent, PairFault>
+        ensures { IfOk result (λ incumbent. incumbent ≡ None) }
+    {
+        Ok(Incumbent {
+            best: Box::new(alloc, Best::empty())?,
+            is_there: false,
+        })
+    }
+
+    /// The incumbent, if there is one.
+    pub fn best(&self) -> Option<&Best>
+        ensures { option_copied result ≡ self.now }
+    {
+        if self.is_there {
+            Some(&*self.best)
+        } else {
+            None
+        }
+    }
+
+    /// Empties the place.
+    pub fn clear(&mut self)
+        ensures { self.new ≡ None }
+    {
+        self.is_there = false;
+    }
+
+    /// Keeps a candidate and the quality that was worked out for it, in place of the one before.
+    pub fn keep(&mut self, candidate: &Candidate, quality: &mut Quality)
+        ensures { self.new ≡ Some (record { candidate = candidate.now; quality = quality.old }) }
+    {
+        self.best.candidate.fill(candidate);
+        swap(&mut self.best.quality, quality);
+        self.is_there = true;
+    }
+
+    /// Takes out the incumbent, if there is one, and leaves an empty place.
+    ///
+    /// # Errors
+    /// Memory for another place was refused; then the incumbent stays.
+    pub fn take(&mut self, alloc: Global) -> Result<Option<Box<Best>>, PairFault>
+        ensures taken { IfOk result (λ taken. option_map (λ best. best.value) taken ≡ self.old) }
+        ensures left { MatchResult result (λ _. self.new ≡ None) (λ _. self.new ≡ self.old) }
+    {
+        if !self.is_there {
+            return Ok(None);
+        }
+        let place = Box::new(alloc, Best::empty())?;
+        self.is_there = false;
+        Ok(Some(replace(&mut self.best, place)))
+    }
+}

@@ -1,0 +1,486 @@
+// Floors of a bracket by the weight of its candidates (C.04.3 C.6, C.8 to C.19, and C.7 where that is measured), and
+// what they say behind a beginning. They are asked at each beginning that a choice comes to, so an answer takes no
+// memory, and looks at each pair of the beginning once for each floor.
+ghost use Rattle.std.specs.Prelude.{◌≡◌, ◌+◌, ◌-◌, ◌*◌, ◌<◌, ◌≤◌, ◌↔◌, All, IfOk, IfSome, IsTrue, is_some, true};
+ghost use Rattle.std.specs.Prelude.{drop, length, sum_by, if◌then◌else◌};
+ghost use Rattle.std.specs.List.{zip};
+ghost use Rattle.dual.specs.Prelude.{slack_in, slack_left_in};
+ghost use Rattle.dutch_sequence.specs.declared.numbers.TheConstants.{LIMIT};
+ghost use Rattle.dutch_weight_floors.specs.declared.scoped.Reach.TheVariants.{Lower};
+ghost use Rattle.dutch_weight_floors.specs.ScopedCosts.{MeasuresNext};
+ghost use Rattle.dutch_bracket.specs.Prelude.{one_if, quality_in, is_penultimate};
+ghost use Rattle.dutch_weighing.specs.Prelude.{IsScaleFor, IsScaleHere};
+ghost use Rattle.dutch_weight_floors.specs.WeightFloors.{IsMostAdded, IsWeightFloor, Weighed, bound_behind, is_first};
+ghost use Rattle.dutch_weight_floors.specs.WeightFloors.{left_known, passed_over, weighed_for};
+
+use crate::ask_schedule::AskSchedule;
+use crate::order::{Halves, Order};
+use crate::scope::Scope;
+use crate::scoped::{Reach, Scoped, Sought};
+use dual::{CertificateTable, Floor, Wide};
+use dutch_arrangements::{Exchange, Filling, LIMIT, Prefix, Shape};
+use dutch_bracket::context::Context;
+use dutch_bracket::quality::Quality;
+use dutch_candidates::fixed_lists::fixed_lists;
+use dutch_candidates::wish::Wish;
+use dutch_weighing::{DigitPlan, Scale, Weighing};
+use std::alloc::AllocError;
+use std::marker::Model;
+
+/// So many floors are kept. Each is asked at each beginning.
+const KEPT: usize = 4;
+
+/// The matchings go over all lower players too only if all together are no more than so many: the steps of a floor grow
+/// with the square of their number.
+const MOST_REACHED: usize = 400;
+
+/// Weights of at most so many bits leave room for their sum over all players, for twice that sum, and for what it costs
+/// to be left over.
+const MOST_BITS: usize = 482;
+
+/// What a quality weighs, and what all with a higher PSD weigh at least.
+#[derive(Clone, Copy)]
+pub struct Bar {
+    weight: Wide,
+    above: Wide,
+}
+
+/// A floor by a certificate that was checked, which arrangements it is for, and what it counts of their order (D.2).
+#[derive(Drop)]
+pub(crate) struct ScopedFloor {
+    pub scope: Scope,
+    pub(crate) order: Order,
+    pub(crate) floor: Floor,
+}
+
+impl Model for ScopedFloor {
+    ghost use Rattle.dutch_weight_floors.specs.WeightFloors.{ScopedFloor};
+
+    ghost Value = { ScopedFloor };
+
+    ghost view = { λ f. record { scope = f.scope; order = f.order; floor = f.floor } };
+}
+
+/// Floors of a bracket and a shape by weight, for the candidates that grant what is wished.
+#[derive(Drop)]
+pub struct WeightFloors<'a> {
+    pub(crate) weighing: Weighing<'a>,
+    pub(crate) shape: Shape,
+    pub(crate) wish: Option<Wish>,
+    pub(crate) floors: Vec<ScopedFloor>,
+    pub(crate) schedule: AskSchedule,
+}
+
+impl<'a> Model for WeightFloors<'a> {
+    ghost use Rattle.dutch_weight_floors.specs.WeightFloors.{AreFloors, Weighed, weighed_for};
+
+    ghost Value = { Weighed };
+
+    ghost view = { λ w. weighed_for w.weighing w.shape w.wish };
+
+    ghost invariant = { λ w. AreFloors (weighed_for w.weighing w.shape w.wish) w.floors.items };
+}
+
+/// A sum with what the pairs of two lists add to a floor; none if it does not fit.
+fn plus_pairs(floor: &Floor, firsts: &[u16], seconds: &[u16], sum: Wide) -> Option<Wide>
+    ensures { IfSome result (λ n. n ≡ sum + sum_by (slack_in floor.now) (zip firsts.now seconds.now)) }
+{
+    let count = firsts.len().min(seconds.len());
+    let mut sum = sum;
+    for i in 0..count {
+        sum = sum.plus(floor.slack(firsts[i], seconds[i]))?;
+    }
+    Some(sum)
+}
+
+fn is_at(list: &[u16], place: usize, number: u16) -> bool
+    ensures { result ≡ is_first number (drop place list.now) }
+{
+    place < list.len() && list[place] == number
+}
+
+/// What a player adds who is known to be left over; nothing for one who is met in S1.
+fn extra_outside(floor: &Floor, is_met: bool, number: u16) -> Wide
+    ensures { result ≡ (if is_met then 0 else slack_left_in floor.now number) }
+{
+    if is_met {
+        Wide::zero()
+    } else {
+        floor.slack_left(number)
+    }
+}
+
+/// The place behind one that is met, or else the same place.
+fn place_after(place: usize, is_met: bool) -> usize
+    requires { place < LIMIT }
+    ensures { result ≡ place + one_if is_met }
+{
+    if is_met { place + 1 } else { place }
+}
+
+/// A sum with what the moved-down players add that S1 passes over; none if it does not fit.
+fn plus_outside(floor: &Floor, mdps: usize, s1: &[u16], sum: Wide) -> Option<Wide>
+    requires { mdps ≤ LIMIT }
+    ensures { IfSome result (λ n. n ≡ sum + sum_by (slack_left_in floor.now) (passed_over s1.now 1 mdps)) }
+{
+    let mut sum = sum;
+    let mut met = 0;
+    for above in 0..mdps {
+        let number = above as u16 + 1;
+        let is_met = is_at(s1, met, number);
+        sum = sum.plus(extra_outside(floor, is_met, number))?;
+        met = place_after(met, is_met);
+    }
+    Some(sum)
+}
+
+/// A sum with what those add who are known to be left over; none if it does not fit.
+fn plus_left(floor: &Floor, mdps: usize, prefix: &Prefix<'_>, sum: Wide) -> Option<Wide>
+    requires { mdps ≤ LIMIT }
+    ensures { IfSome result (λ n. n
+        ≡ sum + sum_by (slack_left_in floor.now) (left_known prefix.now.filling mdps prefix.now.lists.s1)) }
+{
+    match prefix.filling() {
+        Filling::ChoosingS1 => return Some(sum),
+        Filling::S2 | Filling::S2r => return plus_outside(floor, mdps, prefix.s1(), sum),
+    }
+}
+
+/// What a floor says behind a beginning; none if that is nothing, or if it does not fit.
+fn bound_behind(floor: &Floor, mdps: usize, prefix: &Prefix<'_>) -> Option<Wide>
+    requires { mdps ≤ LIMIT }
+    ensures { IfSome result (λ n. n + floor.now.debt ≡ bound_behind floor.now mdps prefix.now) }
+{
+    let lists = fixed_lists(prefix);
+    let first = plus_pairs(floor, lists.s1, lists.s2, floor.base())?;
+    let second = plus_pairs(floor, lists.s1r, lists.s2r, first)?;
+    let all = plus_left(floor, mdps, prefix, second)?;
+    all.minus(floor.debt())
+}
+
+impl ScopedFloor {
+    /// How much of what the floor says behind a beginning is added by the order at most; none if that is not known.
+    #[tactic(auto, using(crate::proofs::D02Orders::nothing_added))]
+    fn of_order(&self, prefix: &Prefix<'_>) -> Option<Wide>
+        ensures { IfSome result (IsMostAdded self.now.order prefix.now) }
+    {
+        if self.order.is_none() {
+            return Some(Wide::zero());
+        }
+        match prefix.filling() {
+            Filling::ChoosingS1 | Filling::S2 => None,
+            Filling::S2r => self.order.of(prefix.s1r()),
+        }
+    }
+}
+
+/// Drops the floor that counts an order, if there is one.
+fn drop_ordered(floors: &mut Vec<ScopedFloor>)
+    ensures { (w : Weighed) → All (IsWeightFloor w) floors.old.items → All (IsWeightFloor w) floors.new.items }
+{
+    let Some(place) = floors.iter().position(|kept| !kept.order.is_none()) else {
+        return;
+    };
+    floors.remove(place);
+}
+
+/// If there is no room for one more, drops the oldest floor that counts no order, but never the first floor.
+fn drop_oldest(floors: &mut Vec<ScopedFloor>)
+    ensures { (w : Weighed) → All (IsWeightFloor w) floors.old.items → All (IsWeightFloor w) floors.new.items }
+{
+    if floors.len() < KEPT {
+        return;
+    }
+    let place = if floors[1].order.is_none() { 1 } else { 2 };
+    floors.remove(place);
+}
+
+/// Makes room for a floor that counts an order, or for one that counts none.
+fn make_room(floors: &mut Vec<ScopedFloor>, counts_order: bool)
+    ensures { (w : Weighed) → All (IsWeightFloor w) floors.old.items → All (IsWeightFloor w) floors.new.items }
+{
+    if counts_order {
+        drop_ordered(floors);
+    }
+    drop_oldest(floors);
+}
+
+/// Keeps one floor more, in place of another one if there is no room, or if both count an order.
+fn keep(floors: &mut Vec<ScopedFloor>, floor: ScopedFloor) -> Result<(), AllocError>
+    ensures { (w : Weighed) → All (IsWeightFloor w) floors.old.items → IsWeightFloor w floor
+        → All (IsWeightFloor w) floors.new.items }
+{
+    make_room(floors, !floor.order.is_none());
+    floors.push(floor)?;
+    Ok(())
+}
+
+impl Bar {
+    /// So much weight is no less than that of the quality.
+    pub fn is_reached(&self, weight: Wide) -> bool
+        ensures { IsTrue result ↔ (self.now.weight ≤ weight) }
+    {
+        !weight.is_less(self.weight)
+    }
+
+    /// So much weight is more than that of the quality.
+    pub fn is_passed(&self, weight: Wide) -> bool
+        ensures { IsTrue result ↔ (self.now.weight < weight) }
+    {
+        self.weight.is_less(weight)
+    }
+
+    /// So much weight is more than any with the same PSD has.
+    pub fn is_above(&self, weight: Wide) -> bool
+        ensures { IsTrue result ↔ (self.now.above ≤ weight) }
+    {
+        !weight.is_less(self.above)
+    }
+}
+
+/// How many bits the order of S1R takes; none if there is no resident.
+fn order_bits(context: &Context<'_>) -> u32 {
+    let mdps = context.reached().mdps();
+    match Halves::new(context.len(), mdps, mdps + 1) {
+        Some(halves) => halves.width(),
+        None => 0,
+    }
+}
+
+/// A scale with digits for C.16 to C.19 and room for the order of S1R (D.2), if its weights have at most `MOST_BITS`
+/// bits; else one without that room, or without those digits, or without both.
+fn scale_for(context: &Context<'_>, shape: Shape, next: bool) -> Scale
+    ensures { IsScaleHere context.now shape result }
+{
+    let order = order_bits(context);
+    for floats in [true, false] {
+        for spare in [order, 0] {
+            let plan = DigitPlan {
+                next,
+                floats,
+                spare,
+            };
+            let scale = Scale::of(context, shape, plan);
+            if scale.width() <= MOST_BITS {
+                return scale;
+            }
+        }
+    }
+    Scale::of(context, shape, DigitPlan::least(next))
+}
+
+impl<'a> WeightFloors<'a> {
+    ghost use Rattle.dutch_weight_floors.specs.WeightFloors.{AreOf, IsBar, IsLeast, IsLeastWith};
+
+    /// The floors of a bracket and a shape: none so far.
+    fn new(weighing: Weighing<'a>, shape: Shape, wish: Option<Wish>) -> WeightFloors<'a>
+        requires { IsScaleFor weighing.facts weighing.reached weighing.lower shape weighing.scale }
+        ensures { result ≡ weighed_for weighing.entry shape wish }
+    {
+        let alloc = weighing.context().alloc();
+        WeightFloors {
+            weighing,
+            shape,
+            wish,
+            floors: Vec::new(alloc),
+            schedule: AskSchedule::new(alloc),
+        }
+    }
+
+    /// Weighs a bracket's pairs and downfloaters on a scale, for floors of a shape. No floor is kept yet. None says
+    /// that a weight does not fit. The time grows with the square of the number of players.
+    pub(crate) fn read(
+        context: &'a Context<'a>,
+        shape: Shape,
+        wish: Option<Wish>,
+        scale: Scale,
+    ) -> Result<Option<WeightFloors<'a>>, AllocError>
+        requires { IsScaleHere context.now shape scale }
+        ensures { IfOk result (λ found. IfSome found (AreOf context.now shape wish)) }
+    {
+        match Weighing::read(context, scale)? {
+            Some(weighing) => return Ok(Some(WeightFloors::new(weighing, shape, wish))),
+            None => return Ok(None),
+        }
+    }
+
+    /// Weighs a bracket's pairs and downfloaters for floors of a shape, on a scale with as many digits as there is room
+    /// for, and with those of C.7 if they are wanted. None says that a weight does not fit.
+    #[inline(never)]
+    pub fn weigh(
+        context: &'a Context<'a>,
+        shape: Shape,
+        wish: Option<Wish>,
+        next: bool,
+    ) -> Result<Option<WeightFloors<'a>>, AllocError>
+        ensures { IfOk result (λ found. IfSome found (AreOf context.now shape wish)) }
+    {
+        WeightFloors::read(context, shape, wish, scale_for(context, shape, next))
+    }
+
+    /// How many steps a walk that has made so many still makes before a floor is asked for.
+    pub fn steps_before_asking(&self, made: u64) -> u64 {
+        self.schedule
+            .steps_before_asking(self.weighing.context().len(), made)
+    }
+
+    /// Notes that floors were asked for between two numbers of steps.
+    pub fn note(&mut self, from: u64, to: u64)
+        ensures { self.new ≡ self.old }
+    {
+        self.schedule.note(from, to);
+    }
+
+    /// The players that the matchings go over: the next lower scoregroup too if C.7 is measured; in the penultimate
+    /// bracket all lower players too (C.4), unless they are too many.
+    pub(crate) fn reach(&self) -> Reach
+        ensures lower { result ≡ Lower → is_penultimate self.now.reached.kind ≡ true }
+        ensures next { MeasuresNext result self.now.scale }
+    {
+        if self.weighing.scale().counts_next() {
+            return Reach::Next;
+        }
+        let context = self.weighing.context();
+        let is_penultimate = context.reached().kind().is_penultimate();
+        if is_penultimate && context.len() + context.lower().len() <= MOST_REACHED {
+            Reach::Lower
+        } else {
+            Reach::Bracket
+        }
+    }
+
+    /// How many players the matchings go over.
+    pub(crate) fn size(&self) -> usize
+        ensures { result ≤ LIMIT }
+    {
+        let context = self.weighing.context();
+        match self.reach() {
+            Reach::Bracket => context.len(),
+            Reach::Lower => context.len() + context.lower().len(),
+            Reach::Next => context.len_below(),
+        }
+    }
+
+    /// How many players the matchings of the bracket alone leave over.
+    fn left_over_count(&self) -> usize
+        ensures { result ≡ length self.now.reached.seats - 2 * self.now.shape.pairs }
+    {
+        self.weighing
+            .context()
+            .len()
+            .saturating_sub(self.shape.pairs)
+            .saturating_sub(self.shape.pairs)
+    }
+
+    /// Checks a certificate for the arrangements of a scope, with what an order adds. None says that it gives no floor.
+    fn check(
+        &self,
+        table: &CertificateTable,
+        scope: &Scope,
+        order: Order,
+    ) -> Result<Option<ScopedFloor>, AllocError>
+        ensures { IfOk result (λ found. IfSome found (IsWeightFloor self.now)) }
+    {
+        let reach = self.reach();
+        let wish = self.wish;
+        let scoped = Scoped::new(&self.weighing, Sought { scope, wish }, reach, &order);
+        let Some(floor) = scoped.floor(table, self.left_over_count())? else {
+            return Ok(None);
+        };
+        let floor = reach.kept(floor);
+        let scope = scope.copied();
+        Ok(Some(ScopedFloor {
+            scope,
+            order,
+            floor,
+        }))
+    }
+
+    /// Checks a certificate for the arrangements of a scope, with what an order adds, and keeps its floor in place of
+    /// another one if there is no room. A no says that it gives none.
+    pub(crate) fn put(
+        &mut self,
+        table: &CertificateTable,
+        scope: &Scope,
+        order: Order,
+    ) -> Result<bool, AllocError>
+        ensures { self.new ≡ self.old }
+    {
+        let Some(floor) = self.check(table, scope, order)? else {
+            return Ok(false);
+        };
+        keep(&mut self.floors, floor)?;
+        Ok(true)
+    }
+
+    /// The bar of a quality; none if the scale has not all its differences, or a weight does not fit.
+    pub fn bar(&self, quality: &Quality) -> Option<Bar>
+        ensures { IfSome result (IsBar self.now.scale (quality_in quality.now)) }
+    {
+        let scale = self.weighing.scale();
+        if !scale.measures(quality) {
+            return None;
+        }
+        let weight = scale.weigh(quality)?;
+        let above = scale.weigh_above(quality)?;
+        Some(Bar { weight, above })
+    }
+
+    /// Yes if its scale can weigh a quality, as it has a digit for each of its differences.
+    pub fn measures(&self, quality: &Quality) -> bool {
+        self.weighing.scale().measures(quality)
+    }
+
+    /// Yes if its weights tell of the next bracket (C.7).
+    pub fn counts_next(&self) -> bool
+        ensures { result ≡ is_some self.now.scale.next }
+    {
+        self.weighing.scale().counts_next()
+    }
+
+    /// How many floors are kept.
+    pub fn len(&self) -> usize {
+        self.floors.len()
+    }
+
+    /// The bound that the floor at a place gives behind a beginning; none if there is none there, or if it tells
+    /// nothing.
+    pub fn least_by(&self, place: usize, prefix: &Prefix<'_>) -> Option<Wide>
+        ensures { IfSome result (IsLeast self.now prefix.now) }
+    {
+        if place >= self.floors.len() || !self.floors[place].scope.covers(prefix) {
+            return None;
+        }
+        let kept = &self.floors[place];
+        self.least_less(kept, prefix, kept.of_order(prefix)?)
+    }
+
+    /// The bound that the floor at a place gives behind a beginning for candidates with such an S1R; none if there is
+    /// no floor there, if it tells nothing, or if it counts no order.
+    pub fn least_with(
+        &self,
+        place: usize,
+        prefix: &Prefix<'_>,
+        exchange: &Exchange<'_>,
+    ) -> Option<Wide>
+        ensures { IfSome result (IsLeastWith self.now prefix.now exchange.now) }
+    {
+        if place >= self.floors.len() || !self.floors[place].scope.covers(prefix) {
+            return None;
+        }
+        let kept = &self.floors[place];
+        if kept.order.is_none() {
+            return None;
+        }
+        self.least_less(kept, prefix, kept.order.most(exchange)?)
+    }
+
+    /// What a floor says behind a beginning, less what its order adds; none if that is nothing, or if it does not fit.
+    fn least_less(&self, kept: &ScopedFloor, prefix: &Prefix<'_>, order: Wide) -> Option<Wide>
+        ensures { IfSome result (λ n. (n + order) + kept.now.floor.debt
+            ≡ bound_behind kept.now.floor self.now.reached.mdps prefix.now) }
+    {
+        let mdps = self.weighing.context().reached().mdps();
+        bound_behind(&kept.floor, mdps, prefix)?.minus(order)
+    }
+}
