@@ -66,8 +66,8 @@ class _Lengths(ctypes.Structure):
 
 
 _ERRORS = {it.status: it for it in (ReportRefused, BadWords, NoPairing, Undecided, Trouble)}
-# what most texts fit into; a longer one is asked for again
-_ROOM = 1 << 16
+# how many bytes most outputs and messages fit into; a longer one is asked for again
+_ROOMS = 1 << 16, 1 << 12
 
 
 class Arbiter:
@@ -86,7 +86,7 @@ class Arbiter:
             if "\n" in word or "\r" in word:
                 raise ValueError(f"a word with a line end: {word!r}")
         text = "".join(f"{word}\n" for word in words).encode(errors="surrogateescape")
-        rooms = _ROOM, _ROOM
+        rooms = _ROOMS
         while True:
             output, message = (ctypes.create_string_buffer(room) for room in rooms)
             lengths = _Lengths()

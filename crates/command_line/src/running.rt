@@ -24,6 +24,18 @@ use round_commands::pair::pair;
 use std::alloc::{AllocError, Global};
 use trf16_report::{Sink, Source};
 
+/// How much memory a run takes in one block at its start, in bytes, and gives back at once: more than a bracket of a few
+/// hundred players takes.
+const WORKING_MEMORY: usize = 1 << 19;
+
+// Takes a block of memory and gives it back untouched. The C library gives the free end of its heap back to the system
+// once that is larger than it has learned to keep, and then takes it anew, page by page, for the next bracket. From a
+// block of this size it learns to keep as much. Nothing else depends on it: if it is refused, the run goes on.
+#[inline(never)]
+fn widen_heap(alloc: Global) {
+    let _: Result<Vec<u8>, AllocError> = Vec::with_capacity(alloc, WORKING_MEMORY);
+}
+
 /// Carries out what the words after the program's name ask for, over the report that the source
 /// gives, and answers with the status of the program's end.
 ///
@@ -44,6 +56,7 @@ pub fn run<'a, F: Finder, R: Source, O: Sink, E: Sink>(
         (use_of O.held O.failures out.old out.new)
         (use_of E.held E.failures err.old err.new) result }
 {
+    widen_heap(alloc);
     reply::<F, R>(alloc, words, reader).write(out, err)
 }
 

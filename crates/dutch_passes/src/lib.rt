@@ -15,4 +15,4 @@ pub use guide::{Guide, Workroom};
 pub use incumbent::Incumbent;
 pub use pass::{Pass, PassSoFar, is_barred, is_barred_with, loses};
 pub use passes::{PassRoom, best_in_time};
-pub use remembered::{Judge, Look, LookAhead, look_below};
+pub use remembered::{Look, LookAhead, PassState, look_below};

@@ -14,7 +14,7 @@ ghost use Rattle.dutch_passes.specs.Passes.{SeeksTheSame, near_of, wished_of};
 
 use crate::guide::Guide;
 use crate::pass::{Pass, PassSoFar, loses};
-use crate::remembered::{Judge, judge_candidate};
+use crate::remembered::{PassState, judge_candidate};
 use dutch_arrangements::{Budget, Candidate, Stopped};
 use dutch_bracket::reached::BracketKind;
 use dutch_bracket::spending::at_most;
@@ -24,12 +24,12 @@ use dutch_candidates::wish::is_wished;
 use dutch_choice::start::Start;
 use dutch_completion::eligible::can_be_chosen;
 
-/// What the passes over the candidates of a shape are made with: the judge, which tells the quality of candidates and
-/// keeps the best one; and the lister that draws them, with where it begins.
+/// What the passes over the candidates of a shape are made with: their state, and the lister that draws the candidates,
+/// with where it begins.
 #[derive(Drop)]
 pub struct PassRoom<'a, 'l, 'r, 'n, G: Guide> {
     // (on the heap, as it is large)
-    pub judge: Box<Judge<'a, G>>,
+    pub state: Box<PassState<'a, G>>,
     pub lister: &'l mut Lister<'r, NarrowedRule<'n>>,
     pub start: Start,
 }
@@ -39,30 +39,30 @@ pub struct PassRoom<'a, 'l, 'r, 'n, G: Guide> {
 fn consider<G: Guide>(
     pass: &Pass<'_>,
     candidate: &Candidate,
-    judge: &mut Judge<'_, G>,
+    state: &mut PassState<'_, G>,
     budget: &mut Budget,
 ) -> Result<(), Stopped>
     requires candidate { IsHere pass.now.shaped.context.now candidate.now }
-    requires incumbent { IsIncumbent pass.now.shaped.context.now judge.old.incumbent }
-    requires look { LooksFor pass.now judge.old.look }
+    requires incumbent { IsIncumbent pass.now.shaped.context.now state.old.incumbent }
+    requires look { LooksFor pass.now state.old.look }
     ensures answer { MatchResult result
-        (λ _. IsChosenNext pass.now judge.old.incumbent judge.new.incumbent candidate.now.lists)
+        (λ _. IsChosenNext pass.now state.old.incumbent state.new.incumbent candidate.now.lists)
         (λ _. budget.new.used ≡ budget.new.limit) }
-    ensures incumbent { IsIncumbent pass.now.shaped.context.now judge.new.incumbent }
-    ensures look { LooksFor pass.now judge.new.look }
-    ensures guide { judge.new.guide ≡ judge.old.guide }
+    ensures incumbent { IsIncumbent pass.now.shaped.context.now state.new.incumbent }
+    ensures look { LooksFor pass.now state.new.look }
+    ensures guide { state.new.guide ≡ state.old.guide }
     ensures spends { Spends budget.old budget.new }
 {
     if !is_wished(pass.wish, candidate) {
         return Ok(());
     }
-    judge_candidate(pass.shaped.context, candidate, judge, budget)?;
-    let work = &mut *judge.work;
-    if loses(&work.room.quality, &pass.target, &judge.incumbent) {
+    judge_candidate(pass.shaped.context, candidate, state, budget)?;
+    let work = &mut *state.work;
+    if loses(&work.room.quality, &pass.target, &state.incumbent) {
         return Ok(());
     }
-    if can_be_chosen(pass.shaped.context, candidate, &mut judge.left, budget)? {
-        judge.incumbent.keep(candidate, &mut work.room.quality);
+    if can_be_chosen(pass.shaped.context, candidate, &mut state.left, budget)? {
+        state.incumbent.keep(candidate, &mut work.room.quality);
     }
     Ok(())
 }
@@ -75,22 +75,22 @@ fn begin<G: Guide>(
     budget: &mut Budget,
 ) -> Result<(), Stopped>
     requires lister { IsLentFor pass.now search.old.start search.old.lister.now }
-    requires look { LooksFor pass.now search.old.judge.value.look }
+    requires look { LooksFor pass.now search.old.state.value.look }
     ensures answer { MatchResult result
-        (λ _. LooksThrough pass.now search.new.judge.value.incumbent search.new.lister.now.listing)
+        (λ _. LooksThrough pass.now search.new.state.value.incumbent search.new.lister.now.listing)
         (λ _. budget.new.used ≡ budget.new.limit) }
     ensures lists { ListsFor pass.now search.new.lister.now.listing }
     ensures start { search.new.start ≡ Anew }
-    ensures look { LooksFor pass.now search.new.judge.value.look }
-    ensures guide { search.new.judge.value.guide ≡ search.old.judge.value.guide }
+    ensures look { LooksFor pass.now search.new.state.value.look }
+    ensures guide { search.new.state.value.guide ≡ search.old.state.value.guide }
     ensures spends { Spends budget.old budget.new }
 {
-    let judge = &mut *search.judge;
-    judge.incumbent.clear();
+    let state = &mut *search.state;
+    state.incumbent.clear();
     match search.start {
         Start::Drawn => {
             search.start = Start::Anew;
-            consider(pass, &search.lister.drawn, judge, budget)?;
+            consider(pass, &search.lister.drawn, state, budget)?;
             Ok(())
         }
         Start::Anew => {
@@ -104,32 +104,32 @@ fn begin<G: Guide>(
 fn go_on<'a, G: Guide>(
     pass: &'a Pass<'a>,
     lister: &mut Lister<'_, NarrowedRule<'_>>,
-    judge: &mut Judge<'_, G>,
+    state: &mut PassState<'_, G>,
     budget: &mut Budget,
 ) -> Result<(), Stopped>
-    requires looks { LooksThrough pass.now judge.old.incumbent lister.old.listing }
+    requires looks { LooksThrough pass.now state.old.incumbent lister.old.listing }
     requires lists { ListsFor pass.now lister.old.listing }
-    requires look { LooksFor pass.now judge.old.look }
-    requires guide { G.knows judge.old.guide.value pass.now.shaped.context.now pass.now.shaped.shape pass.now.wish }
+    requires look { LooksFor pass.now state.old.look }
+    requires guide { G.knows state.old.guide.value pass.now.shaped.context.now pass.now.shaped.shape pass.now.wish }
     ensures answer { MatchResult result
-        (λ _. MatchOption judge.new.incumbent (near_of pass.now ≡ None)
+        (λ _. MatchOption state.new.incumbent (near_of pass.now ≡ None)
         (IsBest pass.now.shaped.context.now (near_of pass.now)))
         (λ _. budget.new.used ≡ budget.new.limit) }
     ensures lists { ListsFor pass.now lister.new.listing }
-    ensures look { LooksFor pass.now judge.new.look }
-    ensures guide { G.knows judge.new.guide.value pass.now.shaped.context.now pass.now.shaped.shape pass.now.wish }
+    ensures look { LooksFor pass.now state.new.look }
+    ensures guide { G.knows state.new.guide.value pass.now.shaped.context.now pass.now.shaped.shape pass.now.wish }
     ensures spends { Spends budget.old budget.new }
 {
-    while judge.guide.draw(
+    while state.guide.draw(
         PassSoFar {
             pass,
-            incumbent: &judge.incumbent,
+            incumbent: &state.incumbent,
         },
         lister,
-        &mut *judge.work,
+        &mut *state.work,
         budget,
     )? {
-        consider(pass, &lister.drawn, judge, budget)?;
+        consider(pass, &lister.drawn, state, budget)?;
     }
     Ok(())
 }
@@ -143,19 +143,19 @@ fn best_near<'a, G: Guide>(
     budget: &mut Budget,
 ) -> Result<(), Stopped>
     requires lister { IsLentFor pass.now search.old.start search.old.lister.now }
-    requires look { LooksFor pass.now search.old.judge.value.look }
-    requires guide { G.knows search.old.judge.value.guide.value pass.now.shaped.context.now pass.now.shaped.shape pass.now.wish }
+    requires look { LooksFor pass.now search.old.state.value.look }
+    requires guide { G.knows search.old.state.value.guide.value pass.now.shaped.context.now pass.now.shaped.shape pass.now.wish }
     ensures answer { MatchResult result
-        (λ _. MatchOption search.new.judge.value.incumbent (near_of pass.now ≡ None)
+        (λ _. MatchOption search.new.state.value.incumbent (near_of pass.now ≡ None)
         (IsBest pass.now.shaped.context.now (near_of pass.now)))
         (λ _. budget.new.used ≡ budget.new.limit) }
     ensures lister { IsLentFor pass.now search.new.start search.new.lister.now }
-    ensures look { LooksFor pass.now search.new.judge.value.look }
-    ensures guide { G.knows search.new.judge.value.guide.value pass.now.shaped.context.now pass.now.shaped.shape pass.now.wish }
+    ensures look { LooksFor pass.now search.new.state.value.look }
+    ensures guide { G.knows search.new.state.value.guide.value pass.now.shaped.context.now pass.now.shaped.shape pass.now.wish }
     ensures spends { Spends budget.old budget.new }
 {
     begin(pass, search, budget)?;
-    go_on(pass, search.lister, &mut *search.judge, budget)
+    go_on(pass, search.lister, &mut *search.state, budget)
 }
 
 /// Keeps what a pass with a target chooses: the best of all. It keeps none if there is no target, or if the pass finds none
@@ -166,18 +166,18 @@ fn best_by_target<'a, G: Guide>(
     budget: &mut Budget,
 ) -> Result<(), Stopped>
     requires lister { IsLentFor pass.now search.old.start search.old.lister.now }
-    requires look { LooksFor pass.now search.old.judge.value.look }
-    requires guide { G.knows search.old.judge.value.guide.value pass.now.shaped.context.now pass.now.shaped.shape pass.now.wish }
+    requires look { LooksFor pass.now search.old.state.value.look }
+    requires guide { G.knows search.old.state.value.guide.value pass.now.shaped.context.now pass.now.shaped.shape pass.now.wish }
     ensures answer { MatchResult result
-        (λ _. IfSome search.new.judge.value.incumbent (IsBest pass.now.shaped.context.now (wished_of pass.now)))
+        (λ _. IfSome search.new.state.value.incumbent (IsBest pass.now.shaped.context.now (wished_of pass.now)))
         (λ _. budget.new.used ≡ budget.new.limit) }
     ensures lister { IsLentFor pass.now search.new.start search.new.lister.now }
-    ensures look { LooksFor pass.now search.new.judge.value.look }
-    ensures guide { G.knows search.new.judge.value.guide.value pass.now.shaped.context.now pass.now.shaped.shape pass.now.wish }
+    ensures look { LooksFor pass.now search.new.state.value.look }
+    ensures guide { G.knows search.new.state.value.guide.value pass.now.shaped.context.now pass.now.shaped.shape pass.now.wish }
     ensures spends { Spends budget.old budget.new }
 {
     if pass.target.is_none() {
-        search.judge.incumbent.clear();
+        search.state.incumbent.clear();
         return Ok(());
     }
     best_near(pass, search, budget)
@@ -191,18 +191,18 @@ fn best_in_passes<G: Guide>(
     budget: &mut Budget,
 ) -> Result<(), Stopped>
     requires lister { IsLentFor pass.old search.old.start search.old.lister.now }
-    requires look { LooksFor pass.old search.old.judge.value.look }
-    requires guide { G.knows search.old.judge.value.guide.value pass.old.shaped.context.now pass.old.shaped.shape pass.old.wish }
-    ensures answer { MatchResult result (λ _. IsEnd pass.old search.new.judge.value.incumbent)
+    requires look { LooksFor pass.old search.old.state.value.look }
+    requires guide { G.knows search.old.state.value.guide.value pass.old.shaped.context.now pass.old.shaped.shape pass.old.wish }
+    ensures answer { MatchResult result (λ _. IsEnd pass.old search.new.state.value.incumbent)
         (λ _. budget.new.used ≡ budget.new.limit) }
     ensures lister { IsLentFor pass.old search.new.start search.new.lister.now }
-    ensures look { LooksFor pass.old search.new.judge.value.look }
-    ensures guide { G.knows search.new.judge.value.guide.value pass.old.shaped.context.now pass.old.shaped.shape pass.old.wish }
+    ensures look { LooksFor pass.old search.new.state.value.look }
+    ensures guide { G.knows search.new.state.value.guide.value pass.old.shaped.context.now pass.old.shaped.shape pass.old.wish }
     ensures pass { SeeksTheSame pass.old pass.new }
     ensures spends { Spends budget.old budget.new }
 {
     best_by_target(pass, search, budget)?;
-    if search.judge.incumbent.best().is_some() {
+    if search.state.incumbent.best().is_some() {
         return Ok(());
     }
     pass.target = None;
@@ -235,13 +235,13 @@ fn best_within<G: Guide>(
     budget: &mut Budget,
 ) -> Result<bool, Stopped>
     requires lister { IsLentFor pass.old search.old.start search.old.lister.now }
-    requires look { LooksFor pass.old search.old.judge.value.look }
-    requires guide { G.knows search.old.judge.value.guide.value pass.old.shaped.context.now pass.old.shaped.shape pass.old.wish }
-    ensures answer { MatchResult result (λ ended. ended ≡ true → IsEnd pass.old search.new.judge.value.incumbent)
+    requires look { LooksFor pass.old search.old.state.value.look }
+    requires guide { G.knows search.old.state.value.guide.value pass.old.shaped.context.now pass.old.shaped.shape pass.old.wish }
+    ensures answer { MatchResult result (λ ended. ended ≡ true → IsEnd pass.old search.new.state.value.incumbent)
         (λ _. budget.new.used ≡ budget.new.limit) }
     ensures lister { IsLentFor pass.old search.new.start search.new.lister.now }
-    ensures look { LooksFor pass.old search.new.judge.value.look }
-    ensures guide { G.knows search.new.judge.value.guide.value pass.old.shaped.context.now pass.old.shaped.shape pass.old.wish }
+    ensures look { LooksFor pass.old search.new.state.value.look }
+    ensures guide { G.knows search.new.state.value.guide.value pass.old.shaped.context.now pass.old.shaped.shape pass.old.wish }
     ensures pass { SeeksTheSame pass.old pass.new }
     ensures spends { Spends budget.old budget.new }
 {
@@ -267,18 +267,18 @@ fn best_by_weight<G: Guide>(
     budget: &mut Budget,
 ) -> Result<(), Stopped>
     requires lister { IsLentFor pass.old search.old.start search.old.lister.now }
-    requires look { LooksFor pass.old search.old.judge.value.look }
-    requires guide { G.knows search.old.judge.value.guide.value pass.old.shaped.context.now pass.old.shaped.shape pass.old.wish }
-    ensures answer { MatchResult result (λ _. IsEnd pass.old search.new.judge.value.incumbent)
+    requires look { LooksFor pass.old search.old.state.value.look }
+    requires guide { G.knows search.old.state.value.guide.value pass.old.shaped.context.now pass.old.shaped.shape pass.old.wish }
+    ensures answer { MatchResult result (λ _. IsEnd pass.old search.new.state.value.incumbent)
         (λ _. budget.new.used ≡ budget.new.limit) }
     ensures spends { Spends budget.old budget.new }
 {
-    pass.target = search.judge.guide.weigh(pass.wish, false, budget)?;
-    if tells_next(pass, &*search.judge.guide) {
+    pass.target = search.state.guide.weigh(pass.wish, false, budget)?;
+    if tells_next(pass, &*search.state.guide) {
         if best_within(pass, search, few.saturating_mul(4), budget)? {
             return Ok(());
         }
-        pass.target = search.judge.guide.weigh(pass.wish, true, budget)?;
+        pass.target = search.state.guide.weigh(pass.wish, true, budget)?;
     }
     best_in_passes(pass, search, budget)
 }
@@ -292,9 +292,9 @@ pub fn best_in_time<G: Guide>(
     budget: &mut Budget,
 ) -> Result<(), Stopped>
     requires lister { IsLentFor pass.old search.old.start search.old.lister.now }
-    requires look { LooksFor pass.old search.old.judge.value.look }
-    requires guide { G.knows search.old.judge.value.guide.value pass.old.shaped.context.now pass.old.shaped.shape pass.old.wish }
-    ensures answer { MatchResult result (λ _. IsEnd pass.old search.new.judge.value.incumbent)
+    requires look { LooksFor pass.old search.old.state.value.look }
+    requires guide { G.knows search.old.state.value.guide.value pass.old.shaped.context.now pass.old.shaped.shape pass.old.wish }
+    ensures answer { MatchResult result (λ _. IsEnd pass.old search.new.state.value.incumbent)
         (λ _. budget.new.used ≡ budget.new.limit) }
     ensures spends { Spends budget.old budget.new }
 {

@@ -261,14 +261,14 @@ pub fn look_below<'a>(context: &'a Context<'a>) -> Result<Option<LookAhead<'a>>,
     }
 }
 
-/// What tells the quality of a bracket's candidates, and keeps the best one: the look-ahead, in an ordinary bracket;
-/// room to work the quality out; and a list for those whom a candidate leaves over and all lower players, filled anew
-/// for each candidate. (What is large of it is on the heap.)
+/// What a pass works with from one candidate to the next. (What is large of it is on the heap.)
 #[derive(Drop)]
-pub struct Judge<'a, G: Guide> {
+pub struct PassState<'a, G: Guide> {
+    /// What the next bracket can be (C.7), in an ordinary bracket, with the values that were found.
     pub look: Option<LookAhead<'a>>,
-    /// Lent to the guide for its own questions.
+    /// Where the quality of a candidate is worked out; lent to the guide for its own questions.
     pub work: Box<Workroom<G::Notes>>,
+    /// Those whom a candidate leaves over and all lower players, filled anew for each candidate.
     pub left: Seats,
     /// The best candidate so far, and in the end what is chosen.
     pub incumbent: Incumbent,
@@ -281,21 +281,21 @@ pub struct Judge<'a, G: Guide> {
 pub(crate) fn judge_candidate<G: Guide>(
     context: &Context<'_>,
     candidate: &Candidate,
-    judge: &mut Judge<'_, G>,
+    state: &mut PassState<'_, G>,
     budget: &mut Budget,
 ) -> Result<(), Stopped>
     requires candidate { IsHere context.now candidate.now }
-    requires look { LooksBelow context.now judge.old.look }
+    requires look { LooksBelow context.now state.old.look }
     ensures answer { MatchResult result
-        (λ _. quality_in judge.new.work.value.room.quality ≡ quality_here context.now candidate.now.lists)
+        (λ _. quality_in state.new.work.value.room.quality ≡ quality_here context.now candidate.now.lists)
         (λ _. budget.new.used ≡ budget.new.limit) }
-    ensures look { LooksBelow context.now judge.new.look }
-    ensures incumbent { judge.new.incumbent ≡ judge.old.incumbent }
-    ensures guide { judge.new.guide ≡ judge.old.guide }
+    ensures look { LooksBelow context.now state.new.look }
+    ensures incumbent { state.new.incumbent ≡ state.old.incumbent }
+    ensures guide { state.new.guide ≡ state.old.guide }
     ensures spends { Spends budget.old budget.new }
 {
-    let room = &mut judge.work.room;
-    match &mut judge.look {
+    let room = &mut state.work.room;
+    match &mut state.look {
         Some(look) => look.fill_quality(candidate, room, budget),
         None => {
             room.quality.put_next(0, &[]);

@@ -17,7 +17,7 @@ use dutch_candidates::greatest::Lister;
 use dutch_candidates::narrowed::NarrowedRule;
 use dutch_choice::finder::{Best, Finder, FinderRequest};
 use dutch_floors::floor::Floors;
-use dutch_passes::{Incumbent, Judge, Pass, PassRoom, Workroom, best_in_time, look_below};
+use dutch_passes::{Incumbent, Pass, PassRoom, PassState, Workroom, best_in_time, look_below};
 
 /// How many steps are spent on what the next bracket can be at best: a step for each player of the bracket with each of
 /// the next scoregroup, and a listing.
@@ -68,31 +68,30 @@ fn guide_for<'a>(
     Ok(Some(guide))
 }
 
-/// What judges the candidates of a pass: the look-ahead of its bracket, what draws them, and room to work in. (Apart
-/// from its caller, as it is large until it stands on the heap.)
+/// The state in which the passes of a bracket begin. (Apart from its caller, as it is large until it stands on the heap.)
 #[inline(never)]
-fn judge_for<'a>(
+fn state_for<'a>(
     pass: &Pass<'a>,
     guide: Box<BothFloors<'a>>,
-) -> Result<Box<Judge<'a, BothFloors<'a>>>, PairFault>
+) -> Result<Box<PassState<'a, BothFloors<'a>>>, PairFault>
     requires shaped { guide.value.shaped ≡ pass.now.shaped }
     requires guide { AreFor pass.now guide.value }
-    ensures look { IfOk result (λ judge. LooksFor pass.now judge.value.look) }
+    ensures look { IfOk result (λ state. LooksFor pass.now state.value.look) }
     ensures context { IfOk result
-        (λ judge. judge.value.guide.value.shaped.context.now ≡ pass.now.shaped.context.now) }
-    ensures shape { IfOk result (λ judge. judge.value.guide.value.shaped.shape ≡ pass.now.shaped.shape) }
-    ensures guide { IfOk result (λ judge. AreFor pass.now judge.value.guide.value) }
+        (λ state. state.value.guide.value.shaped.context.now ≡ pass.now.shaped.context.now) }
+    ensures shape { IfOk result (λ state. state.value.guide.value.shaped.shape ≡ pass.now.shaped.shape) }
+    ensures guide { IfOk result (λ state. AreFor pass.now state.value.guide.value) }
 {
     let shaped = pass.shaped;
     let alloc = shaped.context.alloc();
-    let judge = Judge {
+    let state = PassState {
         look: look_below(shaped.context)?,
         work: Box::new(alloc, Workroom::default())?,
         left: Seats::new(),
         incumbent: Incumbent::none(alloc)?,
         guide,
     };
-    Ok(Box::new(alloc, judge)?)
+    Ok(Box::new(alloc, state)?)
 }
 
 /// What the passes end with. (Apart from where the search is made ready, as that owns much.)
@@ -102,10 +101,10 @@ fn search_in_passes(
     budget: &mut Budget,
 ) -> Result<Step<Box<Best>>, PairFault>
     requires lister { IsLentFor pass.old search.old.start search.old.lister.now }
-    requires look { LooksFor pass.old search.old.judge.value.look }
-    requires context { search.old.judge.value.guide.value.shaped.context.now ≡ pass.old.shaped.context.now }
-    requires shape { search.old.judge.value.guide.value.shaped.shape ≡ pass.old.shaped.shape }
-    requires guide { AreFor pass.old search.old.judge.value.guide.value }
+    requires look { LooksFor pass.old search.old.state.value.look }
+    requires context { search.old.state.value.guide.value.shaped.context.now ≡ pass.old.shaped.context.now }
+    requires shape { search.old.state.value.guide.value.shaped.shape ≡ pass.old.shaped.shape }
+    requires guide { AreFor pass.old search.old.state.value.guide.value }
     ensures answer { IfOk result (λ step. MatchStep step
         (λ found. IsBest pass.old.shaped.context.now (wished_of pass.old) found.value)
         (wished_of pass.old ≡ None) (budget.new.used ≡ budget.new.limit)) }
@@ -114,7 +113,7 @@ fn search_in_passes(
     if best_in_time(pass, search, budget).is_err() {
         return Ok(Step::Undecided);
     }
-    match search.judge.incumbent.take(pass.shaped.context.alloc())? {
+    match search.state.incumbent.take(pass.shaped.context.alloc())? {
         Some(best) => Ok(Step::Found(best)),
         None => Ok(Step::End),
     }
@@ -139,9 +138,9 @@ impl Finder for WithFloors {
             wish: asked.wish,
             target: guide.counts.target(),
         };
-        let judge = judge_for(&pass, guide)?;
+        let state = state_for(&pass, guide)?;
         let mut search = PassRoom {
-            judge,
+            state,
             lister,
             start: asked.start,
         };

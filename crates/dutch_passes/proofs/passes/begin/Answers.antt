@@ -23,8 +23,8 @@ consider-requires-clause-candidate g c =
 pub returns-in_ok-consider-in-Drawn-clause-answer : goal.returns-in_ok-consider-in-Drawn-clause-answer
 returns-in_ok-consider-in-Drawn-clause-answer g c =
     let lister = c.args.search.now.lister.now in
-    begun_behind c.args.pass.now c.consider.new.judge.incumbent lister.listing lister.drawn (stands g (goal.at.returns-in_ok-consider-in-Drawn-clause-answer g c).In-Drawn)
-    c.consider.ensures.incumbent (subst (λ incumbent. IsChosenNext c.args.pass.now incumbent c.consider.new.judge.incumbent lister.drawn.lists) c.clear.ensures c.in_ok-consider-in-Drawn.ensures.answer)
+    begun_behind c.args.pass.now c.consider.new.state.incumbent lister.listing lister.drawn (stands g (goal.at.returns-in_ok-consider-in-Drawn-clause-answer g c).In-Drawn)
+    c.consider.ensures.incumbent (subst (λ incumbent. IsChosenNext c.args.pass.now incumbent c.consider.new.state.incumbent lister.drawn.lists) c.clear.ensures c.in_ok-consider-in-Drawn.ensures.answer)
 
 pub returns-in-Anew-clause-answer : goal.returns-in-Anew-clause-answer
 returns-in-Anew-clause-answer g c =

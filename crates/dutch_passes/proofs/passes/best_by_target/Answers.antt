@@ -14,4 +14,4 @@ at_the_end Says Other Ends (Err stop) then says = says
 pub returns-clause-answer : goal.returns-clause-answer
 returns-clause-answer g c =
     let pass = c.args.pass.now in
-    at_the_end _ _ _ c.best_near.result (pass_ends pass.shaped.context.now pass.wish (target_in pass.target) pass.shaped.shape c.best_near.new.search.judge.value.incumbent) c.best_near.ensures.answer
+    at_the_end _ _ _ c.best_near.result (pass_ends pass.shaped.context.now pass.wish (target_in pass.target) pass.shaped.shape c.best_near.new.search.state.value.incumbent) c.best_near.ensures.answer

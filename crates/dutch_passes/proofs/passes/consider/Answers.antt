@@ -11,7 +11,7 @@ use Rattle.dutch_passes.proofs.passes.consider.Goals as goal
 pub returns-then-branch-clause-answer : goal.returns-then-branch-clause-answer
 returns-then-branch-clause-answer g c = λ coming.
     let pass = c.args.pass.now in
-    let incumbent = c.args.judge.now.incumbent in
+    let incumbent = c.args.state.now.incumbent in
     let quality = c.deref_mut-work.result.now.room.quality in
     let best : Best = record { candidate = c.args.candidate.now; quality = quality } in
     let told = ap (λ w. quality_in w.room.quality) c.deref_mut-work.ensures.value ∙ c.in_ok-judge_candidate.ensures.answer in
