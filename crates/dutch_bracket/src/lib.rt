@@ -3,7 +3,7 @@
 //! who can be paired out, by lists of pairs.
 //!
 //! `Context` is what the crates above ask about a bracket above its lower seats. Lists are arrays with room for 1,024
-//! numbers on the stack.
+//! numbers on the stack. `tuning` has the numbers of the search, as all its crates see this one.
 //!
 //! To mind: players are named by seat in a field, and by number from 1 in a bracket.
 #![tactic(auto)]
@@ -21,6 +21,7 @@ pub mod reached;
 pub mod seated;
 pub mod shaped;
 pub mod spending;
+pub mod tuning;
 
 pub use answer::Answer;
 pub use fault::PairFault;

@@ -17,6 +17,7 @@ use cheapest::{Fault, Found, LOOKS_IN_A_STEP, cheapest};
 use dual::{CertificateTable, Pool, Wide};
 use dutch_arrangements::{Budget, Shape, Stopped, numbered_from};
 use dutch_bracket::spending::spend;
+use dutch_bracket::tuning::{CUBE_DIVISOR, FIRST_STEPS};
 use std::alloc::{AllocError, Global};
 
 /// A floor of shapes: the base is no more than the debt and what a shape costs that has a candidate that can be chosen.
@@ -110,15 +111,12 @@ fn shape_by(
     Ok(Some(shape))
 }
 
-/// The steps of a listing for each player that decide nearly all brackets.
-const FIRST_STEPS: u64 = 64;
-
 /// How many steps a listing makes before a matching of so many players is looked for: so many that nearly all brackets
-/// are decided, and at least as many as the matching takes. (It takes at least an eighth of the cube of the players in
-/// looks.)
+/// are decided, and at least as many as the matching takes.
 pub(crate) fn steps_before(players: usize) -> u64 {
     let count = players as u64;
-    let least = count.saturating_mul(count).saturating_mul(count) / (8 * LOOKS_IN_A_STEP);
+    let least = count.saturating_mul(count).saturating_mul(count)
+        / (CUBE_DIVISOR * LOOKS_IN_A_STEP);
     count.saturating_mul(FIRST_STEPS).max(least)
 }
 

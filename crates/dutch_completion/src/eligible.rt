@@ -16,6 +16,7 @@ use dutch_bracket::context::Context;
 use dutch_bracket::reached::{Reached, Seats, push_all};
 use dutch_bracket::seated::push_seats;
 use dutch_bracket::spending::at_most;
+use dutch_bracket::tuning::FIRST_STEPS;
 use dutch_player::Field;
 use std::alloc::Global;
 
@@ -28,9 +29,6 @@ pub fn fill_with_lower(reached: &Reached, numbers: &[u16], lower: &[u16], seats:
     push_seats(reached.seats(), numbers, seats);
     push_all(lower, seats);
 }
-
-/// The steps of the search for each player that decide nearly all lists.
-const FIRST_STEPS: u64 = 64;
 
 /// None says that the few steps did not suffice.
 fn decided_in_few_steps(

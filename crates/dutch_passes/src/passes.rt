@@ -18,6 +18,7 @@ use crate::remembered::{PassState, judge_candidate};
 use dutch_arrangements::{Budget, Candidate, Stopped};
 use dutch_bracket::reached::BracketKind;
 use dutch_bracket::spending::at_most;
+use dutch_bracket::tuning::{TIMES_BY_WEIGHT, first_pass_steps};
 use dutch_candidates::greatest::Lister;
 use dutch_candidates::narrowed::NarrowedRule;
 use dutch_candidates::wish::is_wished;
@@ -209,15 +210,6 @@ fn best_in_passes<G: Guide>(
     best_near(pass, search, budget)
 }
 
-/// How many steps passes make before the pairs of the bracket are weighed: most brackets need no more.
-fn few_steps(players: usize) -> u64 {
-    let players = players as u64;
-    players
-        .saturating_mul(2)
-        .saturating_add(128)
-        .saturating_mul(players)
-}
-
 /// Yes if weights can tell of the next bracket too (C.7): in an ordinary bracket, if the pass wishes nothing and the
 /// two brackets are not too large together.
 fn tells_next<G: Guide>(pass: &Pass<'_>, guide: &G) -> bool {
@@ -256,7 +248,7 @@ fn best_within<G: Guide>(
 }
 
 /// Weighs the pairs, and keeps what the passes end with. If weights can tell of the next bracket too (C.7), the first
-/// ones leave it out, and the passes have four times the few steps with them. If these do not suffice, the pairs are
+/// ones leave it out, and the passes have some times the few steps with them. If these do not suffice, the pairs are
 /// weighed with C.7, and the passes have all steps that are left. (Apart from its caller, as most brackets do not come
 /// to it.)
 #[inline(never)]
@@ -275,7 +267,7 @@ fn best_by_weight<G: Guide>(
 {
     pass.target = search.state.guide.weigh(pass.wish, false, budget)?;
     if tells_next(pass, &*search.state.guide) {
-        if best_within(pass, search, few.saturating_mul(4), budget)? {
+        if best_within(pass, search, few.saturating_mul(TIMES_BY_WEIGHT), budget)? {
             return Ok(());
         }
         pass.target = search.state.guide.weigh(pass.wish, true, budget)?;
@@ -283,7 +275,7 @@ fn best_by_weight<G: Guide>(
     best_in_passes(pass, search, budget)
 }
 
-/// Keeps what the passes end with. Most brackets need few steps. The others have their pairs weighed; and if four times
+/// Keeps what the passes end with. Most brackets need few steps. The others have their pairs weighed; and if some times
 /// the few steps do not suffice then, those of the next bracket too, where C.7 counts. (Nothing here depends on the
 /// limit: with a higher one the same way goes on.)
 pub fn best_in_time<G: Guide>(
@@ -298,7 +290,7 @@ pub fn best_in_time<G: Guide>(
         (λ _. budget.new.used ≡ budget.new.limit) }
     ensures spends { Spends budget.old budget.new }
 {
-    let few = few_steps(pass.shaped.context.len());
+    let few = first_pass_steps(pass.shaped.context.len());
     if best_within(pass, search, few, budget)? {
         return Ok(());
     }

@@ -4,22 +4,9 @@ ghost use Rattle.dutch_floors.specs.Behind.{IsBasisFor};
 
 use dutch_bracket::context::Context;
 use dutch_bracket::shaped::ShapedBracket;
+use dutch_bracket::tuning::{LARGE_BRACKET, MOST_WEIGHED};
 use dutch_floors::floor::Floors;
 use dutch_weight_floors::weight_floor::WeightFloors;
-
-/// The more pairs the shape has, the shorter a turn is: its steps are divided by one, and by one more for each so many
-/// pairs.
-pub(crate) const TURN_PAIRS: usize = 16;
-
-/// In a large bracket a turn has so many times the steps: about as many as the last floor took.
-pub(crate) const LARGE_TURN: u64 = 16;
-
-/// The pairs of brackets with more players are not weighed.
-const MOST_WEIGHED: usize = 512;
-
-/// A bracket with more players is large: a floor by weight takes many steps there. So the walk makes about as many
-/// before another one may be asked for, and that only where it is stuck.
-const LARGE: usize = 400;
 
 /// Floors by counts, and floors by weight, where they were asked for.
 #[derive(Drop)]
@@ -59,5 +46,5 @@ pub(crate) fn is_weighed(context: &Context<'_>, next: bool) -> bool {
 
 /// Yes if a bracket is large, so that floors by weight take many steps.
 pub(crate) fn is_large(context: &Context<'_>) -> bool {
-    context.len() > LARGE
+    context.len() > LARGE_BRACKET
 }

@@ -9,13 +9,14 @@ ghost use Rattle.dutch_search.specs.Searching.{AreFor};
 ghost use Rattle.dutch_weight_floors.specs.Prelude.{HasBar};
 
 use crate::bars::bars_of;
-use crate::both::{BothFloors, LARGE_TURN, TURN_PAIRS, is_large, is_weighed};
+use crate::both::{BothFloors, is_large, is_weighed};
 use crate::last_beginning::{LastBeginning, WalkNotes};
 use crate::skipper::Skipper;
 use cheapest::LOOKS_IN_A_STEP;
 use dutch_arrangements::{Budget, Step, Stopped};
 use dutch_bracket::quality::Quality;
 use dutch_bracket::spending::spend;
+use dutch_bracket::tuning::{TURN_PAIRS, TURNS_OF_A_FLOOR};
 use dutch_candidates::greatest::Lister;
 use dutch_candidates::narrowed::NarrowedRule;
 use dutch_candidates::wish::Wish;
@@ -43,7 +44,7 @@ impl<'a> BothFloors<'a> {
         };
         let wait = weights.steps_before_asking(budget.used);
         let steps = if is_large(self.shaped.context) {
-            wait.saturating_mul(LARGE_TURN)
+            wait.saturating_mul(TURNS_OF_A_FLOOR)
         } else {
             wait / (1 + (self.shaped.shape.pairs / TURN_PAIRS) as u64)
         };

@@ -13,18 +13,12 @@ use dutch_bracket::fault::PairFault;
 use dutch_bracket::reached::Seats;
 use dutch_bracket::shaped::ShapedBracket;
 use dutch_bracket::spending::at_most;
+use dutch_bracket::tuning::outlook_steps;
 use dutch_candidates::greatest::Lister;
 use dutch_candidates::narrowed::NarrowedRule;
 use dutch_choice::finder::{Best, Finder, FinderRequest};
 use dutch_floors::floor::Floors;
 use dutch_passes::{Incumbent, Pass, PassRoom, PassState, Workroom, best_in_time, look_below};
-
-/// How many steps are spent on what the next bracket can be at best: a step for each player of the bracket with each of
-/// the next scoregroup, and a listing.
-fn steps_for_outlook(players: usize) -> u64 {
-    let players = players as u64;
-    players.saturating_add(128).saturating_mul(players)
-}
 
 /// The floors of a bracket, with what so many steps tell of the next bracket; if these do not suffice, with what counts
 /// tell of it.
@@ -33,7 +27,7 @@ fn floors_of<'a>(shaped: &ShapedBracket<'a>, budget: &mut Budget) -> Result<Floo
     ensures answer { MatchResult result (IsBasisFor shaped.now) (λ _. budget.new.used ≡ budget.new.limit) }
     ensures spends { Spends budget.old budget.new }
 {
-    let steps = steps_for_outlook(shaped.context.len_below());
+    let steps = outlook_steps(shaped.context.len_below());
     let mut few = at_most(steps, budget);
     let found = Floors::find(shaped, &mut few);
     budget.used = few.used;

@@ -6,6 +6,7 @@ ghost use Rattle.std.specs.Prelude.{◌≤◌, length};
 
 use crate::scope::Scope;
 use dutch_bracket::seated::Pair;
+use dutch_bracket::tuning::TURNS_OF_A_FLOOR;
 use std::alloc::{AllocError, Global};
 
 /// The beginning where a floor was asked for last: its scope, its pairs by number, and how many of them a floor did not
@@ -68,7 +69,7 @@ impl AskSchedule {
     /// How many steps a walk that has made so many still makes before a floor is asked for. The more steps the last
     /// floor took, the more these are.
     pub(crate) fn steps_before_asking(&self, players: usize, made: u64) -> u64 {
-        let steps = (self.steps / 16).max(players as u64);
+        let steps = (self.steps / TURNS_OF_A_FLOOR).max(players as u64);
         self.told_at.saturating_add(steps).saturating_sub(made)
     }
 

@@ -19,10 +19,8 @@ use dual::{CertificateTable, Wide};
 use dutch_arrangements::{Budget, Stopped};
 use dutch_bracket::seated::Pair;
 use dutch_bracket::spending::spend;
+use dutch_bracket::tuning::{MOST_HALVINGS, NEVER_LEFT};
 use std::alloc::{AllocError, Global};
-
-/// The number of pairs of a beginning is halved so often at most.
-const MOST_HALVINGS: u32 = 16;
 
 /// The pairs of a matching by number: those of the bracket, and those of the next bracket, where C.7 is measured.
 #[derive(Drop)]
@@ -30,9 +28,6 @@ pub struct Matched {
     pub pairs: Vec<Pair>,
     pub next: Vec<Pair>,
 }
-
-/// To leave over a player who is in a pair in all arrangements costs so many times what is more than any weight.
-const NEVER_LEFT: u32 = 2048;
 
 /// A table to be checked, and the matching that it comes with.
 #[derive(Drop)]

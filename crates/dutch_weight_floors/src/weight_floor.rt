@@ -21,22 +21,12 @@ use dual::{CertificateTable, Floor, Wide};
 use dutch_arrangements::{Exchange, Filling, LIMIT, Prefix, Shape};
 use dutch_bracket::context::Context;
 use dutch_bracket::quality::Quality;
+use dutch_bracket::tuning::{FLOORS_KEPT, MOST_BITS, MOST_REACHED};
 use dutch_candidates::fixed_lists::fixed_lists;
 use dutch_candidates::wish::Wish;
 use dutch_weighing::{DigitPlan, Scale, Weighing};
 use std::alloc::AllocError;
 use std::marker::Model;
-
-/// So many floors are kept. Each is asked at each beginning.
-const KEPT: usize = 4;
-
-/// The matchings go over all lower players too only if all together are no more than so many: the steps of a floor grow
-/// with the square of their number.
-const MOST_REACHED: usize = 400;
-
-/// Weights of at most so many bits leave room for their sum over all players, for twice that sum, and for what it costs
-/// to be left over.
-const MOST_BITS: usize = 482;
 
 /// What a quality weighs, and what all with a higher PSD weigh at least.
 #[derive(Clone, Copy)]
@@ -188,7 +178,7 @@ fn drop_ordered(floors: &mut Vec<ScopedFloor>)
 fn drop_oldest(floors: &mut Vec<ScopedFloor>)
     ensures { (w : Weighed) → All (IsWeightFloor w) floors.old.items → All (IsWeightFloor w) floors.new.items }
 {
-    if floors.len() < KEPT {
+    if floors.len() < FLOORS_KEPT {
         return;
     }
     let place = if floors[1].order.is_none() { 1 } else { 2 };

@@ -1,0 +1,98 @@
+// The numbers of the search: the steps that one way has before another one is asked, how many players a bracket may
+// have for a way, and how much is kept.
+//
+// None of them changes what is chosen, and no clause names one: only steps change, and so what is undecided at a limit.
+// The prover refuses a value that would not be safe. What was measured stands in brackets, and `bench/RESULTS.md` says
+// how; where there is nothing in brackets, no measurement was kept. There it also stands how many reports are decided
+// with all of them.
+//
+// Two stand elsewhere. `LOOKS_IN_A_STEP` is in `found.rt` of `cheapest`, which does not see this crate (a question of a
+// matching takes a tenth of a microsecond, and a step of a walk from a fifth of one to three). `MOST` is in
+// `remembered.rt` of `dutch_passes`: clauses say that 64 values of C.7 are kept.
+
+/// Steps for each player: of a search for completion, and of a listing for a shape, before a matching is asked. They
+/// decide nearly all of both. With fewer, a matching is made where the listing would soon end; with more, a listing
+/// that does not end soon takes more in vain.
+pub const FIRST_STEPS: u64 = 64;
+
+/// A divisor of the cube of the players: a matching of least cost takes at least that part of it in looks, and the
+/// listing before it gets no fewer steps. (A sixteenth in steps is usual, and up to a sixth was measured.) If it is
+/// too great, a matching takes far more than the listing before it; if it is too small, the listing takes far more.
+pub const CUBE_DIVISOR: u64 = 8;
+
+/// Steps for each player of the bracket and the next scoregroup: of the listing of ghosts for what the next bracket can
+/// be at best (C.7). With fewer, counts alone tell of it more often, and more candidates are looked at; with more, a
+/// listing that does not end takes more in vain. (Of 113 hard reports 105 were decided with ghosts, and 95 without.)
+const OUTLOOK_STEPS: u64 = 128;
+
+/// Steps of the first passes, without weights: so many for each player, and so many for each player with each. They
+/// decide most brackets. With fewer, more brackets are weighed; with more, a hard one is weighed later.
+const PASS_STEPS: u64 = 128;
+
+const PASS_STEPS_WITH_EACH: u64 = 2;
+
+/// Times the steps of the first passes: so many steps have the passes by weights without C.7, where C.7 can be weighed.
+/// With fewer, pairs are weighed anew where those weights would do; with more, that comes later where it is needed.
+pub const TIMES_BY_WEIGHT: u64 = 4;
+
+/// The most players of a bracket whose pairs are weighed; if C.7 is weighed, with those of the next scoregroup. With
+/// fewer, larger brackets have floors by counts alone; with more, weights take more memory, and matchings more steps.
+/// (Before pairs of up to 512 players were weighed, and some exchanges passed over, some questions of `explain` were
+/// undecided. Two reports in which pairs of 381 players are weighed take 57 and 67 MB.)
+pub const MOST_WEIGHED: usize = 512;
+
+/// The most players that a matching for a floor goes over if it takes in all lower ones (C.4). With fewer, floors of
+/// more penultimate brackets do not know of C.4; with more, floors take more steps there.
+pub const MOST_REACHED: usize = 400;
+
+/// A bracket with more players is large: a floor by weight takes many steps there. So a walk makes about as many before
+/// the next one may be asked for, and that only where it is stuck. If it is too small, walks go on long without a floor
+/// that would end them; if it is too great, most steps go into floors.
+pub const LARGE_BRACKET: usize = 400;
+
+/// Turns of a walk that have together as many steps as the last floor took, though each at least one for each player.
+/// In a large bracket one turn has as many. With fewer, walks go on where a floor would end them; with more, most steps
+/// go into floors.
+pub const TURNS_OF_A_FLOOR: u64 = 16;
+
+/// Pairs of the shape: the steps of a turn are divided by one, and by one more for each so many, since a question looks
+/// at more pairs. If it is too small, most steps go into floors; if it is too great, most time goes into questions.
+pub const TURN_PAIRS: usize = 16;
+
+/// The most halvings of the number of pairs behind which a floor is asked for, where a walk is stuck. With fewer, it
+/// may stay unknown how many pairs are not ruled out; more are made only until it is known.
+pub const MOST_HALVINGS: u32 = 16;
+
+/// Floors by weight that are kept, at least 3: the first, one that counts an order (D.2), and another. With fewer, one
+/// is forgotten that would rule more out; with more, questions take longer, as each floor is asked at each beginning.
+pub const FLOORS_KEPT: usize = 4;
+
+/// The most bits of a weight, of the 512 of a number. They leave room for the sum of weights over all players, for
+/// twice that sum, and for what it costs to be left over. With fewer, weights leave out D.2 and C.16 to C.19 more
+/// often; with more, a sum may not fit, and then there is no floor.
+pub const MOST_BITS: usize = 482;
+
+/// Times what is more than any weight: so much it costs to leave over a player who is in a pair in all arrangements. If
+/// it is too small, a matching may do so, and its floor says less; if it is too great, a sum may not fit, and then
+/// there is no floor.
+pub const NEVER_LEFT: u32 = 2048;
+
+/// So many steps for each player, and so many for each player with each.
+fn steps_for(players: usize, each: u64, with_each: u64) -> u64 {
+    let players = players as u64;
+    players
+        .saturating_mul(with_each)
+        .saturating_add(each)
+        .saturating_mul(players)
+}
+
+/// How many steps are spent on what the next bracket can be at best, by the players of both: a step for each player of
+/// the bracket with each of the next scoregroup, and a listing.
+pub fn outlook_steps(players: usize) -> u64 {
+    steps_for(players, OUTLOOK_STEPS, 1)
+}
+
+/// How many steps passes make before the pairs of a bracket of so many players are weighed.
+pub fn first_pass_steps(players: usize) -> u64 {
+    steps_for(players, PASS_STEPS, PASS_STEPS_WITH_EACH)
+}
