@@ -62,7 +62,7 @@ pub(crate) fn status_of(answered: &Result<Answered, Unsaid>) -> Status
 }
 
 // What stands on standard output.
-pub(crate) fn printed(answered: &Result<Answered, Unsaid>) -> &[u8]
+pub(crate) fn output_of(answered: &Result<Answered, Unsaid>) -> &[u8]
     ensures { result.now ≡ (said_of answered.now).output }
 {
     match answered {
@@ -72,7 +72,7 @@ pub(crate) fn printed(answered: &Result<Answered, Unsaid>) -> &[u8]
 }
 
 // What stands on standard error.
-pub(crate) fn complained(answered: &Result<Answered, Unsaid>) -> &[u8]
+pub(crate) fn message_of(answered: &Result<Answered, Unsaid>) -> &[u8]
     ensures { result.now ≡ (said_of answered.now).message }
 {
     match answered {

@@ -13,7 +13,7 @@ mod devices;
 mod rooms;
 mod words;
 
-use answer::{answer, complained, printed, status_of};
+use answer::{answer, message_of, output_of, status_of};
 use rooms::put;
 use std::alloc::Global;
 
@@ -42,7 +42,7 @@ pub extern "C" fn arbiter_run(
         (record { before = message.old; after = message.new; told = lengths.new.message }) result }
 {
     let answered = answer(alloc, words, report);
-    lengths.output = put(printed(&answered), output);
-    lengths.message = put(complained(&answered), message);
+    lengths.output = put(output_of(&answered), output);
+    lengths.message = put(message_of(&answered), message);
     status_of(&answered).code()
 }

@@ -10,14 +10,14 @@ use Rattle.dutch_sequence.specs.declared.numbers.TheConstants.{LIMIT}
 use Rattle.dutch_arrangements.specs.Prelude.{numbers_from}
 use Rattle.dutch_sequence.proofs.Members.{filter-length, length-numbers}
 use Rattle.dutch_bracket.specs.Prelude.{Context, FitsHere, IsOf, eligible_here, frame_of, has_member, score_at, shape_here}
-use Rattle.dutch_choice.specs.Mates.{mate_at, mate_of, matched_shape, may_leave, unmated}
+use Rattle.dutch_choice.specs.Mates.{mate_at, mate_of, matched_shape, may_leave, numbers_unmated}
 use Rattle.dutch_choice.specs.declared.certified.ShapeFloor.{ShapeFloor}
 use Rattle.dutch_choice.specs.ShapeCosts.{IsShapeFloor, are_pair, cost_of, joined, vertices}
 use Rattle.dutch_choice.proofs.CheapShapes.{shape_reached}
 use Rattle.dutch_choice.proofs.MateCandidates.{mates_eligible, mates_fit_here, pair_sym}
 
-pub unmated_few : (context : Context) (partners : List (Option ℕ)) → length (unmated context partners) ≤ length context.reached.seats
-unmated_few context partners =
+pub numbers_unmated_few : (context : Context) (partners : List (Option ℕ)) → length (numbers_unmated context partners) ≤ length context.reached.seats
+numbers_unmated_few context partners =
     let numbers : List ℕ = numbers_from 1 (length context.reached.seats) in
     let test : ℕ → Bool = λ a. mate_of context partners a == a in
     omega (arith, filter-length test numbers, length-numbers 1 (length context.reached.seats))
@@ -56,14 +56,14 @@ module _ (context : Context) where
     pub matched_fits : FitsHere context (matched_shape context partners)
     matched_fits = mates_fit_here context mate are back within
 
-    pub matched_eligible : may_leave context (unmated context partners) ≡ true → has_member (eligible_here context (matched_shape context partners)) ≡ true
+    pub matched_eligible : may_leave context (numbers_unmated context partners) ≡ true → has_member (eligible_here context (matched_shape context partners)) ≡ true
     matched_eligible = mates_eligible context mate are back within
 
 -- what a matching tells whose pairs cost as little as a floor allows
 pub told : (context : Context) (partners : List (Option ℕ)) → IsMatching (vertices context) (joined context) partners
     → IsOf context.facts context.reached → length context.reached.seats ≤ LIMIT → (floor : ShapeFloor) → IsShapeFloor context floor → (shape : Shape)
     → shape ≡ matched_shape context partners → floor.debt + cost_of context shape ≤ floor.base
-    → may_leave context (unmated context partners) ≡ true → shape_here context ≡ Some shape
+    → may_leave context (numbers_unmated context partners) ≡ true → shape_here context ≡ Some shape
 told context partners matching of' small floor bound shape is reached can =
     let count : length (frame_of context.facts context.reached).scores ≡ length context.reached.seats = length-map context.reached.seats (score_at context.facts) in
     let within : context.reached.mdps ≤ length context.reached.seats = omega (arith, of'.sound.within, count) in

@@ -33,8 +33,8 @@ matched_shape context partners = record {
 }
 
 -- those who are in no pair
-abbrev pub unmated : Context → List (Option ℕ) → List ℕ
-unmated context partners = filter (λ a. mate_of context partners a == a) (numbers_from 1 (length context.reached.seats))
+abbrev pub numbers_unmated : Context → List (Option ℕ) → List ℕ
+numbers_unmated context partners = filter (λ a. mate_of context partners a == a) (numbers_from 1 (length context.reached.seats))
 
 -- C.2, C.4: a candidate that can be chosen may leave these numbers over
 abbrev pub may_leave : Context → List ℕ → Bool

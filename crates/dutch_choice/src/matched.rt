@@ -4,7 +4,7 @@ ghost use Rattle.std.specs.Prelude.{◌≡◌, ◌≤◌, IfOk, filter, length, 
 ghost use Rattle.dutch_arrangements.specs.Prelude.{MatchDrawn, Spends, leaves_one};
 ghost use Rattle.dutch_sequence.specs.declared.numbers.TheConstants.{LIMIT};
 ghost use Rattle.dutch_bracket.specs.Prelude.{Decides, IsOf, number_may_be_left};
-ghost use Rattle.dutch_choice.specs.Mates.{goes_first, has_mate, mate_of, matched_shape, may_leave, unmated};
+ghost use Rattle.dutch_choice.specs.Mates.{goes_first, has_mate, mate_of, matched_shape, may_leave, numbers_unmated};
 
 use crate::players::Players;
 use dutch_arrangements::{Budget, Rule, Shape, Stopped, numbered_from};
@@ -60,8 +60,8 @@ pub(crate) fn matched_shape(players: &Players<'_>, partners: &[Option<u16>]) -> 
 }
 
 /// The numbers of the bracket that are in no pair of a matching.
-fn unmated(players: &Players<'_>, partners: &[Option<u16>]) -> Result<Vec<u16>, AllocError>
-    ensures { IfOk result (λ alone. alone.items ≡ unmated players.now partners.now) }
+fn numbers_unmated(players: &Players<'_>, partners: &[Option<u16>]) -> Result<Vec<u16>, AllocError>
+    ensures { IfOk result (λ alone. alone.items ≡ numbers_unmated players.now partners.now) }
 {
     let numbers = numbered_from(1, players.rule.len());
     numbers
@@ -96,17 +96,17 @@ fn may_leave(players: &Players<'_>, alone: &[u16], budget: &mut Budget) -> Resul
 }
 
 /// A no may also say that memory was refused.
-#[tactic(auto, using(crate::proofs::MatchedCandidates::unmated_few))]
+#[tactic(auto, using(crate::proofs::MatchedCandidates::numbers_unmated_few))]
 pub(crate) fn can_be_chosen(
     players: &Players<'_>,
     partners: &[Option<u16>],
     budget: &mut Budget,
 ) -> Result<bool, Stopped>
-    ensures answer { MatchDrawn result (may_leave players.now (unmated players.now partners.now) ≡ true) (Unit {0})
+    ensures answer { MatchDrawn result (may_leave players.now (numbers_unmated players.now partners.now) ≡ true) (Unit {0})
         (budget.new.used ≡ budget.new.limit) }
     ensures spends { Spends budget.old budget.new }
 {
-    let Ok(alone) = unmated(players, partners) else {
+    let Ok(alone) = numbers_unmated(players, partners) else {
         return Ok(false);
     };
     may_leave(players, &alone, budget)

@@ -15,7 +15,7 @@ use Rattle.dutch_bracket.specs.declared.reached.BracketKind.TheVariants.{Ordinar
 use Rattle.dutch_floors.specs.FloorOf.{is_flat, residents_score, s1_by}
 use Rattle.dutch_bracket.specs.Prelude.{is_uniform, has_s1, lists_by, IsNotBetter, pairs_by_counts, IsFlat, is_lower, next_bracket, no_value, value_in, quality, HasNoBetter, NextValue, quality_with, IsAbove, IsOf, Reached, frame_of, downfloaters, first_group, quality_of, scoregroups, score_at, seat_of}
 use Rattle.dutch_floors.specs.GhostValues.{first_limbo, ghost_value}
-use Rattle.dutch_floors.specs.Outlooks.{IsOutlook, awaited, first_or_any, limbo_scores, leaves_first}
+use Rattle.dutch_floors.specs.Outlooks.{IsOutlook, best_next_for, first_or_any, limbo_scores, leaves_first}
 use Rattle.dutch_candidates.proofs.C06Psd.{flat_by_ends, uniform_of}
 use Rattle.dutch_bracket.proofs.GhostPairs.{down_count}
 use Rattle.dutch_floors.proofs.C07Ghosts.{no_value_has_more_than_half_the_players_in_pairs}
@@ -144,5 +144,5 @@ module _ (facts : Facts) (reached : Reached) (lower : List ℕ) (shape : Shape) 
     by_first (Some value) e = by_limbo value e (leaves_first facts reached shape (s1_by filling shape (lists_by filling lists).s1)) refl
 
     -- what is awaited behind a beginning is no worse than what comes
-    pub awaited_holds : HasNoBetter (quality_of facts reached lower a) (awaited facts reached shape outlook (s1_by filling shape (lists_by filling lists).s1))
+    pub awaited_holds : HasNoBetter (quality_of facts reached lower a) (best_next_for facts reached shape outlook (s1_by filling shape (lists_by filling lists).s1))
     awaited_holds = by_first outlook.first refl

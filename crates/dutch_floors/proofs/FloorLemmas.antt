@@ -17,7 +17,7 @@ use Rattle.dutch_floors.specs.Missed.{AreMissed}
 use Rattle.dutch_floors.proofs.SumLemmas.{floats_same}
 use Rattle.std.specs.List.{zip}
 use Rattle.std.proofs.lemmas.List.{map-append}
-use Rattle.dutch_floors.specs.Outlooks.{awaited}
+use Rattle.dutch_floors.specs.Outlooks.{best_next_for}
 use Rattle.dutch_floors.specs.declared.known_pairs.PairSums.{PairSums}
 use Rattle.dutch_candidates.proofs.ShapeNumbers.{first_few, first_length, numbers_fit}
 
@@ -80,7 +80,7 @@ module _ (basis : Basis) (more : ℕ) (lists : Arrangement) (sums : PairSums) (a
 
 -- the same, with what S1 tells
 pub floor_at : (basis : Basis) (s1 : List ℕ) (more : ℕ) (lists : Arrangement) (q : Quality) → q.psd ≡ psd_over basis s1 (fixed basis.facts basis.reached lists)
-    → next_in q ≡ awaited basis.facts basis.reached basis.shape basis.outlook s1 → floor_with basis more q lists ≡ floor_by basis s1 more lists
+    → next_in q ≡ best_next_for basis.facts basis.reached basis.shape basis.outlook s1 → floor_with basis more q lists ≡ floor_by basis s1 more lists
 floor_at basis s1 more lists q psd next =
     λ i. floor_over basis.facts (psd i) (next i) more (more_in true basis.facts basis.reached basis.shape (fixed basis.facts basis.reached lists))
     (fixed basis.facts basis.reached lists)

@@ -18,7 +18,7 @@ use Rattle.dutch_bracket.specs.declared.colours_missed.Miss.TheVariants.{Prefere
 use Rattle.dutch_bracket.specs.Prelude.{HasPairsOf, fixed, fixed_lists, has_s1, is_of_shape, lists_by, residents_down, is_uniform, psd_with, repeated, IsFlat, is_lower, quality, Quality, count_in_pairs, highest_first, is_better, misses, psd, quality_with, IsNoBetter, HasNoBetter, NextValue, IsOf, Reached, frame_of, candidates_of, downfloaters, quality_of, all_pairs, difference, score_at, seat_of, floor_over}
 use Rattle.dutch_floors.specs.Behind.{Basis, NoneBeats, NoneHasBetterNext}
 use Rattle.dutch_floors.specs.FloorOf.{floor_by, is_flat, is_known, more_by, more_in, psd_over, residents_score, s1_by, s1_of}
-use Rattle.dutch_floors.specs.Outlooks.{IsOutlook, awaited}
+use Rattle.dutch_floors.specs.Outlooks.{IsOutlook, best_next_for}
 use Rattle.dutch_candidates.proofs.C06Psd.{psd_by_first, psd_of_all, psd_of_beginning, uniform_of}
 use Rattle.dutch_floors.proofs.C07Outlook.{awaited_holds, flat_residents}
 use Rattle.dutch_bracket.proofs.C08ToC19Fixed.{more_copies}
@@ -114,7 +114,7 @@ module _ (basis : Basis) (lower : List ℕ) (a : Arrangement) (of' : IsOf basis.
       let later = awaited_holds facts reached lower shape basis.outlook of' outlook b.filling b.lists a arranged h known in
       let pairs = has_fixed_pairs b.filling b.lists a h in
       floor_holds facts reached lower (psd_over basis (s1_of basis b) (fixed facts reached (fixed_lists b)))
-      (awaited facts reached shape basis.outlook (s1_of basis b)) more
+      (best_next_for facts reached shape basis.outlook (s1_of basis b)) more
       (more_in true facts reached shape (fixed facts reached (fixed_lists b))) (fixed_lists b) a pairs
       (psd_holds b.filling b.lists h known (is_flat facts reached) refl) later.0 later.1 missed
       (more_miss_strongly facts reached shape (all_pairs reached.seats (fixed_lists b)) [] a within m
@@ -155,8 +155,8 @@ none_better_on q next other first second = (
 -- C.7: where what is awaited behind a beginning is not better than another value, no candidate's is
 pub none_has_better_next : (basis : Basis) (b : Beginning) (other : NextValue) → IsOf basis.facts basis.reached
     → IsOutlook basis.facts basis.reached basis.lower basis.shape basis.outlook → (has_s1 b.filling || is_uniform basis.facts basis.reached basis.shape) ≡ true
-    → IsNoBetter (awaited basis.facts basis.reached basis.shape basis.outlook (s1_of basis b)) other → NoneHasBetterNext basis b other
+    → IsNoBetter (best_next_for basis.facts basis.reached basis.shape basis.outlook (s1_of basis b)) other → NoneHasBetterNext basis b other
 none_has_better_next basis b other of' outlook known none a m begins =
-    none_better_on (quality_of basis.facts basis.reached basis.lower a) (awaited basis.facts basis.reached basis.shape basis.outlook (s1_of basis b)) other
+    none_better_on (quality_of basis.facts basis.reached basis.lower a) (best_next_for basis.facts basis.reached basis.shape basis.outlook (s1_of basis b)) other
     (awaited_holds basis.facts basis.reached basis.lower basis.shape basis.outlook of' outlook b.filling b.lists a
     (legal_of basis.facts basis.reached basis.shape a m).arranged begins known) none

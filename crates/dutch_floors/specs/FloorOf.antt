@@ -11,7 +11,7 @@ use Rattle.dutch_sequence.specs.declared.numbers.TheConstants.{LIMIT}
 use Rattle.dutch_player.specs.Prelude.{Facts}
 use Rattle.dutch_bracket.specs.Prelude.{Quality, psd, Reached, Seated, seat_of, score_at, fixed, in_both, fixed_lists, is_of_shape, has_s1, wants, wants_firmly, lonely, next_in, psd_with, is_uniform, floor_over}
 use Rattle.dutch_floors.specs.Behind.{Basis}
-use Rattle.dutch_floors.specs.Outlooks.{awaited}
+use Rattle.dutch_floors.specs.Outlooks.{best_next_for}
 use Rattle.dutch_floors.specs.declared.colour_floor.Wants.{Wants}
 
 -- S1; the first one, if none is chosen
@@ -78,7 +78,7 @@ floor_with basis more q lists =
 -- the floor by S1 and by what is fixed, where so many more miss
 abbrev pub floor_by : Basis → List ℕ → ℕ → Arrangement → Quality
 floor_by basis s1 more lists =
-    floor_over basis.facts (psd_over basis s1 (fixed basis.facts basis.reached lists)) (awaited basis.facts basis.reached basis.shape basis.outlook s1) more
+    floor_over basis.facts (psd_over basis s1 (fixed basis.facts basis.reached lists)) (best_next_for basis.facts basis.reached basis.shape basis.outlook s1) more
     (more_in true basis.facts basis.reached basis.shape (fixed basis.facts basis.reached lists)) (fixed basis.facts basis.reached lists)
 
 -- S1 of a beginning; the first one, if none is chosen [with IsOutlook]

@@ -22,8 +22,8 @@ first_or_any None same any = any
 first_or_any (Some first) same any = if same then first else any
 
 -- the best that the next bracket can be behind arrangements with an S1 [with IsOutlook]
-abbrev pub awaited : Facts → Reached → Shape → Outlook → List ℕ → NextValue
-awaited facts reached shape outlook s1 = first_or_any outlook.first (leaves_first facts reached shape s1) outlook.any
+abbrev pub best_next_for : Facts → Reached → Shape → Outlook → List ℕ → NextValue
+best_next_for facts reached shape outlook s1 = first_or_any outlook.first (leaves_first facts reached shape s1) outlook.any
 
 -- no arrangement has a better value of the next bracket than an outlook says: any at all, and those that leave the first Limbo [C.7; own]
 pub record IsOutlook (facts : Facts) (reached : Reached) (lower : List ℕ) (shape : Shape) (outlook : Outlook) : Type 0 where

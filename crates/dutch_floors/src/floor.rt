@@ -8,7 +8,7 @@ ghost use Rattle.dutch_sequence.specs.declared.numbers.TheConstants.{LIMIT};
 ghost use Rattle.dutch_bracket.specs.Prelude.{all_pairs, fixed, fixed_lists, frame_of, has_s1, is_uneven, is_uniform};
 ghost use Rattle.dutch_bracket.specs.Prelude.{HasFewPairs, IsOf, next_in, psd_with, quality_in, seated_so};
 ghost use Rattle.dutch_bracket.specs.Prelude.{IsNoBetter};
-ghost use Rattle.dutch_floors.specs.Outlooks.{IsOutlook, IsOutlookFrom, awaited};
+ghost use Rattle.dutch_floors.specs.Outlooks.{IsOutlook, IsOutlookFrom, best_next_for};
 ghost use Rattle.dutch_floors.specs.FloorOf.{AreWants, is_flat, is_known, residents_score, psd_over, more_by, more_in};
 ghost use Rattle.dutch_floors.specs.FloorOf.{floor_with, s1_of};
 ghost use Rattle.dutch_floors.specs.KnownPairs.{AreKnown, by_seat, number_pairs};
@@ -149,8 +149,8 @@ impl<'a> Floors<'a> {
     }
 
     /// The best that the next bracket can be behind arrangements with an S1 (C.7).
-    fn awaited(&self, s1: &[u16]) -> &NextValue
-        ensures { result.now ≡ awaited self.now.facts self.now.reached self.now.shape self.now.outlook s1.now }
+    fn best_next_for(&self, s1: &[u16]) -> &NextValue
+        ensures { result.now ≡ best_next_for self.now.facts self.now.reached self.now.shape self.now.outlook s1.now }
     {
         match &self.outlook.first {
             Some(first) => {
@@ -164,8 +164,8 @@ impl<'a> Floors<'a> {
     }
 
     /// The best that the next bracket can be behind arrangements with the first S1 (C.7).
-    pub fn awaited_first(&self) -> &NextValue {
-        self.awaited(&self.first)
+    pub fn best_next_for_first(&self) -> &NextValue {
+        self.best_next_for(&self.first)
     }
 
     /// Yes if the best that the next bracket can be behind a beginning (C.7) is known, and is no better than a quality
@@ -175,13 +175,15 @@ impl<'a> Floors<'a> {
         ensures outlook { IsOutlook self.now.facts self.now.reached self.now.lower self.now.shape self.now.outlook }
         ensures none { result ≡ true →
             ((has_s1 prefix.now.filling || is_uniform self.now.facts self.now.reached self.now.shape) ≡ true)
-            × IsNoBetter (awaited self.now.facts self.now.reached self.now.shape self.now.outlook
+            × IsNoBetter (best_next_for self.now.facts self.now.reached self.now.shape self.now.outlook
             (s1_of self.now prefix.now))
             (next_in (quality_in quality.now)) }
     {
         let uniform = self.uniform;
         (has_s1(prefix.filling()) || uniform)
-            && self.awaited(self.s1(prefix)).is_no_better_than(quality)
+            && self
+                .best_next_for(self.s1(prefix))
+                .is_no_better_than(quality)
     }
 
     /// Yes if no candidate with a beginning has a better value of the next bracket than a quality says (C.7). A no says
@@ -288,10 +290,10 @@ impl<'a> Floors<'a> {
         ensures psd { (quality_in room.new.quality).psd
             ≡ psd_over self.now s1.now (fixed self.now.facts self.now.reached lists.now) }
         ensures next { next_in (quality_in room.new.quality)
-            ≡ awaited self.now.facts self.now.reached self.now.shape self.now.outlook s1.now }
+            ≡ best_next_for self.now.facts self.now.reached self.now.shape self.now.outlook s1.now }
     {
         self.fill_psd(s1, lists, room);
-        let next = self.awaited(s1);
+        let next = self.best_next_for(s1);
         room.quality.put_next(next.pairs, &next.psd);
     }
 

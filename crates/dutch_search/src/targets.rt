@@ -96,7 +96,7 @@ impl<'a> BothFloors<'a> {
     fn next_by(&self, context: &Context<'_>, matched: &Matched) -> NextValue {
         match &self.weights {
             Some(weights) if weights.counts_next() => value_below(context, matched),
-            _ => self.counts.awaited_first().copied(),
+            _ => self.counts.best_next_for_first().copied(),
         }
     }
 

@@ -5,7 +5,7 @@ use Rattle.dutch_floors.specs.FloorOf.{floor_with, more_by, psd_over, s1_of}
 use Rattle.dutch_floors.specs.Behind.{Basis}
 use Rattle.dutch_floors.specs.KnownPairs.{AreKnown, by_seat, number_pairs}
 use Rattle.dutch_floors.specs.Missed.{AreMissed}
-use Rattle.dutch_floors.specs.Outlooks.{awaited}
+use Rattle.dutch_floors.specs.Outlooks.{best_next_for}
 use Rattle.dutch_floors.specs.declared.known_pairs.KnownPairs.{KnownPairs}
 use Rattle.dutch_floors.proofs.FloorLemmas.{floor_at, pairs_by_seat}
 use Rattle.dutch_floors.proofs.FloorOfBeginning.{none_beats}
@@ -27,8 +27,8 @@ returns-clause-floor c = λ _.
     let are : AreMissed basis more (all_pairs seats (fixed_lists b)) sums = subst (λ ps. AreMissed basis more ps sums) those c.sums_with-sums.ensures in
     let psd : filled.psd ≡ psd_over basis (s1_of basis b) (fixed basis.facts basis.reached (fixed_lists b)) =
     c.fill_first.ensures.psd ∙ (λ i. psd_over basis (c.s1.ensures i) (fixed basis.facts basis.reached (lists i))) in
-    let next : next_in filled ≡ awaited basis.facts basis.reached basis.shape basis.outlook (s1_of basis b) =
-    c.fill_first.ensures.next ∙ ap (awaited basis.facts basis.reached basis.shape basis.outlook) c.s1.ensures in
+    let next : next_in filled ≡ best_next_for basis.facts basis.reached basis.shape basis.outlook (s1_of basis b) =
+    c.fill_first.ensures.next ∙ ap (best_next_for basis.facts basis.reached basis.shape basis.outlook) c.s1.ensures in
     none_beats basis b (quality_in c.fill_counted.new.room.quality) more c.is_known.ensures.of c.is_known.ensures.outlook
     (sym c.is_known.ensures.known ∙ c.if-not-is_known.false) few
     (c.fill_counted.ensures more (subst (λ ls. AreMissed basis more (all_pairs seats ls) sums) (sym lists) are)
