@@ -170,7 +170,7 @@ fn tell_all(alloc: Global, round: &Paired<'_>) -> Result<Reply, AllocError>
 {
     let mut text = Page::new(alloc);
     put_all(&mut text, round)?;
-    Ok(Reply::bytes(Status::Done, text.into_bytes()))
+    Ok(Reply::made(Status::Done, text))
 }
 
 // Puts the line of a round and all its brackets.
@@ -224,7 +224,7 @@ fn tell_asked<F: Finder>(
             let asked = Asked { player, number };
             tell_behind::<F>(alloc, round, AskedInSteps { asked, steps }, front)
         }
-        None => Ok(Reply::bytes(Status::Done, front)),
+        None => Ok(Reply::made(Status::Done, front)),
     }
 }
 
@@ -233,10 +233,10 @@ fn tell_behind<F: Finder>(
     alloc: Global,
     round: &Paired<'_>,
     asking: AskedInSteps,
-    front: Vec<u8>,
+    front: Page,
 ) -> Result<Reply, AllocError>
     requires stages { AllByRecursion (IsStage round.now.telling.facts) round.now.stages }
-    requires front { front.items ≡ front_text round.now asking.asked.player }
+    requires front { front ≡ front_text round.now asking.asked.player }
     ensures { IfOk result (λ reply. IsToldBehind round.now asking.steps asking.asked.player asking.asked.number
         (answer_of reply)) }
 {
@@ -244,13 +244,13 @@ fn tell_behind<F: Finder>(
 }
 
 // The line of a round, and what is told of a player.
-fn front_of(alloc: Global, round: &Paired<'_>, player: u16) -> Result<Vec<u8>, AllocError>
+fn front_of(alloc: Global, round: &Paired<'_>, player: u16) -> Result<Page, AllocError>
     requires { AllByRecursion (IsStage round.now.telling.facts) round.now.stages }
-    ensures { IfOk result (λ front. front.items ≡ front_text round.now player) }
+    ensures { IfOk result (λ front. front ≡ front_text round.now player) }
 {
     let mut text = Page::new(alloc);
     put_front(&mut text, round, player)?;
-    Ok(text.into_bytes())
+    Ok(text)
 }
 
 // Puts the line of a round, and what is told of a player.

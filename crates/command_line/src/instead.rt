@@ -114,7 +114,7 @@ fn of_meeting<F: Finder>(
     }
     match decided_in(telling.field, round.stages, meeting) {
         Some(decided) => by_wish::<F>(alloc, telling, decided, asking),
-        None => Ok(Reply::made(Status::Done, String::new(alloc))),
+        None => Ok(Reply::made(Status::Done, Page::new(alloc))),
     }
 }
 
@@ -163,7 +163,7 @@ fn stands_against(
 {
     let mut text = Page::new(alloc);
     put_against(&mut text, telling, asked, obstacle)?;
-    Ok(Reply::bytes(Status::Done, text.into_bytes()))
+    Ok(Reply::made(Status::Done, text))
 }
 
 // Puts that the player does not get it, and what stands against it.
@@ -308,7 +308,7 @@ fn by_wish<F: Finder>(
     if decided.1.is_granted(decided.0.candidate()) {
         let mut text = Page::new(alloc);
         put_granted(&mut text, telling, asking.asked)?;
-        return Ok(Reply::bytes(Status::Done, text.into_bytes()));
+        return Ok(Reply::made(Status::Done, text));
     }
     by_search::<F>(alloc, telling, decided, asking)
 }
@@ -375,7 +375,7 @@ fn in_bracket(
 {
     let mut text = Page::new(alloc);
     put_searched(&mut text, telling, asked, searched)?;
-    Ok(Reply::bytes(Status::Done, text.into_bytes()))
+    Ok(Reply::made(Status::Done, text))
 }
 
 // Puts that the player does not get it, and what a search in a bracket found.

@@ -6,7 +6,7 @@ ghost use Rattle.command_line.specs.ExplainAnswers.{TellsWhy, asked_text, line_t
 ghost use Rattle.command_line.specs.InsteadAnswers.{undecided_in};
 ghost use Rattle.replies.specs.Prelude.{answer_of};
 
-use common_texts::Page;
+use common_texts::{Page, put_undecided, put_undecided_words};
 use dutch_rounds::{Barrier, barrier_of};
 use player_lines::{put_absent, put_player};
 use replies::{Reply, Status};
@@ -41,7 +41,7 @@ fn because(
 {
     let mut text = Page::new(alloc);
     put_because(&mut text, telling, question, found)?;
-    Ok(Reply::bytes(Status::NoPairing, text.into_bytes()))
+    Ok(Reply::made(Status::NoPairing, text))
 }
 
 // Puts that there is no pairing, why, and what the player who is asked about would bring to the round.
@@ -111,14 +111,10 @@ pub fn undecided(
 ) -> Result<Reply, AllocError>
     ensures { IfOk result (λ reply. answer_of reply ≡ undecided_in wording number used) }
 {
+    let mut text = Page::new(alloc);
     match wording {
-        Wording::Plain => {
-            let line = common_texts::undecided(alloc, number, used)?;
-            Ok(Reply::made(Status::Undecided, line))
-        }
-        Wording::Words => {
-            let words = common_texts::undecided_words(alloc, number, used)?;
-            Ok(Reply::made(Status::Undecided, words))
-        }
+        Wording::Plain => put_undecided(&mut text, number, used)?,
+        Wording::Words => put_undecided_words(&mut text, number, used)?,
     }
+    Ok(Reply::made(Status::Undecided, text))
 }

@@ -9,6 +9,7 @@ ghost use Rattle.command_line.specs.Run.{IsAnswer, IsReplyTo, IsRun};
 ghost use Rattle.requests.specs.Prelude.{meant};
 
 use crate::explain::explain;
+use common_texts::Page;
 use dutch_choice::finder::Finder;
 use replies::check::check;
 use replies::enter::enter;
@@ -80,8 +81,10 @@ fn reply_to<'a, F: Finder, R: Source>(alloc: Global, words: &'a [&'a str], reade
 {
     match read_words(alloc, words) {
         Ok(Meaning::Command(task)) => reply_to_task::<F, R>(alloc, task, reader),
-        Ok(Meaning::Help(text)) => Reply::made(Status::Done, text),
-        Ok(Meaning::Mistake(text)) => Reply::made(Status::BadWords, text),
+        Ok(Meaning::Help(text)) => Reply::made(Status::Done, Page::from_bytes(text.into_bytes())),
+        Ok(Meaning::Mistake(text)) => {
+            Reply::made(Status::BadWords, Page::from_bytes(text.into_bytes()))
+        }
         Ok(Meaning::Refused(fault)) => reply_to_fault(alloc, fault),
         Err(AllocError) => out_of_memory(),
     }

@@ -4,6 +4,7 @@
 ghost use Rattle.std.specs.Prelude.{◌≡◌, ◌≤◌, ◌++◌, ◌∷◌, IfOk, OnOk, false, length};
 ghost use Rattle.common_texts.specs.Controls.{holds_control, is_control, is_long_control, shown_byte, without_controls};
 
+use crate::page::Page;
 use std::alloc::{AllocError, Global};
 
 /// A text with a question mark in place of each control character: a byte below 32, 127, or the two bytes of U+0080 to
@@ -29,15 +30,11 @@ pub fn without_controls(alloc: Global, text: &[u8]) -> Result<Vec<u8>, AllocErro
 ///
 /// # Errors
 /// Memory was refused.
-pub fn put_without_controls(
-    alloc: Global,
-    text: &mut Vec<u8>,
-    more: &[u8],
-) -> Result<(), AllocError>
-    ensures { OnOk result (text.new.items ≡ text.old.items ++ without_controls more.now) }
+pub fn put_without_controls(text: &mut Page, more: &[u8]) -> Result<(), AllocError>
+    ensures { OnOk result (text.new ≡ text.old ++ without_controls more.now) }
 {
-    let shown = without_controls(alloc, more)?;
-    text.extend_from_slice(shown.as_slice())
+    let shown = without_controls(text.allocator(), more)?;
+    text.push_bytes(shown.as_slice())
 }
 
 // What is shown of the character that begins with a byte, and what stands behind that character.

@@ -16,4 +16,4 @@ pub use key_values::KeyValue;
 pub use names::shown;
 pub use page::Page;
 pub use points::HalfPoints;
-pub use too_few_steps::{undecided, undecided_words};
+pub use too_few_steps::{put_undecided, put_undecided_words};

@@ -30,6 +30,13 @@ impl Page {
         }
     }
 
+    /// Bytes that are a text already.
+    pub fn from_bytes(bytes: Vec<u8>) -> Page
+        ensures { result ≡ bytes.items }
+    {
+        Page { bytes }
+    }
+
     /// What the text has its memory from.
     pub fn allocator(&self) -> Global {
         *self.bytes.allocator()
@@ -58,6 +65,13 @@ impl Page {
     }
 
     /// The text.
+    pub fn as_bytes(&self) -> &[u8]
+        ensures { result.now ≡ self.now }
+    {
+        self.bytes.as_slice()
+    }
+
+    /// The text, without what holds it.
     pub fn into_bytes(self) -> Vec<u8>
         ensures { result.items ≡ self }
     {

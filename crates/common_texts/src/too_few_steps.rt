@@ -1,19 +1,23 @@
 // What is said where the steps did not suffice.
-ghost use Rattle.std.specs.Prelude.{◌≡◌, IfOk, string_bytes};
+ghost use Rattle.std.specs.Prelude.{◌≡◌, ◌++◌, OnOk};
 ghost use Rattle.common_texts.specs.Texts.{undecided_text, undecided_words};
 
-use std::alloc::{AllocError, Global};
+use crate::page::Page;
+use std::alloc::AllocError;
 
-/// The steps of a bracket reached the limit before it was decided.
-pub fn undecided(alloc: Global, number: u16, used: u64) -> Result<String, AllocError>
-    ensures { IfOk result (λ text. string_bytes text ≡ undecided_text number used) }
+/// Puts that the steps of a bracket reached the limit before it was decided.
+pub fn put_undecided(text: &mut Page, number: u16, used: u64) -> Result<(), AllocError>
+    ensures { OnOk result (text.new ≡ text.old ++ undecided_text number used) }
 {
-    format!(in alloc; "undecided bracket {number} steps {used}\n")
+    write!(text, "undecided bracket {number} steps {used}\n")
 }
 
-/// The steps of a bracket reached the limit before it was decided, in a sentence.
-pub fn undecided_words(alloc: Global, number: u16, used: u64) -> Result<String, AllocError>
-    ensures { IfOk result (λ text. string_bytes text ≡ undecided_words number used) }
+/// Puts the same in a sentence.
+pub fn put_undecided_words(text: &mut Page, number: u16, used: u64) -> Result<(), AllocError>
+    ensures { OnOk result (text.new ≡ text.old ++ undecided_words number used) }
 {
-    format!(in alloc; "Undecided: bracket {number} needs more than {used} steps.\n")
+    write!(
+        text,
+        "Undecided: bracket {number} needs more than {used} steps.\n"
+    )
 }

@@ -1,16 +1,14 @@
 // The command `check`: whether a report is accepted, how many players and rounds it has, and what looks like a mistake.
-ghost use Rattle.std.specs.Prelude.{◌≡◌, ℕ, ◌≤◌, ◌++◌, IfOk, Ok, string_bytes};
+ghost use Rattle.std.specs.Prelude.{◌≡◌, ℕ, ◌≤◌, IfOk, Ok};
 ghost use Rattle.trf16_report.specs.Prelude.{verdict};
-ghost use Rattle.report_notes.specs.Notes.{notes_of};
 ghost use Rattle.replies.specs.ReportAnswers.{check_answer};
-ghost use Rattle.replies.specs.NoteTexts.{notes_text};
 ghost use Rattle.replies.specs.Replies.{answer_of};
-ghost use Rattle.replies.specs.Statuses.{done};
 
 use crate::notes::put_notes;
 use crate::refusal::refused;
 use crate::refusal_notes::refused_with_note;
 use crate::reply::{Reply, Status};
+use common_texts::Page;
 use requests::CheckOptions;
 use std::alloc::{AllocError, Global};
 use trf16_report::{Fault, Report};
@@ -27,15 +25,15 @@ pub fn check(
         ≡ check_answer (verdict bytes.now bye) options.notes bytes.now bye) }
 {
     match trf16_reader::read_with(alloc, bytes, bye) {
-        Ok(report) => accepted(alloc, options, &report, bytes),
+        Ok(report) => of_report(alloc, options, &report, bytes),
         Err(Fault::OutOfMemory) => Err(AllocError),
         Err(fault) if options.notes => refused_with_note(alloc, fault, bytes, bye),
         Err(fault) => refused(alloc, fault),
     }
 }
 
-// What is said of an accepted report.
-fn accepted(
+// What is said of an accepted report that stands in some bytes.
+fn of_report(
     alloc: Global,
     options: CheckOptions,
     report: &Report<'_>,
@@ -45,24 +43,10 @@ fn accepted(
         (λ reply. answer_of reply ≡ check_answer (Ok report.now) options.notes bytes.now bye) }
 {
     let (players, rounds) = (report.players().len(), report.rounds_played());
-    let text = format!(in alloc; "accepted players {players} rounds {rounds}\n")?;
+    let mut text = Page::new(alloc);
+    write!(text, "accepted players {players} rounds {rounds}\n")?;
     if options.notes {
-        return with_notes(alloc, text, report, bytes);
+        put_notes(&mut text, report, bytes)?;
     }
     Ok(Reply::made(Status::Done, text))
-}
-
-// A text, and behind it the notes of a report that stands in some bytes.
-fn with_notes(
-    alloc: Global,
-    front: String,
-    report: &Report<'_>,
-    bytes: &[u8],
-) -> Result<Reply, AllocError>
-    ensures { IfOk result (λ reply. answer_of reply
-        ≡ done (string_bytes front ++ notes_text (notes_of report.now bytes.now))) }
-{
-    let mut text = front.into_bytes();
-    put_notes(alloc, &mut text, report, bytes)?;
-    Ok(Reply::bytes(Status::Done, text))
 }

@@ -1,15 +1,17 @@
 // The command `enter`: a report with results and byes that are entered by hand.
-ghost use Rattle.std.specs.Prelude.{◌≡◌, ◌≤◌, IfOk, string_bytes};
+ghost use Rattle.std.specs.Prelude.{◌≡◌, ◌≤◌, ◌++◌, IfOk, OnOk};
 ghost use Rattle.trf16_report.specs.Prelude.{verdict_unsummed};
 ghost use Rattle.entries.specs.Prelude.{entered};
 ghost use Rattle.replies.specs.EnterAnswers.{enter_answer, entered_answer, entry_options, entry_refusal, entry_text};
 ghost use Rattle.replies.specs.EnterAnswers.{player_words, round_words};
 ghost use Rattle.replies.specs.Replies.{answer_of};
 
-use crate::format::rewritten;
+use crate::format::reply_with_report;
 use crate::refusal::refused;
+use crate::refusal_texts::put_fault;
 use crate::reply::{Reply, Status};
-use crate::{refusal_texts, texts};
+use crate::texts::put_round_not_reached;
+use common_texts::Page;
 use entries::{EntryFault, EntryOptions, entered};
 use requests::EnterOptions;
 use std::alloc::{AllocError, Global};
@@ -46,7 +48,7 @@ fn with_entries(
         correct: options.correct,
     };
     match entered(alloc, how, options.entries.as_slice(), report) {
-        Ok(with) => rewritten(alloc, &with),
+        Ok(with) => reply_with_report(alloc, &with),
         Err(EntryFault::OutOfMemory) => Err(AllocError),
         Err(fault) => cannot_be_entered(alloc, fault),
     }
@@ -59,47 +61,52 @@ fn cannot_be_entered(alloc: Global, fault: EntryFault) -> Result<Reply, AllocErr
     match fault {
         EntryFault::OutOfMemory => Err(AllocError),
         EntryFault::Refused(fault) => refused(alloc, fault),
-        _ => Ok(Reply::made(Status::BadWords, entry_text(alloc, fault)?)),
+        _ => {
+            let mut text = Page::new(alloc);
+            put_entry_fault(&mut text, fault)?;
+            Ok(Reply::made(Status::BadWords, text))
+        }
     }
 }
 
-// Why entries are refused.
-fn entry_text(alloc: Global, fault: EntryFault) -> Result<String, AllocError>
-    ensures { IfOk result (λ text. string_bytes text ≡ entry_text fault) }
+// Puts why entries are refused.
+fn put_entry_fault(text: &mut Page, fault: EntryFault) -> Result<(), AllocError>
+    ensures { OnOk result (text.new ≡ text.old ++ entry_text fault) }
 {
     match fault {
-        EntryFault::NotReached { round } => texts::round_not_reached(alloc, round),
-        EntryFault::NotKnown { player } => player_words(alloc, player, " is not known\n"),
-        EntryFault::NamedTwice { player } => player_words(alloc, player, " is named twice\n"),
+        EntryFault::NotReached { round } => put_round_not_reached(text, round),
+        EntryFault::NotKnown { player } => put_player_words(text, player, " is not known\n"),
+        EntryFault::NamedTwice { player } => put_player_words(text, player, " is named twice\n"),
         EntryFault::HasGame { player, round } => {
-            round_words(alloc, player, " has a game in round ", round)
+            put_round_words(text, player, " has a game in round ", round)
         }
         EntryFault::NoGame { player, round } => {
-            round_words(alloc, player, " has no game in round ", round)
+            put_round_words(text, player, " has no game in round ", round)
         }
         EntryFault::NoColour { player, round } => {
-            round_words(alloc, player, " has no colour in round ", round)
+            put_round_words(text, player, " has no colour in round ", round)
         }
         EntryFault::HasCell { player, round } => {
-            format!(in alloc;
+            write!(
+                text,
                 "words: player {player} has a cell in round {round}, which --correct replaces\n"
             )
         }
-        EntryFault::Refused(fault) => refusal_texts::refused(alloc, fault),
-        EntryFault::OutOfMemory => String::from_str(alloc, "memory: refused\n"),
+        EntryFault::Refused(fault) => put_fault(text, fault),
+        EntryFault::OutOfMemory => text.push_str("memory: refused\n"),
     }
 }
 
-// What is wrong with a player whom an entry names.
-fn player_words(alloc: Global, player: u16, what: &str) -> Result<String, AllocError>
-    ensures { IfOk result (λ text. string_bytes text ≡ player_words player what.now) }
+// Puts what is wrong with a player whom an entry names.
+fn put_player_words(text: &mut Page, player: u16, what: &str) -> Result<(), AllocError>
+    ensures { OnOk result (text.new ≡ text.old ++ player_words player what.now) }
 {
-    format!(in alloc; "words: player {player}{what}")
+    write!(text, "words: player {player}{what}")
 }
 
-// What is wrong with a player in a round.
-fn round_words(alloc: Global, player: u16, what: &str, round: u8) -> Result<String, AllocError>
-    ensures { IfOk result (λ text. string_bytes text ≡ round_words player what.now round) }
+// Puts what is wrong with a player in a round.
+fn put_round_words(text: &mut Page, player: u16, what: &str, round: u8) -> Result<(), AllocError>
+    ensures { OnOk result (text.new ≡ text.old ++ round_words player what.now round) }
 {
-    format!(in alloc; "words: player {player}{what}{round}\n")
+    write!(text, "words: player {player}{what}{round}\n")
 }

@@ -1,25 +1,26 @@
 // What a refused extension line wants.
-ghost use Rattle.std.specs.Prelude.{◌≡◌, IfOk};
+ghost use Rattle.std.specs.Prelude.{◌≡◌, ◌++◌, OnOk};
 ghost use Rattle.replies.specs.RefusalNoteTexts.{extension_note, wanted_text};
 
+use common_texts::Page;
 use report_notes::{Extension, extension_at};
-use std::alloc::{AllocError, Global};
+use std::alloc::AllocError;
 
-/// What a line of a text wants, if it is of the kind of an extension that is read.
+/// Puts what a line of a text wants, if it is of the kind of an extension that is read.
 #[tactic(auto, unfolding(crate::specs::RefusalNoteTexts::extension_text))]
-pub(crate) fn extension_note(
-    alloc: Global,
+pub(crate) fn put_extension_note(
+    text: &mut Page,
     bytes: &[u8],
     line: usize,
-) -> Result<Vec<u8>, AllocError>
-    ensures { IfOk result (λ note. note.items ≡ extension_note bytes.now line) }
+) -> Result<(), AllocError>
+    ensures { OnOk result (text.new ≡ text.old ++ extension_note bytes.now line) }
 {
     match extension_at(bytes, line) {
         Some(extension) => {
             let wanted = wanted_text(extension);
-            Ok(format!(in alloc; "note line {line}: {wanted}")?.into_bytes())
+            write!(text, "note line {line}: {wanted}")
         }
-        None => Ok(Vec::new(alloc)),
+        None => Ok(()),
     }
 }
 

@@ -1,6 +1,6 @@
 // The command `format`: a report in canonical columns.
-ghost use Rattle.std.specs.Prelude.{◌≡◌, ◌≤◌, IfOk, Some, false, true};
-ghost use Rattle.trf16_report.specs.Prelude.{renumbered, summed, verdict_unsummed, verdict, written};
+ghost use Rattle.std.specs.Prelude.{◌≡◌, ◌≤◌, IfOk, Ok, Some, true};
+ghost use Rattle.trf16_report.specs.Prelude.{renumbered, written};
 ghost use Rattle.replies.specs.Views.{seen_before};
 ghost use Rattle.replies.specs.ReportAnswers.{format_answer, format_verdict, ranked_answer, written_answer};
 ghost use Rattle.replies.specs.Replies.{answer_of};
@@ -8,7 +8,8 @@ ghost use Rattle.replies.specs.Statuses.{done};
 
 use crate::refusal::{cannot_be_renumbered, has_no_standings};
 use crate::reply::{Reply, Status};
-use crate::views::{not_seen, read_before, read_unsummed_before};
+use crate::views::{Seen, not_seen, read_before, read_unsummed_before};
+use common_texts::Page;
 use ranks::{ranked_text, renumbered_ranked_text};
 use requests::{FormatOptions, Keys};
 use std::alloc::{AllocError, Global};
@@ -27,63 +28,48 @@ pub fn format(
     ensures { IfOk result (λ reply. answer_of reply ≡ format_answer options.now
         (seen_before options.now.round (format_verdict options.now.points bytes.now bye))) }
 {
+    match read_for(alloc, options, bytes, bye)? {
+        Ok(report) => of_report(alloc, options, &report),
+        Err(why) => not_seen(alloc, why),
+    }
+}
+
+// The report, as it stood before a round if one is asked for; where its points fields are to be summed, whatever they
+// say.
+fn read_for<'a>(
+    alloc: Global,
+    options: &FormatOptions,
+    bytes: &'a [u8],
+    bye: u16,
+) -> Result<Seen<'a>, AllocError>
+    requires { bye ≤ 2 }
+    ensures { IfOk result (λ seen. seen
+        ≡ seen_before options.now.round (format_verdict options.now.points bytes.now bye)) }
+{
     if options.points {
-        with_sums(alloc, options, bytes, bye)
+        read_unsummed_before(alloc, bytes, bye, options.round)
     } else {
-        as_it_is(alloc, options, bytes, bye)
+        read_before(alloc, bytes, bye, options.round)
     }
 }
 
-// The report as it was read, or as it stood before a round.
-fn as_it_is(
-    alloc: Global,
-    options: &FormatOptions,
-    bytes: &[u8],
-    bye: u16,
-) -> Result<Reply, AllocError>
-    requires worth { bye ≤ 2 }
-    requires compared { options.now.points ≡ false }
-    ensures { IfOk result (λ reply. answer_of reply
-        ≡ format_answer options.now (seen_before options.now.round (verdict bytes.now bye))) }
-{
-    match read_before(alloc, bytes, bye, options.round)? {
-        Ok(report) => answered(alloc, options, &report),
-        Err(why) => not_seen(alloc, why),
-    }
-}
-
-// The report as it was read, or as it stood before a round, with its points fields summed, whatever they say.
-fn with_sums(
-    alloc: Global,
-    options: &FormatOptions,
-    bytes: &[u8],
-    bye: u16,
-) -> Result<Reply, AllocError>
-    requires worth { bye ≤ 2 }
-    requires summed { options.now.points ≡ true }
-    ensures { IfOk result (λ reply. answer_of reply
-        ≡ format_answer options.now (seen_before options.now.round (verdict_unsummed bytes.now bye))) }
-{
-    match read_unsummed_before(alloc, bytes, bye, options.round)? {
-        Ok(report) => with_its_sums(alloc, options, &report),
-        Err(why) => not_seen(alloc, why),
-    }
-}
-
-// A report that was read, with its points fields summed.
-fn with_its_sums(
+// What `format` says of a report that was read.
+fn of_report(
     alloc: Global,
     options: &FormatOptions,
     report: &Report<'_>,
 ) -> Result<Reply, AllocError>
-    ensures { IfOk result (λ reply. answer_of reply
-        ≡ written_answer options.now.renumber options.now.ranks (summed report.now)) }
+    ensures { IfOk result (λ reply. answer_of reply ≡ format_answer options.now (Ok report.now)) }
 {
-    answered(alloc, options, &summed(alloc, report)?)
+    if options.points {
+        of_points(alloc, options, &summed(alloc, report)?)
+    } else {
+        of_points(alloc, options, report)
+    }
 }
 
-// A report as it is, or with new start ranks.
-fn answered(
+// A report with the points that it is to have: with its own start ranks, or with new ones.
+fn of_points(
     alloc: Global,
     options: &FormatOptions,
     report: &Report<'_>,
@@ -92,14 +78,14 @@ fn answered(
         ≡ written_answer options.now.renumber options.now.ranks report.now) }
 {
     if options.renumber {
-        renumbered(alloc, options, report)
+        with_new_ranks(alloc, options, report)
     } else {
-        numbered_as_it_is(alloc, options, report)
+        with_own_ranks(alloc, options, report)
     }
 }
 
 // A report with its own start ranks.
-fn numbered_as_it_is(
+fn with_own_ranks(
     alloc: Global,
     options: &FormatOptions,
     report: &Report<'_>,
@@ -107,23 +93,23 @@ fn numbered_as_it_is(
     ensures { IfOk result (λ reply. answer_of reply ≡ ranked_answer options.now.ranks report.now report.now) }
 {
     match &options.ranks {
-        Some(keys) => ranked(alloc, keys, report),
-        None => rewritten(alloc, report),
+        Some(keys) => with_places(alloc, keys, report),
+        None => reply_with_report(alloc, report),
     }
 }
 
 // A report with its own start ranks and its players' places, unless it has no standings.
-fn ranked(alloc: Global, keys: &Keys, report: &Report<'_>) -> Result<Reply, AllocError>
+fn with_places(alloc: Global, keys: &Keys, report: &Report<'_>) -> Result<Reply, AllocError>
     ensures { IfOk result (λ reply. answer_of reply ≡ ranked_answer (Some keys.now) report.now report.now) }
 {
     match judged(report) {
-        Ok(()) => Ok(Reply::bytes(Status::Done, ranked_text(alloc, report, keys.as_slice())?)),
+        Ok(()) => Ok(done_with(ranked_text(alloc, report, keys.as_slice())?)),
         Err(fault) => has_no_standings(alloc, fault),
     }
 }
 
 // A report with new start ranks, unless a line names players in a way that is not read.
-fn renumbered(
+fn with_new_ranks(
     alloc: Global,
     options: &FormatOptions,
     report: &Report<'_>,
@@ -134,13 +120,13 @@ fn renumbered(
         return cannot_be_renumbered(alloc, line);
     }
     match &options.ranks {
-        Some(keys) => renumbered_and_ranked(alloc, keys, report),
-        None => Ok(Reply::bytes(Status::Done, renumbered_text(alloc, report)?)),
+        Some(keys) => with_new_ranks_and_places(alloc, keys, report),
+        None => Ok(done_with(renumbered_text(alloc, report)?)),
     }
 }
 
 // A report with new start ranks and its players' places, unless it has no standings.
-fn renumbered_and_ranked(
+fn with_new_ranks_and_places(
     alloc: Global,
     keys: &Keys,
     report: &Report<'_>,
@@ -149,21 +135,25 @@ fn renumbered_and_ranked(
         ≡ ranked_answer (Some keys.now) report.now (renumbered report.now)) }
 {
     match judged(report) {
-        Ok(()) => Ok(Reply::bytes(
-            Status::Done,
-            renumbered_ranked_text(alloc, report, keys.as_slice())?,
-        )),
+        Ok(()) => Ok(done_with(renumbered_ranked_text(alloc, report, keys.as_slice())?)),
         Err(fault) => has_no_standings(alloc, fault),
     }
 }
 
 /// A report in canonical columns, however long; it is made whole before the first byte is written.
-pub fn rewritten(alloc: Global, report: &Report<'_>) -> Result<Reply, AllocError>
+pub fn reply_with_report(alloc: Global, report: &Report<'_>) -> Result<Reply, AllocError>
     ensures { IfOk result (λ reply. answer_of reply ≡ done (written report.now)) }
 {
     let mut text = Counted::new(Vec::new(alloc));
     match write(report, &mut text) {
-        Ok(()) => Ok(Reply::bytes(Status::Done, text.into_inner())),
+        Ok(()) => Ok(done_with(text.into_inner())),
         Err(Failed) => Err(AllocError),
     }
+}
+
+// A report that was written.
+fn done_with(report: Vec<u8>) -> Reply
+    ensures { answer_of result ≡ done report.items }
+{
+    Reply::made(Status::Done, Page::from_bytes(report))
 }

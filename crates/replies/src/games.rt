@@ -1,10 +1,10 @@
 // The games of a player in the standings, round by round.
-ghost use Rattle.std.specs.Prelude.{◌≡◌, ◌++◌, OnOk, string_bytes};
+ghost use Rattle.std.specs.Prelude.{◌≡◌, ◌++◌, OnOk};
 ghost use Rattle.replies.specs.GameTexts.{games_labels, games_text};
 ghost use Rattle.replies.specs.StandingsAnswers.{rounds_shown};
 
 use crate::table::TableLine;
-use common_texts::RoundOf;
+use common_texts::{Page, RoundOf};
 use requests::StandingsOptions;
 use std::alloc::AllocError;
 use trf16_report::Report;
@@ -22,12 +22,12 @@ pub fn rounds_shown(options: &StandingsOptions, report: &Report<'_>) -> u8
 
 /// Puts the cells of a player in the rounds from 1 up to one, each behind a blank.
 pub fn put_games(
-    text: &mut String,
+    text: &mut Page,
     report: &Report<'_>,
     start: u16,
     rounds: u8,
 ) -> Result<(), AllocError>
-    ensures { OnOk result (string_bytes text.new ≡ string_bytes text.old ++ games_text report.now start rounds) }
+    ensures { OnOk result (text.new ≡ text.old ++ games_text report.now start rounds) }
 {
     for round in 0..rounds {
         let game = RoundOf(report.cell(start, round + 1));
@@ -47,7 +47,7 @@ pub fn push_games(
 {
     for round in 0..rounds {
         let game = RoundOf(report.cell(start, round + 1));
-        line.push_text(game.to_string(line.allocator())?)?;
+        write!(line, "{game}")?;
     }
     Ok(())
 }

@@ -1,121 +1,116 @@
 // The lines of `check --notes`: what of an accepted report looks like a mistake.
-ghost use Rattle.std.specs.Prelude.{◌≡◌, ◌++◌, IfOk, OnOk, Some, option_map, string_bytes};
+ghost use Rattle.std.specs.Prelude.{◌≡◌, ◌++◌, OnOk, option_map};
 ghost use Rattle.std.specs.List.{find};
 ghost use Rattle.trf16_report.specs.Prelude.{is_word};
 ghost use Rattle.report_notes.specs.Notes.{notes_of};
 ghost use Rattle.report_notes.specs.NoteOf.{noted};
-ghost use Rattle.replies.specs.NoteTexts.{closing_text, front_text, identity_text, kind_text, line_front};
-ghost use Rattle.replies.specs.NoteTexts.{note_text, notes_text, other_kinds};
-ghost use Rattle.replies.specs.NoteTexts.{round_note_text, told_of_kind, unknown_text};
+ghost use Rattle.replies.specs.NoteTexts as texts;
 
-use common_texts::put_without_controls;
+use common_texts::{Page, put_without_controls};
 use report_notes::{Identity, Note, Place, RoundNote, next_note};
-use std::alloc::{AllocError, Global};
-use std::fmt;
+use std::alloc::AllocError;
 use trf16_report::{Report, is_word};
 
 /// Puts a line for each note of a report that stands in some bytes.
-pub fn put_notes(
-    alloc: Global,
-    text: &mut Vec<u8>,
-    report: &Report<'_>,
-    bytes: &[u8],
-) -> Result<(), AllocError>
-    ensures { OnOk result (text.new.items ≡ text.old.items ++ notes_text (notes_of report.now bytes.now)) }
+pub fn put_notes(text: &mut Page, report: &Report<'_>, bytes: &[u8]) -> Result<(), AllocError>
+    ensures { OnOk result (text.new ≡ text.old ++ texts.notes_text (notes_of report.now bytes.now)) }
 {
     let mut place = Place::first(bytes);
     while let Some((note, after)) = next_note(report, place) {
-        put_note(alloc, text, note)?;
+        put_note(text, note)?;
         place = after;
     }
     Ok(())
 }
 
 /// Puts the line of a note.
-pub(crate) fn put_note(alloc: Global, text: &mut Vec<u8>, note: Note<'_>) -> Result<(), AllocError>
-    ensures { OnOk result (text.new.items ≡ text.old.items ++ note_text (noted note.entry)) }
+pub(crate) fn put_note(text: &mut Page, note: Note<'_>) -> Result<(), AllocError>
+    ensures { OnOk result (text.new ≡ text.old ++ texts.note_text (noted note.entry)) }
 {
-    let front = front(alloc, note)?;
-    text.extend_from_slice(front.as_bytes())?;
-    put_told_of_kind(alloc, text, note)?;
-    text.extend_from_slice(b"\n")
+    put_front(text, note)?;
+    put_told_of_kind(text, note)?;
+    text.push_str("\n")
 }
 
-// The line of a note up to what is told of a kind.
+// Puts the line of a note up to what is told of a kind.
 #[tactic(auto, unfolding(crate::specs::NoteTexts::front_text))]
-fn front(alloc: Global, note: Note<'_>) -> Result<String, AllocError>
-    ensures { IfOk result (λ text. string_bytes text ≡ front_text (noted note.entry)) }
+fn put_front(text: &mut Page, note: Note<'_>) -> Result<(), AllocError>
+    ensures { OnOk result (text.new ≡ text.old ++ texts.front_text (noted note.entry)) }
 {
     match note {
-        Note::NoPlayer { line, number } => {
-            format!(in alloc; "note line {line}: no player {number}")
-        }
+        Note::NoPlayer { line, number } => write!(text, "note line {line}: no player {number}"),
         Note::PlayedLast { line, number } => {
-            format!(in alloc; "note line {line}: player {number} played the last round")
+            write!(
+                text,
+                "note line {line}: player {number} played the last round"
+            )
         }
-        Note::UnknownKind { line, .. } | Note::BlankBefore { line, .. } => {
-            of_line(alloc, line, ": ")
-        }
-        Note::OnePlayer { line } => of_line(alloc, line, ": names one player"),
-        Note::ManyRounds { line } => of_line(alloc, line, ": more rounds than opponents"),
+        Note::UnknownKind { line, .. } | Note::BlankBefore { line, .. } => put_line(
+            text, line, ": ",
+        ),
+        Note::OnePlayer { line } => put_line(text, line, ": names one player"),
+        Note::ManyRounds { line } => put_line(text, line, ": more rounds than opponents"),
         Note::OtherCount {
             line,
             said,
             players,
-        } => format!(in alloc; "note line {line}: 062 says {said}, players {players}"),
-        Note::BeforeName { line } => of_line(alloc, line, ": column 14 is not blank"),
+        } => write!(text, "note line {line}: 062 says {said}, players {players}"),
+        Note::BeforeName { line } => put_line(text, line, ": column 14 is not blank"),
         Note::SameAs { line, what, player } => {
             let what = identity_text(what);
-            format!(in alloc; "note line {line}: same {what} as player {player}")
+            write!(text, "note line {line}: same {what} as player {player}")
         }
-        Note::LongName { line } => of_line(alloc, line, ": the name runs into column 48"),
+        Note::LongName { line } => put_line(text, line, ": the name runs into column 48"),
         Note::RatingAbove {
             line,
             rating,
             player,
-        } => format!(in alloc;
+        } => write!(
+            text,
             "note line {line}: rating {rating} is above that of player {player}"
         ),
-        Note::EarlyPoints { line } => of_line(alloc, line, ": the points count a round to come"),
+        Note::EarlyPoints { line } => put_line(text, line, ": the points count a round to come"),
         Note::InRound { line, round, what } => {
-            let what = RoundWords(what);
-            format!(in alloc; "note line {line}: round {round}{what}")
+            write!(text, "note line {line}: round {round}")?;
+            put_round_note(text, what)
         }
         Note::BehindColumn { line, column } => {
-            format!(in alloc; "note line {line}: behind column {column} nothing is read")
+            write!(
+                text,
+                "note line {line}: behind column {column} nothing is read"
+            )
         }
-        _ => closing(alloc, note),
+        _ => put_closing(text, note),
     }
 }
 
-// What is told of a note that stands behind those on lines, and of one on a line nothing.
+// Puts what is told of a note that stands behind those on lines, and of one on a line nothing.
 #[tactic(auto, unfolding(crate::specs::NoteTexts::closing_text))]
-fn closing(alloc: Global, note: Note<'_>) -> Result<String, AllocError>
-    ensures { IfOk result (λ text. string_bytes text ≡ closing_text (noted note.entry)) }
+fn put_closing(text: &mut Page, note: Note<'_>) -> Result<(), AllocError>
+    ensures { OnOk result (text.new ≡ text.old ++ texts.closing_text (noted note.entry)) }
 {
     match note {
-        Note::NoGame { round } => format!(in alloc; "note round {round}: no game"),
+        Note::NoGame { round } => write!(text, "note round {round}: no game"),
         Note::Byes { round, players } => {
-            format!(in alloc; "note round {round}: {players} players have the bye")
+            write!(text, "note round {round}: {players} players have the bye")
         }
-        Note::NobodyPresent { round } => {
-            format!(in alloc; "note round {round}: nobody is present")
-        }
+        Note::NobodyPresent { round } => write!(text, "note round {round}: nobody is present"),
         Note::StartRanks {
             rating,
             player,
             other,
-        } => format!(in alloc;
+        } => write!(
+            text,
             "note start ranks: rating {rating} of player {player} is above that of player {other}"
         ),
-        Note::RoundsUnknown => String::from_str(alloc, "note rounds unknown"),
-        _ => Ok(String::new(alloc)),
+        Note::RoundsUnknown => text.push_str("note rounds unknown"),
+        _ => Ok(()),
     }
 }
 
 // What two players share.
 fn identity_text(what: Identity) -> &'static str
-    ensures { result.now ≡ identity_text what }
+    ensures { result.now ≡ texts.identity_text what }
 {
     match what {
         Identity::Name => "name",
@@ -123,55 +118,46 @@ fn identity_text(what: Identity) -> &'static str
     }
 }
 
-// What is told of a line.
-fn of_line(alloc: Global, line: usize, what: &str) -> Result<String, AllocError>
-    ensures { IfOk result (λ text. string_bytes text ≡ line_front line what.now) }
+// Puts what is told of a line.
+fn put_line(text: &mut Page, line: usize, what: &str) -> Result<(), AllocError>
+    ensures { OnOk result (text.new ≡ text.old ++ texts.line_front line what.now) }
 {
-    format!(in alloc; "note line {line}{what}")
+    write!(text, "note line {line}{what}")
 }
 
-// What is noted of a round, as it stands behind the round's number.
-#[derive(Drop)]
-struct RoundWords(RoundNote);
-
-impl fmt::Display for RoundWords {
-    ghost output = { λ words. Some (round_note_text words.0) };
-
-    #[tactic(auto, unfolding(crate::specs::NoteTexts::round_note_text))]
-    fn fmt<W: fmt::Write>(&self, f: &mut fmt::Formatter<W>) -> fmt::Result {
-        match self.0 {
-            RoundNote::NoResult => f.write_str(" has no result"),
-            RoundNote::MeetsAgain { player } => write!(f, " meets player {player} again"),
-            RoundNote::AnotherBye => f.write_str(" is another bye"),
-            RoundNote::HalfPoint => f.write_str(" gives half a point in all"),
-            RoundNote::NoPoint => f.write_str(" gives no point in all"),
-            RoundNote::NoCell => f.write_str(" has no cell"),
-        }
+// Puts what is noted of a round, behind the round's number.
+#[tactic(auto, unfolding(crate::specs::NoteTexts::round_note_text))]
+fn put_round_note(text: &mut Page, what: RoundNote) -> Result<(), AllocError>
+    ensures { OnOk result (text.new ≡ text.old ++ texts.round_note_text what) }
+{
+    match what {
+        RoundNote::NoResult => text.push_str(" has no result"),
+        RoundNote::MeetsAgain { player } => write!(text, " meets player {player} again"),
+        RoundNote::AnotherBye => text.push_str(" is another bye"),
+        RoundNote::HalfPoint => text.push_str(" gives half a point in all"),
+        RoundNote::NoPoint => text.push_str(" gives no point in all"),
+        RoundNote::NoCell => text.push_str(" has no cell"),
     }
 }
 
 // Puts what a note tells of a kind, or nothing.
-fn put_told_of_kind(alloc: Global, text: &mut Vec<u8>, note: Note<'_>) -> Result<(), AllocError>
-    ensures { OnOk result (text.new.items ≡ text.old.items ++ told_of_kind (noted note.entry)) }
+fn put_told_of_kind(text: &mut Page, note: Note<'_>) -> Result<(), AllocError>
+    ensures { OnOk result (text.new ≡ text.old ++ texts.told_of_kind (noted note.entry)) }
 {
     match note {
-        Note::UnknownKind { kind, .. } => put_unknown(alloc, text, kind),
-        Note::BlankBefore { kind, .. } => put_kind(alloc, text, "blank before ", kind),
+        Note::UnknownKind { kind, .. } => put_unknown(text, kind),
+        Note::BlankBefore { kind, .. } => put_kind(text, "blank before ", kind),
         _ => Ok(()),
     }
 }
 
 // Puts what is told of an unknown kind.
-fn put_unknown(alloc: Global, text: &mut Vec<u8>, kind: &[u8]) -> Result<(), AllocError>
-    ensures { OnOk result (text.new.items ≡ text.old.items ++ unknown_text kind.now) }
+fn put_unknown(text: &mut Page, kind: &[u8]) -> Result<(), AllocError>
+    ensures { OnOk result (text.new ≡ text.old ++ texts.unknown_text kind.now) }
 {
     match other_kind(kind) {
-        Some((name, said)) => {
-            text.extend_from_slice(name.as_bytes())?;
-            text.extend_from_slice(b" ")?;
-            text.extend_from_slice(said.as_bytes())
-        }
-        None => put_kind(alloc, text, "unknown kind ", kind),
+        Some((name, said)) => { write!(text, "{name} {said}") }
+        None => put_kind(text, "unknown kind ", kind),
     }
 }
 
@@ -220,7 +206,7 @@ const OTHER_KINDS: [(&str, &str); 11] = [
 // A kind among these, in either case: its name, and what a line of it says.
 fn other_kind(kind: &[u8]) -> Option<(&'static str, &'static str)>
     ensures { option_map (λ other. (other.0.now, other.1.now)) result
-        ≡ find (λ other. is_word kind.now other.0) other_kinds }
+        ≡ find (λ other. is_word kind.now other.0) texts.other_kinds }
 {
     OTHER_KINDS
         .iter()
@@ -229,9 +215,9 @@ fn other_kind(kind: &[u8]) -> Option<(&'static str, &'static str)>
 }
 
 // Puts a text, and behind it a kind without its control characters.
-fn put_kind(alloc: Global, text: &mut Vec<u8>, front: &str, kind: &[u8]) -> Result<(), AllocError>
-    ensures { OnOk result (text.new.items ≡ text.old.items ++ kind_text front.now kind.now) }
+fn put_kind(text: &mut Page, front: &str, kind: &[u8]) -> Result<(), AllocError>
+    ensures { OnOk result (text.new ≡ text.old ++ texts.kind_text front.now kind.now) }
 {
-    text.extend_from_slice(front.as_bytes())?;
-    put_without_controls(alloc, text, kind)
+    text.push_str(front)?;
+    put_without_controls(text, kind)
 }

@@ -9,6 +9,7 @@ ghost use Rattle.replies.specs.Replies.{answer_of};
 use crate::question::QuestionFault;
 use crate::reply::{Reply, Status};
 use crate::{refusal_texts, texts};
+use common_texts::{Page, put_undecided};
 use dutch_player::FieldFault;
 use requests::WordFault;
 use std::alloc::{AllocError, Global};
@@ -21,7 +22,11 @@ pub fn refused(alloc: Global, fault: Fault) -> Result<Reply, AllocError>
 {
     match fault {
         Fault::OutOfMemory => Err(AllocError),
-        _ => Ok(Reply::made(Status::Refused, refusal_texts::refused(alloc, fault)?)),
+        _ => {
+            let mut text = Page::new(alloc);
+            refusal_texts::put_fault(&mut text, fault)?;
+            Ok(Reply::made(Status::Refused, text))
+        }
     }
 }
 
@@ -29,7 +34,8 @@ pub fn refused(alloc: Global, fault: Fault) -> Result<Reply, AllocError>
 pub fn cannot_be_renumbered(alloc: Global, line: usize) -> Result<Reply, AllocError>
     ensures { IfOk result (λ reply. answer_of reply ≡ unread_refusal line) }
 {
-    let text = refusal_texts::of_line(alloc, line, ": unsupported\n")?;
+    let mut text = Page::new(alloc);
+    refusal_texts::put_line(&mut text, line, ": unsupported\n")?;
     Ok(Reply::made(Status::Refused, text))
 }
 
@@ -39,10 +45,11 @@ pub fn cannot_be_paired(alloc: Global, fault: FieldFault) -> Result<Reply, Alloc
 {
     match fault {
         FieldFault::OutOfMemory => Err(AllocError),
-        _ => Ok(Reply::made(
-            Status::Refused,
-            refusal_texts::cannot_be_paired(alloc, fault)?,
-        )),
+        _ => {
+            let mut text = Page::new(alloc);
+            refusal_texts::put_field_fault(&mut text, fault)?;
+            Ok(Reply::made(Status::Refused, text))
+        }
     }
 }
 
@@ -52,10 +59,11 @@ pub fn has_no_standings(alloc: Global, fault: TieFault) -> Result<Reply, AllocEr
 {
     match fault {
         TieFault::OutOfMemory => Err(AllocError),
-        _ => Ok(Reply::made(
-            Status::Refused,
-            refusal_texts::has_no_standings(alloc, fault)?,
-        )),
+        _ => {
+            let mut text = Page::new(alloc);
+            refusal_texts::put_tie_fault(&mut text, fault)?;
+            Ok(Reply::made(Status::Refused, text))
+        }
     }
 }
 
@@ -63,21 +71,27 @@ pub fn has_no_standings(alloc: Global, fault: TieFault) -> Result<Reply, AllocEr
 pub fn cannot_be_asked(alloc: Global, fault: QuestionFault) -> Result<Reply, AllocError>
     ensures { IfOk result (λ reply. answer_of reply ≡ question_refusal fault) }
 {
-    Ok(Reply::made(Status::BadWords, texts::bad_question(alloc, fault)?))
+    let mut text = Page::new(alloc);
+    texts::put_bad_question(&mut text, fault)?;
+    Ok(Reply::made(Status::BadWords, text))
 }
 
 /// What is wrong with words that clap lets pass.
 pub fn words_refused(alloc: Global, fault: WordFault) -> Result<Reply, AllocError>
     ensures { IfOk result (λ reply. answer_of reply ≡ words_refusal fault) }
 {
-    Ok(Reply::made(Status::BadWords, texts::bad_words(alloc, fault)?))
+    let mut text = Page::new(alloc);
+    texts::put_bad_words(&mut text, fault)?;
+    Ok(Reply::made(Status::BadWords, text))
 }
 
 /// The report does not reach a round.
 pub fn round_not_reached(alloc: Global, round: u8) -> Result<Reply, AllocError>
     ensures { IfOk result (λ reply. answer_of reply ≡ round_not_reached round) }
 {
-    Ok(Reply::made(Status::BadWords, texts::round_not_reached(alloc, round)?))
+    let mut text = Page::new(alloc);
+    texts::put_round_not_reached(&mut text, round)?;
+    Ok(Reply::made(Status::BadWords, text))
 }
 
 /// No pairing meets the absolute criteria.
@@ -91,8 +105,7 @@ pub fn no_pairing() -> Reply
 pub fn undecided(alloc: Global, number: u16, used: u64) -> Result<Reply, AllocError>
     ensures { IfOk result (λ reply. answer_of reply ≡ undecided number used) }
 {
-    Ok(Reply::made(
-        Status::Undecided,
-        common_texts::undecided(alloc, number, used)?,
-    ))
+    let mut text = Page::new(alloc);
+    put_undecided(&mut text, number, used)?;
+    Ok(Reply::made(Status::Undecided, text))
 }

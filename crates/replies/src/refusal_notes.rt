@@ -1,22 +1,20 @@
 // The lines of `check --notes` beside a refusal: what was found.
-ghost use Rattle.std.specs.Prelude.{◌≡◌, ◌≢◌, ◌≤◌, ◌++◌, [], IfOk, Err, Ok, codes, string_bytes};
+ghost use Rattle.std.specs.Prelude.{◌≡◌, ◌≢◌, ◌≤◌, ◌++◌, [], codes, IfOk, Ok, OnOk};
 ghost use Rattle.std.specs.Option.{option_map_or};
 ghost use Rattle.trf16_report.specs.Prelude.{verdict_unsummed};
 ghost use Rattle.report_notes.specs.RefusalNotes.{are_lines_read, fits_in_bytes};
-ghost use Rattle.replies.specs.RefusalNoteTexts.{columns_text, held_text, line_in_bytes, line_note};
-ghost use Rattle.replies.specs.RefusalNoteTexts.{found, kind_or, order_text, points_note, refusal_note, sums_text};
-ghost use Rattle.replies.specs.RefusalNoteTexts.{unfinished_text, unmarked_note, with_note, zero_text};
+ghost use Rattle.replies.specs.RefusalNoteTexts as texts;
+ghost use Rattle.replies.specs.RefusalTexts.{fault_text};
 ghost use Rattle.replies.specs.Replies.{answer_of};
 ghost use Rattle.replies.specs.Statuses.{refusal};
-ghost use Rattle.replies.specs.RefusalTexts.{fault_text};
 
-use crate::cells_note::cells_note;
-use crate::extension_note::extension_note;
+use crate::cells_note::put_cells_note;
+use crate::extension_note::put_extension_note;
 use crate::notes::put_note;
-use crate::refusal_texts;
-use crate::repeated_note::repeated_note;
+use crate::refusal_texts::put_fault;
+use crate::repeated_note::put_repeated_note;
 use crate::reply::{Reply, Status, Text};
-use common_texts::{HalfPoints, put_without_controls};
+use common_texts::{HalfPoints, Page, put_without_controls};
 use report_notes::{
     ByteOrder, Columns, Sums, are_lines_read, byte_order, columns_of, first_kind_note,
     has_characters, held, line_in, line_of, sums_of, zero_byte,
@@ -33,48 +31,58 @@ pub fn refused_with_note(
 ) -> Result<Reply, AllocError>
     requires known { fault ≢ Fault.OutOfMemory }
     requires worth { bye ≤ 2 }
-    ensures { IfOk result (λ reply. answer_of reply ≡ with_note (refusal fault) (refusal_note fault bytes.now bye)) }
+    ensures { IfOk result (λ reply. answer_of reply
+        ≡ texts.with_note (refusal fault) (texts.refusal_note fault bytes.now bye)) }
 {
-    let text = refusal_texts::refused(alloc, fault)?;
-    let note = refusal_note(alloc, fault, bytes, bye)?;
+    let (mut text, mut note) = (Page::new(alloc), Page::new(alloc));
+    put_fault(&mut text, fault)?;
+    put_refusal_note(&mut note, fault, bytes, bye)?;
     Ok(Reply {
         status: Status::Refused,
         text: Text::Noted(text, note),
     })
 }
 
-// What was found: some lines, or nothing.
-fn refusal_note(alloc: Global, fault: Fault, bytes: &[u8], bye: u16) -> Result<Vec<u8>, AllocError>
+// Puts what was found: some lines, or nothing.
+fn put_refusal_note(text: &mut Page, fault: Fault, bytes: &[u8], bye: u16) -> Result<(), AllocError>
     requires { bye ≤ 2 }
-    ensures { IfOk result (λ note. note.items ≡ refusal_note fault bytes.now bye) }
+    ensures { OnOk result (text.new ≡ text.old ++ texts.refusal_note fault bytes.now bye) }
 {
     match byte_order(bytes) {
-        Some(order) => Vec::from_slice(alloc, order_text(order).as_bytes()),
-        None => unmarked_note(alloc, fault, bytes, bye),
+        Some(order) => text.push_str(order_text(order)),
+        None => put_unmarked_note(text, fault, bytes, bye),
     }
 }
 
-// What was found in a text without the mark of UTF-16.
-fn unmarked_note(alloc: Global, fault: Fault, bytes: &[u8], bye: u16) -> Result<Vec<u8>, AllocError>
+// Puts what was found in a text without the mark of UTF-16.
+fn put_unmarked_note(
+    text: &mut Page,
+    fault: Fault,
+    bytes: &[u8],
+    bye: u16,
+) -> Result<(), AllocError>
     requires { bye ≤ 2 }
-    ensures { IfOk result (λ note. note.items ≡ unmarked_note fault bytes.now bye) }
+    ensures { OnOk result (text.new ≡ text.old ++ texts.unmarked_note fault bytes.now bye) }
 {
     match zero_byte(bytes) {
-        Some(place) => Ok(zero_text(alloc, place)?.into_bytes()),
-        None => found(alloc, fault, bytes, bye),
+        Some(place) => put_zero(text, place),
+        None => put_found(text, fault, bytes, bye),
     }
 }
 
 #[tactic(auto, unfolding(crate::specs::RefusalNoteTexts::zero_text))]
-fn zero_text(alloc: Global, place: usize) -> Result<String, AllocError>
-    ensures { IfOk result (λ text. string_bytes text ≡ zero_text place) }
+fn put_zero(text: &mut Page, place: usize) -> Result<(), AllocError>
+    ensures { OnOk result (text.new ≡ text.old ++ texts.zero_text place) }
 {
-    format!(in alloc; "note byte {place} is 00: if this is UTF-16, save it as UTF-8\n")
+    write!(
+        text,
+        "note byte {place} is 00: if this is UTF-16, save it as UTF-8\n"
+    )
 }
 
 // The text is UTF-16.
 fn order_text(order: ByteOrder) -> &'static str
-    ensures { result.now ≡ order_text order }
+    ensures { result.now ≡ texts.order_text order }
 {
     match order {
         ByteOrder::Little => "note bytes 1 and 2 are FF FE: this is UTF-16, save it as UTF-8\n",
@@ -82,67 +90,77 @@ fn order_text(order: ByteOrder) -> &'static str
     }
 }
 
-// What was found in a text that is not UTF-16.
-fn found(alloc: Global, fault: Fault, bytes: &[u8], bye: u16) -> Result<Vec<u8>, AllocError>
+// Puts what was found in a text that is not UTF-16.
+fn put_found(text: &mut Page, fault: Fault, bytes: &[u8], bye: u16) -> Result<(), AllocError>
     requires { bye ≤ 2 }
-    ensures { IfOk result (λ note. note.items ≡ found fault bytes.now bye) }
+    ensures { OnOk result (text.new ≡ text.old ++ texts.found fault bytes.now bye) }
 {
     match fault {
-        Fault::Points { player } => points_note(alloc, player, bytes, bye),
-        Fault::BadExtension { line } => extension_note(alloc, bytes, line),
-        Fault::Duplicate { line } => repeated_note(alloc, bytes, line),
+        Fault::Points { player } => put_points_note(text, player, bytes, bye),
+        Fault::BadExtension { line } => put_extension_note(text, bytes, line),
+        Fault::Duplicate { line } => put_repeated_note(text, bytes, line),
         Fault::Colours { player, round } | Fault::Results { player, round } => {
-            cells_note(alloc, bytes, player, round)
+            put_cells_note(text, bytes, player, round)
         }
-        Fault::NotMutual { player, round } => {
-            let cells = cells_note(alloc, bytes, player, round)?;
-            kind_or(alloc, bytes, cells)
-        }
+        Fault::NotMutual { player, round } => put_kind_or_cells(text, bytes, player, round),
         Fault::NoSuchOpponent { .. }
         | Fault::TooMany(Excess::Players | Excess::Rounds)
-        | Fault::NoPlayers => kind_or(alloc, bytes, Vec::new(alloc)),
-        _ => line_note(alloc, fault, bytes, bye),
+        | Fault::NoPlayers => put_kind(text, bytes),
+        _ => put_line_note(text, fault, bytes, bye),
     }
 }
 
-// The first line of a text that is not read for its kind, or else another note.
-fn kind_or(alloc: Global, bytes: &[u8], other: Vec<u8>) -> Result<Vec<u8>, AllocError>
-    ensures { IfOk result (λ note. note.items ≡ kind_or bytes.now other.items) }
+// Puts the first line of a text that is not read for its kind, if there is one.
+fn put_kind(text: &mut Page, bytes: &[u8]) -> Result<(), AllocError>
+    ensures { OnOk result (text.new ≡ text.old ++ texts.kind_or bytes.now []) }
 {
-    let Some(note) = first_kind_note(bytes) else {
-        return Ok(other);
-    };
-    let mut text = Vec::new(alloc);
-    put_note(alloc, &mut text, note)?;
-    Ok(text)
+    match first_kind_note(bytes) {
+        Some(note) => put_note(text, note),
+        None => Ok(()),
+    }
 }
 
-// What was found where a player's points are refused.
-fn points_note(alloc: Global, player: u16, bytes: &[u8], bye: u16) -> Result<Vec<u8>, AllocError>
+// Puts the same, or else what a player's line and that of the opponent hold of a round.
+fn put_kind_or_cells(
+    text: &mut Page,
+    bytes: &[u8],
+    player: u16,
+    round: usize,
+) -> Result<(), AllocError>
+    ensures { OnOk result (text.new
+        ≡ text.old ++ texts.kind_or bytes.now (texts.cells_note bytes.now player round)) }
+{
+    match first_kind_note(bytes) {
+        Some(note) => put_note(text, note),
+        None => put_cells_note(text, bytes, player, round),
+    }
+}
+
+// Puts what was found where a player's points are refused.
+fn put_points_note(text: &mut Page, player: u16, bytes: &[u8], bye: u16) -> Result<(), AllocError>
     requires { bye ≤ 2 }
-    ensures { IfOk result (λ note. note.items ≡ points_note player (verdict_unsummed bytes.now bye)) }
+    ensures { OnOk result (text.new
+        ≡ text.old ++ texts.points_note player (verdict_unsummed bytes.now bye)) }
 {
-    match trf16_reader::read_unsummed(alloc, bytes, bye) {
-        Ok(report) => sums_note(alloc, &report, player),
+    match trf16_reader::read_unsummed(text.allocator(), bytes, bye) {
+        Ok(report) => put_sums_note(text, &report, player),
         Err(Fault::OutOfMemory) => Err(AllocError),
-        Err(fault) => next_refusal(alloc, fault),
+        Err(fault) => put_next_refusal(text, fault),
     }
 }
 
-// The points field of a player, the sums that it was compared with, and the first game without a result.
-fn sums_note(alloc: Global, report: &Report<'_>, player: u16) -> Result<Vec<u8>, AllocError>
-    ensures { IfOk result (λ note. note.items ≡ points_note player (Ok report.now)) }
+// Puts the points field of a player, the sums that it was compared with, and the first game without a result.
+fn put_sums_note(text: &mut Page, report: &Report<'_>, player: u16) -> Result<(), AllocError>
+    ensures { OnOk result (text.new ≡ text.old ++ texts.points_note player (Ok report.now)) }
 {
-    let mut note = sums_or_nothing(alloc, sums_of(report, player))?;
-    let unfinished = unfinished_text(alloc, report.unfinished())?;
-    note.extend_from_slice(unfinished.as_bytes())?;
-    Ok(note)
+    put_sums(text, sums_of(report, player))?;
+    put_unfinished(text, report.unfinished())
 }
 
-// The sums that a points field was compared with, or nothing.
+// Puts the sums that a points field was compared with, or nothing.
 #[tactic(auto, unfolding(crate::specs::RefusalNoteTexts::sums_text))]
-fn sums_or_nothing(alloc: Global, sums: Option<Sums>) -> Result<Vec<u8>, AllocError>
-    ensures { IfOk result (λ note. note.items ≡ option_map_or sums_text sums []) }
+fn put_sums(text: &mut Page, sums: Option<Sums>) -> Result<(), AllocError>
+    ensures { OnOk result (text.new ≡ text.old ++ option_map_or texts.sums_text sums []) }
 {
     match sums {
         Some(sums) => {
@@ -150,49 +168,45 @@ fn sums_or_nothing(alloc: Global, sums: Option<Sums>) -> Result<Vec<u8>, AllocEr
             let field = HalfPoints(u32::from(sums.field));
             let paired = HalfPoints(u32::from(sums.paired));
             let all = HalfPoints(u32::from(sums.all));
-            let text = format!(in alloc;
+            write!(
+                text,
                 "note player {player}: points field {field}, rounds paired {paired}, all rounds {all}\n"
-            )?;
-            Ok(text.into_bytes())
+            )
         }
-        None => Ok(Vec::new(alloc)),
+        None => Ok(()),
     }
 }
 
-// The first game without a result, if there is one.
+// Puts the first game without a result, if there is one.
 #[tactic(auto, unfolding(crate::specs::RefusalNoteTexts::unfinished_text))]
-fn unfinished_text(alloc: Global, game: Option<(u16, usize)>) -> Result<String, AllocError>
-    ensures { IfOk result (λ text. string_bytes text ≡ unfinished_text game) }
+fn put_unfinished(text: &mut Page, game: Option<(u16, usize)>) -> Result<(), AllocError>
+    ensures { OnOk result (text.new ≡ text.old ++ texts.unfinished_text game) }
 {
     match game {
         Some((player, round)) => {
-            format!(in alloc; "note player {player} round {round} has no result\n")
+            write!(text, "note player {player} round {round} has no result\n")
         }
-        None => Ok(String::new(alloc)),
+        None => Ok(()),
     }
 }
 
-// Why a report would be refused next.
-fn next_refusal(alloc: Global, fault: Fault) -> Result<Vec<u8>, AllocError>
-    ensures { IfOk result (λ note. note.items ≡ codes "note then " ++ fault_text fault) }
+// Puts why a report would be refused next.
+fn put_next_refusal(text: &mut Page, fault: Fault) -> Result<(), AllocError>
+    ensures { OnOk result (text.new ≡ text.old ++ (codes "note then " ++ fault_text fault)) }
 {
-    let refusal = refusal_texts::refused(alloc, fault)?;
-    let refusal = refusal.as_str();
-    Ok(format!(in alloc; "note then {refusal}")?.into_bytes())
+    text.push_str("note then ")?;
+    put_fault(text, fault)
 }
 
-// What was found where a line is refused.
+// Puts what was found where a line is refused.
 #[tactic(auto, unfolding(crate::specs::RefusalNoteTexts::bytes_text))]
-fn line_note(alloc: Global, fault: Fault, bytes: &[u8], bye: u16) -> Result<Vec<u8>, AllocError>
+fn put_line_note(text: &mut Page, fault: Fault, bytes: &[u8], bye: u16) -> Result<(), AllocError>
     requires { bye ≤ 2 }
-    ensures { IfOk result (λ note. note.items ≡ line_note fault bytes.now bye) }
+    ensures { OnOk result (text.new ≡ text.old ++ texts.line_note fault bytes.now bye) }
 {
-    match line_in_bytes(alloc, fault, bytes, bye)? {
-        Some(line) => {
-            let text = format!(in alloc; "note line {line}: fits if columns are bytes\n")?;
-            Ok(text.into_bytes())
-        }
-        None => held_text(alloc, columns_of(fault, bytes), bytes),
+    match line_in_bytes(text.allocator(), fault, bytes, bye)? {
+        Some(line) => write!(text, "note line {line}: fits if columns are bytes\n"),
+        None => put_held(text, columns_of(fault, bytes), bytes),
     }
 }
 
@@ -204,7 +218,7 @@ fn line_in_bytes(
     bye: u16,
 ) -> Result<Option<usize>, AllocError>
     requires { bye ≤ 2 }
-    ensures { IfOk result (λ line. line ≡ line_in_bytes fault bytes.now bye) }
+    ensures { IfOk result (λ line. line ≡ texts.line_in_bytes fault bytes.now bye) }
 {
     let Some(line) = line_of(fault) else {
         return Ok(None);
@@ -240,23 +254,22 @@ fn is_read(alloc: Global, bytes: &[u8], bye: u16) -> Result<bool, AllocError>
     }
 }
 
-// What the columns hold that a refusal is about, or nothing.
-fn held_text(alloc: Global, place: Option<Columns>, bytes: &[u8]) -> Result<Vec<u8>, AllocError>
-    ensures { IfOk result (λ note. note.items ≡ held_text place bytes.now) }
+// Puts what the columns hold that a refusal is about, or nothing.
+fn put_held(text: &mut Page, place: Option<Columns>, bytes: &[u8]) -> Result<(), AllocError>
+    ensures { OnOk result (text.new ≡ text.old ++ texts.held_text place bytes.now) }
 {
     let Some(place) = place else {
-        return Ok(Vec::new(alloc));
+        return Ok(());
     };
-    let mut text = columns_text(alloc, place)?.into_bytes();
-    put_without_controls(alloc, &mut text, held(bytes, place))?;
-    text.extend_from_slice(b"\"\n")?;
-    Ok(text)
+    put_columns(text, place)?;
+    put_without_controls(text, held(bytes, place))?;
+    text.push_str("\"\n")
 }
 
 #[tactic(auto, unfolding(crate::specs::RefusalNoteTexts::columns_text))]
-fn columns_text(alloc: Global, place: Columns) -> Result<String, AllocError>
-    ensures { IfOk result (λ text. string_bytes text ≡ columns_text place) }
+fn put_columns(text: &mut Page, place: Columns) -> Result<(), AllocError>
+    ensures { OnOk result (text.new ≡ text.old ++ texts.columns_text place) }
 {
     let Columns { line, first, last } = place;
-    format!(in alloc; "note line {line}: columns {first} to {last} hold \"")
+    write!(text, "note line {line}: columns {first} to {last} hold \"")
 }

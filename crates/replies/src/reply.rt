@@ -1,12 +1,13 @@
 // The reply of a run: a status and a text, which is written to standard output or to standard error; beside a refusal
 // perhaps a note.
-ghost use Rattle.std.specs.Prelude.{◌≡◌, ◌⊎◌, IfOk, string_bytes};
+ghost use Rattle.std.specs.Prelude.{◌≡◌, ◌⊎◌, IfOk};
 ghost use Rattle.trf16_report.specs.Prelude.{use_of};
 ghost use Rattle.replies.specs.Statuses.{behind, code_of, is_output, plain};
 ghost use Rattle.replies.specs.Replies.{answer_of, note_of, text_of};
 ghost use Rattle.replies.specs.WrittenAnswers.{HasTextOrPart, IsCut, IsPrinted, IsToldWith, IsWritten};
 
-use std::alloc::{AllocError, Global};
+use common_texts::Page;
+use std::alloc::AllocError;
 use trf16_report::{Sink, put_all};
 
 // What standard error tells where standard output failed.
@@ -59,14 +60,12 @@ impl Status {
     }
 }
 
-/// A text of the program: one that it has, one that it made, the bytes of a report, or a refusal with a note of what
-/// was found.
+/// A text of the program: one that it has, one that it made, or a refusal with a note of what was found.
 #[derive(Drop)]
 pub enum Text {
     Fixed(&'static str),
-    Made(String),
-    Bytes(Vec<u8>),
-    Noted(String, Vec<u8>),
+    Made(Page),
+    Noted(Page, Page),
 }
 
 impl Text {
@@ -75,9 +74,7 @@ impl Text {
     {
         match self {
             Text::Fixed(text) => text.as_bytes(),
-            Text::Made(text) => text.as_bytes(),
-            Text::Bytes(text) => text.as_slice(),
-            Text::Noted(text, _) => text.as_bytes(),
+            Text::Made(text) | Text::Noted(text, _) => text.as_bytes(),
         }
     }
 
@@ -86,8 +83,8 @@ impl Text {
         ensures { result.now ≡ note_of self.now }
     {
         match self {
-            Text::Fixed(_) | Text::Made(_) | Text::Bytes(_) => &[],
-            Text::Noted(_, note) => note.as_slice(),
+            Text::Fixed(_) | Text::Made(_) => &[],
+            Text::Noted(_, note) => note.as_bytes(),
         }
     }
 }
@@ -101,8 +98,8 @@ pub struct Reply {
 
 impl Reply {
     /// A status, and a text that was made for it.
-    pub fn made(status: Status, text: String) -> Reply
-        ensures { answer_of result ≡ plain status (string_bytes text) }
+    pub fn made(status: Status, text: Page) -> Reply
+        ensures { answer_of result ≡ plain status text }
     {
         Reply {
             status,
@@ -120,26 +117,16 @@ impl Reply {
         }
     }
 
-    /// A status, and a text as bytes.
-    pub fn bytes(status: Status, text: Vec<u8>) -> Reply
-        ensures { answer_of result ≡ plain status text.items }
-    {
-        Reply {
-            status,
-            text: Text::Bytes(text),
-        }
-    }
-
     /// The status, and the text behind another one.
     ///
     /// # Errors
     /// Memory was refused.
-    pub fn behind(&self, text: Vec<u8>) -> Result<Reply, AllocError>
-        ensures { IfOk result (λ reply. answer_of reply ≡ behind text.items (answer_of self.now)) }
+    pub fn behind(&self, text: Page) -> Result<Reply, AllocError>
+        ensures { IfOk result (λ reply. answer_of reply ≡ behind text (answer_of self.now)) }
     {
-        let mut bytes = text;
-        bytes.extend_from_slice(self.text.as_bytes())?;
-        Ok(Reply::bytes(self.status, bytes))
+        let mut both = text;
+        both.push_bytes(self.text.as_bytes())?;
+        Ok(Reply::made(self.status, both))
     }
 
     // Writes the text to standard error, which may fail, and then the note to standard output, if there is one.

@@ -7,6 +7,7 @@ ghost use Rattle.replies.specs.Views.{seen_before};
 
 use crate::reply::{Reply, Status};
 use crate::views::{not_seen, read_before};
+use common_texts::Page;
 use requests::SheetOptions;
 use sheets::document;
 use std::alloc::{AllocError, Global};
@@ -38,5 +39,5 @@ fn of_report(
     ensures { IfOk result (λ reply. answer_of reply ≡ sheet_answer options.now (Ok report.now)) }
 {
     let text = document(alloc, report, options.keys.as_slice())?;
-    Ok(Reply::bytes(Status::Done, text))
+    Ok(Reply::made(Status::Done, Page::from_bytes(text)))
 }

@@ -1,5 +1,5 @@
 // The command `standings`: the players by score and by the keys that break ties.
-ghost use Rattle.std.specs.Prelude.{◌≡◌, ◌++◌, ◌≤◌, ◌<◌, IfOk, Ok, OnOk, codes, string_bytes};
+ghost use Rattle.std.specs.Prelude.{◌≡◌, ◌++◌, ◌≤◌, ◌<◌, IfOk, Ok, OnOk, codes};
 ghost use Rattle.trf16_report.specs.Prelude.{verdict};
 ghost use Rattle.replies.specs.Replies.{answer_of};
 ghost use Rattle.replies.specs.StandingsAnswers.{rounds_shown, standings_answer, table_answer};
@@ -12,7 +12,7 @@ use crate::refusal::has_no_standings;
 use crate::reply::{Reply, Status};
 use crate::views::{not_seen, read_before};
 use crate::wall;
-use common_texts::{HalfPoints, KeyValue};
+use common_texts::{HalfPoints, KeyValue, Page};
 use requests::StandingsOptions;
 use std::alloc::{AllocError, Global};
 use tables::{Key, Row, TieFault};
@@ -62,33 +62,34 @@ fn of_rows(
     if options.names {
         return wall::standings(alloc, options, report, rows);
     }
-    Ok(Reply::made(Status::Done, row_lines(alloc, options, report, rows)?))
+    let mut text = Page::new(alloc);
+    put_rows(&mut text, options, report, rows)?;
+    Ok(Reply::made(Status::Done, text))
 }
 
-// The lines of all players without names.
-fn row_lines(
-    alloc: Global,
+// Puts the lines of all players without names.
+fn put_rows(
+    text: &mut Page,
     options: &StandingsOptions,
     report: &Report<'_>,
     rows: &[Row],
-) -> Result<String, AllocError>
-    ensures { IfOk result (λ text. string_bytes text
-        ≡ rows_text report.now options.now.keys (rounds_shown options.now report.now) 1 rows.now) }
+) -> Result<(), AllocError>
+    ensures { OnOk result (text.new ≡ text.old
+        ++ rows_text report.now options.now.keys (rounds_shown options.now report.now) 1 rows.now) }
 {
     let (keys, rounds) = (options.keys.as_slice(), rounds_shown(options, report));
-    let mut text = String::new(alloc);
     for (i, row) in rows.iter().enumerate() {
-        put_row(&mut text, keys, i + 1, row)?;
-        put_games(&mut text, report, row.start(), rounds)?;
+        put_row(text, keys, i + 1, row)?;
+        put_games(text, report, row.start(), rounds)?;
         text.push_str("\n")?;
     }
-    Ok(text)
+    Ok(())
 }
 
 // Puts a player: place, start rank, score and the values of the keys.
 #[tactic(auto, unfolding(crate::specs::StandingsTexts::row_text))]
-fn put_row(text: &mut String, keys: &[Key], place: usize, row: &Row) -> Result<(), AllocError>
-    ensures { OnOk result (string_bytes text.new ≡ string_bytes text.old ++ row_text keys.now place row.now) }
+fn put_row(text: &mut Page, keys: &[Key], place: usize, row: &Row) -> Result<(), AllocError>
+    ensures { OnOk result (text.new ≡ text.old ++ row_text keys.now place row.now) }
 {
     let (start, score) = (row.start(), HalfPoints(u32::from(row.score())));
     write!(text, "{place} {start} {score}")?;
@@ -96,18 +97,17 @@ fn put_row(text: &mut String, keys: &[Key], place: usize, row: &Row) -> Result<(
 }
 
 // Puts the value of a key behind a blank.
-fn put_value(text: &mut String, key: Key, value: Option<u32>) -> Result<(), AllocError>
-    ensures { OnOk result (string_bytes text.new ≡ string_bytes text.old ++ (codes " " ++ value_text key value)) }
+fn put_value(text: &mut Page, key: Key, value: Option<u32>) -> Result<(), AllocError>
+    ensures { OnOk result (text.new ≡ text.old ++ (codes " " ++ value_text key value)) }
 {
     let shown = KeyValue { key, value };
-    write!(text, " {shown}")?;
-    Ok(())
+    write!(text, " {shown}")
 }
 
 // Puts the values of some keys, in their order.
 #[tactic(auto, using(crate::proofs::TableLemmas::values_end))]
-fn put_values(text: &mut String, keys: &[Key], values: &[Option<u32>]) -> Result<(), AllocError>
-    ensures { OnOk result (string_bytes text.new ≡ string_bytes text.old ++ values_text keys.now values.now) }
+fn put_values(text: &mut Page, keys: &[Key], values: &[Option<u32>]) -> Result<(), AllocError>
+    ensures { OnOk result (text.new ≡ text.old ++ values_text keys.now values.now) }
 {
     for (i, key) in keys.iter().enumerate() {
         if values.len() <= i {

@@ -1,12 +1,12 @@
 // Tables: lines of labels that stand in columns, each of them as wide as the widest of its labels.
-ghost use Rattle.std.specs.Prelude.{◌≡◌, ◌++◌, ◌∷◌, [], IfOk, OnOk, string_bytes};
-ghost use Rattle.replies.specs.Tables.{gap, labels_text, left, padded, right, table_text, widest};
-ghost use Rattle.replies.specs.Tables.{width, width_in, widths};
+ghost use Rattle.std.specs.Prelude.{◌≡◌, ◌++◌, ◌∷◌, [], IfOk, IfSome, OnOk};
+ghost use Rattle.replies.specs.Tables as tables;
 ghost use Rattle.common_texts.specs.Texts.{shown};
 ghost use Rattle.trf16_report.specs.Prelude.{blanks};
 
-use common_texts::shown;
+use common_texts::{Page, shown};
 use std::alloc::{AllocError, Global};
+use std::fmt::Display;
 use std::marker::Model;
 use trf16_report::column_count;
 
@@ -21,7 +21,7 @@ pub enum Alignment {
 #[derive(Drop)]
 pub struct Label {
     side: Alignment,
-    text: Vec<u8>,
+    text: Page,
 }
 
 impl Model for Label {
@@ -29,30 +29,30 @@ impl Model for Label {
 
     ghost Value = { LabelFacts };
 
-    ghost view = { λ l. record { side = l.side; text = l.text.items } };
+    ghost view = { λ l. record { side = l.side; text = l.text } };
 }
 
 impl Label {
     // How wide the label is.
     fn width(&self, utf8: bool) -> usize
-        ensures { result ≡ width utf8 self.now.text }
+        ensures { result ≡ tables.width utf8 self.now.text }
     {
-        column_count(self.text.as_slice(), utf8)
+        column_count(self.text.as_bytes(), utf8)
     }
 
     // Puts the label, with blanks up to a width.
-    fn put(&self, text: &mut Vec<u8>, utf8: bool, wide: usize) -> Result<(), AllocError>
-        ensures { OnOk result (text.new.items ≡ text.old.items ++ padded utf8 wide self.now) }
+    fn put(&self, text: &mut Page, utf8: bool, wide: usize) -> Result<(), AllocError>
+        ensures { OnOk result (text.new ≡ text.old ++ tables.padded utf8 wide self.now) }
     {
         let missing = wide.saturating_sub(self.width(utf8));
         match self.side {
             Alignment::Left => {
-                text.extend_from_slice(self.text.as_slice())?;
+                text.push_bytes(self.text.as_bytes())?;
                 put_blanks(text, missing)
             }
             Alignment::Right => {
                 put_blanks(text, missing)?;
-                text.extend_from_slice(self.text.as_slice())
+                text.push_bytes(self.text.as_bytes())
             }
         }
     }
@@ -88,13 +88,15 @@ impl TableLine {
         *self.labels.allocator()
     }
 
-    /// Puts a text in the next column, at its right.
-    pub fn push_text(&mut self, text: String) -> Result<(), AllocError>
-        ensures { OnOk result (self.new ≡ self.old ++ right (string_bytes text) ∷ []) }
+    /// What `write!` calls: puts a text in the next column, at its right.
+    pub fn write_fmt<D: Display + Drop>(&mut self, value: D) -> Result<(), AllocError>
+        ensures { OnOk result (IfSome (D.output value) (λ text. self.new ≡ self.old ++ tables.right text ∷ [])) }
     {
+        let mut text = Page::new(self.allocator());
+        text.write_fmt(value)?;
         self.labels.push(Label {
             side: Alignment::Right,
-            text: text.into_bytes(),
+            text,
         })?;
         Ok(())
     }
@@ -102,9 +104,9 @@ impl TableLine {
     /// Puts a name in the next column, at its left: with a question mark in place of each control character, or as a
     /// dash where it is blank.
     pub fn push_name(&mut self, name: &[u8]) -> Result<(), AllocError>
-        ensures { OnOk result (self.new ≡ self.old ++ left (shown name.now) ∷ []) }
+        ensures { OnOk result (self.new ≡ self.old ++ tables.left (shown name.now) ∷ []) }
     {
-        let text = shown(self.allocator(), name)?;
+        let text = Page::from_bytes(shown(self.allocator(), name)?);
         self.labels.push(Label {
             side: Alignment::Left,
             text,
@@ -114,7 +116,7 @@ impl TableLine {
 
     // How wide the line is in a column, which counts from 0.
     fn width_in(&self, utf8: bool, column: usize) -> usize
-        ensures { result ≡ width_in utf8 column self.now }
+        ensures { result ≡ tables.width_in utf8 column self.now }
     {
         match self.labels.as_slice().get(column) {
             Some(label) => label.width(utf8),
@@ -123,18 +125,18 @@ impl TableLine {
     }
 }
 
-pub(crate) fn put_blanks(text: &mut Vec<u8>, count: usize) -> Result<(), AllocError>
-    ensures { OnOk result (text.new.items ≡ text.old.items ++ blanks count) }
+pub(crate) fn put_blanks(text: &mut Page, count: usize) -> Result<(), AllocError>
+    ensures { OnOk result (text.new ≡ text.old ++ blanks count) }
 {
     for _ in 0..count {
-        text.push(b' ')?;
+        text.push_str(" ")?;
     }
     Ok(())
 }
 
 // How wide a column is.
 fn widest(lines: &[TableLine], utf8: bool, column: usize) -> usize
-    ensures { result ≡ widest utf8 column lines.now }
+    ensures { result ≡ tables.widest utf8 column lines.now }
 {
     let mut most = 0usize;
     for line in lines {
@@ -150,7 +152,7 @@ fn widths(
     utf8: bool,
     count: usize,
 ) -> Result<Vec<usize>, AllocError>
-    ensures { IfOk result (λ all. all.items ≡ widths utf8 count lines.now) }
+    ensures { IfOk result (λ all. all.items ≡ tables.widths utf8 count lines.now) }
 {
     let mut all = Vec::new(alloc);
     for column in 0..count {
@@ -160,21 +162,20 @@ fn widths(
 }
 
 // Puts what parts a label from those behind it, or the end of the line.
-fn put_gap(text: &mut Vec<u8>, behind: &[Label]) -> Result<(), AllocError>
-    ensures { OnOk result (text.new.items ≡ text.old.items ++ gap behind.now) }
+fn put_gap(text: &mut Page, behind: &[Label]) -> Result<(), AllocError>
+    ensures { OnOk result (text.new ≡ text.old ++ tables.gap behind.now) }
 {
-    let part = if behind.is_empty() { "\n" } else { "  " };
-    text.extend_from_slice(part.as_bytes())
+    text.push_str(if behind.is_empty() { "\n" } else { "  " })
 }
 
 // Puts a line, each of its labels as wide as its column.
 fn put_line(
-    text: &mut Vec<u8>,
+    text: &mut Page,
     utf8: bool,
     widths: &[usize],
     line: &TableLine,
 ) -> Result<(), AllocError>
-    ensures { OnOk result (text.new.items ≡ text.old.items ++ labels_text utf8 widths.now 0 line.now) }
+    ensures { OnOk result (text.new ≡ text.old ++ tables.labels_text utf8 widths.now 0 line.now) }
 {
     let labels = line.labels.as_slice();
     for (i, label) in labels.iter().enumerate() {
@@ -185,19 +186,18 @@ fn put_line(
     Ok(())
 }
 
-/// The text of a table of `count` columns, whose columns are characters where `utf8` says so, else bytes.
-pub fn table(
-    alloc: Global,
+/// Puts a table of `count` columns, whose columns are characters where `utf8` says so, else bytes.
+pub fn put_table(
+    text: &mut Page,
     lines: &[TableLine],
     utf8: bool,
     count: usize,
-) -> Result<Vec<u8>, AllocError>
-    ensures { IfOk result (λ text. text.items ≡ table_text utf8 count lines.now) }
+) -> Result<(), AllocError>
+    ensures { OnOk result (text.new ≡ text.old ++ tables.table_text utf8 count lines.now) }
 {
-    let widths = widths(alloc, lines, utf8, count)?;
-    let mut text = Vec::new(alloc);
+    let widths = widths(text.allocator(), lines, utf8, count)?;
     for line in lines {
-        put_line(&mut text, utf8, widths.as_slice(), line)?;
+        put_line(text, utf8, widths.as_slice(), line)?;
     }
-    Ok(text)
+    Ok(())
 }

@@ -6,15 +6,12 @@ ghost use Rattle.replies.specs.Statuses.{done};
 ghost use Rattle.replies.specs.StandingsAnswers.{rounds_shown};
 ghost use Rattle.replies.specs.GameTexts.{games_labels};
 ghost use Rattle.replies.specs.Tables.{right, table_text};
-ghost use Rattle.replies.specs.WallTexts.{board_labels, boards_labels, marks_labels, named_boards_text};
-ghost use Rattle.replies.specs.WallTexts.{named_rows_text, opponent_labels, paired_labels, played_boards_text};
-ghost use Rattle.replies.specs.WallTexts.{played_labels, player_labels, result_labels, row_labels};
-ghost use Rattle.replies.specs.WallTexts.{rows_labels, values_labels};
+ghost use Rattle.replies.specs.WallTexts as texts;
 
 use crate::games::{push_games, rounds_shown};
 use crate::reply::{Reply, Status};
-use crate::table::{TableLine, table};
-use common_texts::{HalfPoints, KeyValue, result_mark};
+use crate::table::{TableLine, put_table};
+use common_texts::{HalfPoints, KeyValue, Page, result_mark};
 use requests::StandingsOptions;
 use std::alloc::{AllocError, Global};
 use tables::{Key, Row};
@@ -25,7 +22,7 @@ type Board = (u16, u16);
 
 /// The boards with names and scores: for each its number, white and black, and the bye last.
 pub fn boards(alloc: Global, report: &Report<'_>, boards: &[Board]) -> Result<Reply, AllocError>
-    ensures { IfOk result (λ reply. answer_of reply ≡ done (named_boards_text report.now boards.now)) }
+    ensures { IfOk result (λ reply. answer_of reply ≡ done (texts.named_boards_text report.now boards.now)) }
 {
     let lines = board_lines(alloc, report, boards)?;
     in_columns(alloc, report, lines.as_slice(), 7)
@@ -36,12 +33,12 @@ fn board_lines(
     report: &Report<'_>,
     boards: &[Board],
 ) -> Result<Vec<TableLine>, AllocError>
-    ensures { IfOk result (λ lines. lines.items ≡ boards_labels report.now 1 boards.now) }
+    ensures { IfOk result (λ lines. lines.items ≡ texts.boards_labels report.now 1 boards.now) }
 {
     let before = report.rounds_played();
     let mut lines = Vec::new(alloc);
     for (i, board) in boards.iter().enumerate() {
-        let line = numbered(alloc, i + 1)?;
+        let line = line_of_number(alloc, i + 1)?;
         lines.push(with_board(line, report, before, *board)?)?;
     }
     Ok(lines)
@@ -54,7 +51,7 @@ fn with_board(
     before: u8,
     board: Board,
 ) -> Result<TableLine, AllocError>
-    ensures { IfOk result (λ longer. longer ≡ line ++ board_labels report.now before board) }
+    ensures { IfOk result (λ longer. longer ≡ line ++ texts.board_labels report.now before board) }
 {
     let mut longer = line;
     push_board(&mut longer, report, before, board)?;
@@ -69,7 +66,7 @@ pub fn played_boards(
     boards: &[Board],
 ) -> Result<Reply, AllocError>
     requires { 0 < round }
-    ensures { IfOk result (λ reply. answer_of reply ≡ done (played_boards_text report.now round boards.now)) }
+    ensures { IfOk result (λ reply. answer_of reply ≡ done (texts.played_boards_text report.now round boards.now)) }
 {
     let lines = played_lines(alloc, report, round, boards)?;
     in_columns(alloc, report, lines.as_slice(), 8)
@@ -82,11 +79,11 @@ fn played_lines(
     boards: &[Board],
 ) -> Result<Vec<TableLine>, AllocError>
     requires { 0 < round }
-    ensures { IfOk result (λ lines. lines.items ≡ played_labels report.now round 1 boards.now) }
+    ensures { IfOk result (λ lines. lines.items ≡ texts.played_labels report.now round 1 boards.now) }
 {
     let mut lines = Vec::new(alloc);
     for (i, board) in boards.iter().enumerate() {
-        let line = numbered(alloc, i + 1)?;
+        let line = line_of_number(alloc, i + 1)?;
         lines.push(with_played(line, report, round, *board)?)?;
     }
     Ok(lines)
@@ -101,7 +98,7 @@ fn with_played(
 ) -> Result<TableLine, AllocError>
     requires { 0 < round }
     ensures { IfOk result (λ longer. longer
-        ≡ line ++ (board_labels report.now (round - 1) board ++ result_labels report.now round board)) }
+        ≡ line ++ (texts.board_labels report.now (round - 1) board ++ texts.result_labels report.now round board)) }
 {
     let mut longer = with_board(line, report, round - 1, board)?;
     push_result(&mut longer, report, round, board)?;
@@ -117,7 +114,7 @@ pub fn standings(
     rows: &[Row],
 ) -> Result<Reply, AllocError>
     ensures { IfOk result (λ reply. answer_of reply
-        ≡ done (named_rows_text report.now options.now.keys (rounds_shown options.now report.now) rows.now)) }
+        ≡ done (texts.named_rows_text report.now options.now.keys (rounds_shown options.now report.now) rows.now)) }
 {
     let lines = row_lines(alloc, options, report, rows)?;
     let columns = 4 + options.keys.as_slice().len() + usize::from(rounds_shown(options, report));
@@ -132,11 +129,11 @@ fn row_lines(
     rows: &[Row],
 ) -> Result<Vec<TableLine>, AllocError>
     ensures { IfOk result (λ lines. lines.items
-        ≡ rows_labels report.now options.now.keys (rounds_shown options.now report.now) 1 rows.now) }
+        ≡ texts.rows_labels report.now options.now.keys (rounds_shown options.now report.now) 1 rows.now) }
 {
     let mut lines = Vec::new(alloc);
     for (i, row) in rows.iter().enumerate() {
-        let line = numbered(alloc, i + 1)?;
+        let line = line_of_number(alloc, i + 1)?;
         lines.push(with_row(line, options, report, row)?)?;
     }
     Ok(lines)
@@ -149,7 +146,7 @@ fn with_row(
     report: &Report<'_>,
     row: &Row,
 ) -> Result<TableLine, AllocError>
-    ensures { IfOk result (λ longer. longer ≡ line ++ (row_labels report.now options.now.keys row.now
+    ensures { IfOk result (λ longer. longer ≡ line ++ (texts.row_labels report.now options.now.keys row.now
         ++ games_labels report.now row.now.start (rounds_shown options.now report.now))) }
 {
     let mut longer = line;
@@ -166,16 +163,17 @@ fn in_columns(
 ) -> Result<Reply, AllocError>
     ensures { IfOk result (λ reply. answer_of reply ≡ done (table_text report.now.utf8 columns lines.now)) }
 {
-    let text = table(alloc, lines, report.is_utf8(), columns)?;
-    Ok(Reply::bytes(Status::Done, text))
+    let mut text = Page::new(alloc);
+    put_table(&mut text, lines, report.is_utf8(), columns)?;
+    Ok(Reply::made(Status::Done, text))
 }
 
 // A line that begins with its number.
-fn numbered(alloc: Global, number: usize) -> Result<TableLine, AllocError>
+fn line_of_number(alloc: Global, number: usize) -> Result<TableLine, AllocError>
     ensures { IfOk result (λ line. line ≡ right (decimal number) ∷ []) }
 {
     let mut line = TableLine::new(alloc);
-    line.push_text(number.to_string(alloc)?)?;
+    write!(line, "{number}")?;
     Ok(line)
 }
 
@@ -187,7 +185,7 @@ fn push_board(
     before: u8,
     board: Board,
 ) -> Result<(), AllocError>
-    ensures { OnOk result (line.new ≡ line.old ++ board_labels report.now before board) }
+    ensures { OnOk result (line.new ≡ line.old ++ texts.board_labels report.now before board) }
 {
     let (white, black) = board;
     push_paired(line, report, before, white)?;
@@ -201,10 +199,10 @@ fn push_opponent(
     before: u8,
     black: u16,
 ) -> Result<(), AllocError>
-    ensures { OnOk result (line.new ≡ line.old ++ opponent_labels report.now before black) }
+    ensures { OnOk result (line.new ≡ line.old ++ texts.opponent_labels report.now before black) }
 {
     if black == 0 {
-        return line.push_text(String::from_str(line.allocator(), "bye")?);
+        return write!(line, "bye");
     }
     push_paired(line, report, before, black)
 }
@@ -216,7 +214,7 @@ fn push_paired(
     before: u8,
     start: u16,
 ) -> Result<(), AllocError>
-    ensures { OnOk result (line.new ≡ line.old ++ paired_labels report.now before start) }
+    ensures { OnOk result (line.new ≡ line.old ++ texts.paired_labels report.now before start) }
 {
     push_player(line, report, start, report.points(start, before))
 }
@@ -229,7 +227,7 @@ fn push_result(
     board: Board,
 ) -> Result<(), AllocError>
     requires { 0 < round }
-    ensures { OnOk result (line.new ≡ line.old ++ result_labels report.now round board) }
+    ensures { OnOk result (line.new ≡ line.old ++ texts.result_labels report.now round board) }
 {
     let white = result_mark(report.cell(board.0, round));
     let black = result_mark(report.cell(board.1, round));
@@ -238,12 +236,12 @@ fn push_result(
 
 // Puts the result by the marks of white and of black, if both have one.
 fn push_marks(line: &mut TableLine, white: &str, black: &str) -> Result<(), AllocError>
-    ensures { OnOk result (line.new ≡ line.old ++ marks_labels white.now black.now) }
+    ensures { OnOk result (line.new ≡ line.old ++ texts.marks_labels white.now black.now) }
 {
     if white.is_empty() || black.is_empty() {
         return Ok(());
     }
-    line.push_text(format!(in line.allocator(); "{white}-{black}")?)
+    write!(line, "{white}-{black}")
 }
 
 // Puts a player: start rank, name and score.
@@ -254,12 +252,12 @@ fn push_player(
     start: u16,
     score: u16,
 ) -> Result<(), AllocError>
-    ensures { OnOk result (line.new ≡ line.old ++ player_labels report.now start score) }
+    ensures { OnOk result (line.new ≡ line.old ++ texts.player_labels report.now start score) }
 {
-    let alloc = line.allocator();
-    line.push_text(start.to_string(alloc)?)?;
+    let points = HalfPoints(u32::from(score));
+    write!(line, "{start}")?;
     line.push_name(report.name(start))?;
-    line.push_text(HalfPoints(u32::from(score)).to_string(alloc)?)
+    write!(line, "{points}")
 }
 
 // Puts a player of the standings, the values of the keys, and the games if they are wanted.
@@ -270,7 +268,7 @@ fn push_row(
     report: &Report<'_>,
     row: &Row,
 ) -> Result<(), AllocError>
-    ensures { OnOk result (line.new ≡ line.old ++ (row_labels report.now options.now.keys row.now
+    ensures { OnOk result (line.new ≡ line.old ++ (texts.row_labels report.now options.now.keys row.now
         ++ games_labels report.now row.now.start (rounds_shown options.now report.now))) }
 {
     push_player(line, report, row.start(), row.score())?;
@@ -281,7 +279,7 @@ fn push_row(
 // Puts the values of some keys, in their order.
 #[tactic(auto, using(crate::proofs::TableLemmas::labels_end))]
 fn push_values(line: &mut TableLine, keys: &[Key], values: &[Option<u32>]) -> Result<(), AllocError>
-    ensures { OnOk result (line.new ≡ line.old ++ values_labels keys.now values.now) }
+    ensures { OnOk result (line.new ≡ line.old ++ texts.values_labels keys.now values.now) }
 {
     for (i, key) in keys.iter().enumerate() {
         if values.len() <= i {
@@ -291,7 +289,7 @@ fn push_values(line: &mut TableLine, keys: &[Key], values: &[Option<u32>]) -> Re
             key: *key,
             value: values[i],
         };
-        line.push_text(value.to_string(line.allocator())?)?;
+        write!(line, "{value}")?;
     }
     Ok(())
 }

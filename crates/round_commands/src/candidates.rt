@@ -8,6 +8,7 @@ ghost use Rattle.round_commands.specs.Known.{CanBeListed};
 ghost use Rattle.round_lines.specs.Listings.{ending_text};
 ghost use Rattle.replies.specs.Prelude.{answer_of, not_of_bracket, not_reached, seen_before};
 
+use common_texts::Page;
 use dutch_arrangements::{Budget, Cursor, FittingShape, Rule, Shape};
 use dutch_choice::finder::Finder;
 use dutch_listing::Candidates;
@@ -201,7 +202,7 @@ fn list_coming<'a, R: Rule>(
     };
     let listed = lines(alloc, coming, options.count, &mut budget)?;
     let first = bracket_texts::bracket(alloc, options.bracket, asked.reached.kind(), asked.shape)?;
-    let text = listing(alloc, options.bracket, first, &listed)?;
+    let text = listing(options.bracket, first, &listed)?;
     Ok(Reply::made(status_of(listed.ending), text))
 }
 
@@ -216,14 +217,13 @@ fn status_of(ending: Ending) -> Status
 }
 
 // A first line, the lines of the candidates of the bracket of a number, and how they ended.
-fn listing(alloc: Global, number: u16, first: String, listed: &Listed) -> Result<String, AllocError>
-    ensures { IfOk result (λ text. string_bytes text
+fn listing(number: u16, first: String, listed: &Listed) -> Result<Page, AllocError>
+    ensures { IfOk result (λ text. text
         ≡ string_bytes first ++ (string_bytes listed.now.text ++ ending_text number listed.now.ending)) }
 {
-    let mut text = first;
+    let mut text = Page::from_bytes(first.into_bytes());
     text.push_str(listed.text.as_str())?;
-    let last = bracket_texts::ending(alloc, number, listed.ending)?;
-    text.push_str(last.as_str())?;
+    bracket_texts::put_ending(&mut text, number, listed.ending)?;
     Ok(text)
 }
 
@@ -231,12 +231,16 @@ fn listing(alloc: Global, number: u16, first: String, listed: &Listed) -> Result
 fn not_reached(alloc: Global, number: u16) -> Result<Reply, AllocError>
     ensures { IfOk result (λ reply. answer_of reply ≡ not_reached number) }
 {
-    Ok(Reply::made(Status::BadWords, texts::not_reached(alloc, number)?))
+    let mut text = Page::new(alloc);
+    texts::put_not_reached(&mut text, number)?;
+    Ok(Reply::made(Status::BadWords, text))
 }
 
 // The cursor is not one of the bracket that is asked for.
 fn not_of_bracket(alloc: Global, number: u16) -> Result<Reply, AllocError>
     ensures { IfOk result (λ reply. answer_of reply ≡ not_of_bracket number) }
 {
-    Ok(Reply::made(Status::BadWords, texts::not_of_bracket(alloc, number)?))
+    let mut text = Page::new(alloc);
+    texts::put_not_of_bracket(&mut text, number)?;
+    Ok(Reply::made(Status::BadWords, text))
 }

@@ -7,12 +7,13 @@ ghost use Rattle.round_commands.specs.PairAnswers.{board_text, boards_text};
 ghost use Rattle.round_commands.specs.Known.{CanBeTold, HasFewRounds};
 ghost use Rattle.replies.specs.Prelude.{answer_of, done, seen_before};
 
+use common_texts::Page;
 use dutch_choice::finder::Finder;
 use dutch_player::{Field, FieldFault};
 use dutch_rounds::boards::Board;
 use dutch_rounds::laws::boards_can_be_the_next_round;
 use dutch_rounds::{Outcome, pair_round};
-use replies::format::rewritten;
+use replies::format::reply_with_report;
 use replies::refusal::{cannot_be_paired, no_pairing, undecided};
 use replies::views::{not_seen, read_before};
 use replies::{Reply, Status, wall};
@@ -114,7 +115,8 @@ fn tell_boards(
 pub(crate) fn tell_ranks(alloc: Global, boards: &[Board]) -> Result<Reply, AllocError>
     ensures { IfOk result (λ reply. answer_of reply ≡ done (boards_text boards.now)) }
 {
-    Ok(Reply::made(Status::Done, board_lines(alloc, boards)?))
+    let text = board_lines(alloc, boards)?.into_bytes();
+    Ok(Reply::made(Status::Done, Page::from_bytes(text)))
 }
 
 // The report whose next round the boards are.
@@ -123,7 +125,7 @@ fn tell_report(alloc: Global, report: &Report<'_>, boards: &[Board]) -> Result<R
     ensures { IfOk result (λ reply. TellsReport report.now boards.now (answer_of reply)) }
 {
     let paired = with_round(alloc, report, boards)?;
-    rewritten(alloc, &paired)
+    reply_with_report(alloc, &paired)
 }
 
 // How many boards there are, and a line for each.

@@ -8,7 +8,7 @@ use crate::listing::Ending;
 use crate::pieces::Piece::{Count, Number, Text};
 use crate::pieces::say;
 use crate::telling::Telling;
-use common_texts::{Page, undecided};
+use common_texts::{Page, put_undecided};
 use dutch_arrangements::Shape;
 use dutch_bracket::{BracketKind, Reached};
 use std::alloc::{AllocError, Global};
@@ -87,13 +87,13 @@ pub fn put_bracket(
     )
 }
 
-/// The last line of a listing.
-pub fn ending(alloc: Global, number: u16, ending: Ending) -> Result<String, AllocError>
-    ensures { IfOk result (λ text. string_bytes text ≡ ending_text number ending) }
+/// Puts the last line of a listing.
+pub fn put_ending(text: &mut Page, number: u16, ending: Ending) -> Result<(), AllocError>
+    ensures { OnOk result (text.new ≡ text.old ++ ending_text number ending) }
 {
     match ending {
-        Ending::AtEnd => String::from_str(alloc, "end\n"),
-        Ending::AtCount => String::from_str(alloc, "more\n"),
-        Ending::Stopped { used } => undecided(alloc, number, used),
+        Ending::AtEnd => text.push_str("end\n"),
+        Ending::AtCount => text.push_str("more\n"),
+        Ending::Stopped { used } => put_undecided(text, number, used),
     }
 }

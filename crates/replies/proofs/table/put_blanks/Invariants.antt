@@ -3,4 +3,4 @@ use Rattle.trf16_report.specs.Prelude.{blanks}
 use Rattle.replies.proofs.table.put_blanks.Given as goal
 
 abbrev pub invariant-loop : goal.invariant-loop
-invariant-loop l = l.text.items ≡ l.initial.text.items ++ blanks l.counter
+invariant-loop l = l.text ≡ l.initial.text ++ blanks l.counter
