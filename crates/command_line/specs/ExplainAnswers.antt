@@ -8,7 +8,7 @@ use Rattle.dutch_player.specs.Prelude.{Facts, facts_of, seat_with}
 use Rattle.dutch_player.specs.declared.fault.FieldFault.{FieldFault}
 use Rattle.trf16_report.specs.Prelude.{Sheet}
 use Rattle.trf16_report.specs.declared.fault.Fault.{Fault}
-use Rattle.stage_lines.specs.BarrierTexts.{no_pairing_text, reason_text}
+use Rattle.stage_lines.specs.BarrierTexts.{reason_text}
 use Rattle.stage_lines.specs.ExplainTexts.{stages_text}
 use Rattle.command_line.specs.InsteadAnswers.{AnswersInstead, PairedRound}
 use Rattle.command_line.specs.InsteadAnswers.{undecided_in}
@@ -76,6 +76,10 @@ line_text telling player (Some seat) = player_text telling seat
 abbrev pub asked_text : TellingFacts → Option Question → List ℕ
 asked_text telling None = []
 asked_text telling (Some question) = line_text telling question.player (seat_with telling.facts question.player)
+
+-- that there is no pairing, in the line that other commands answer, or in a sentence
+abbrev pub no_pairing_text : Wording → List ℕ
+no_pairing_text wording = in_wording wording no_pairing.text (codes "There is no pairing of the present players.\n")
 
 -- that there is no pairing, why, and the line of the player who is asked about
 abbrev pub no_pairing_with : TellingFacts → Option Question → List ℕ → Answer

@@ -4,14 +4,12 @@ ghost use Rattle.std.specs.List.{AllByRecursion};
 ghost use Rattle.dutch_rounds.specs.Prelude.{IsStage};
 ghost use Rattle.trf16_report.specs.Prelude.{verdict};
 ghost use Rattle.dutch_player.specs.Prelude.{seat_with};
-ghost use Rattle.command_line.specs.ExplainAnswers.{AnswersExplain, ExplainsAsked, ExplainsSeen, IsExplained};
-ghost use Rattle.command_line.specs.ExplainAnswers.{AnswersQuestion, IsToldBehind, TellsPaired};
-ghost use Rattle.command_line.specs.ExplainAnswers.{about_text, first_text, front_text, other_boards_text, present_text};
+ghost use Rattle.command_line.specs.ExplainAnswers as answers;
 ghost use Rattle.stage_lines.specs.ExplainTexts.{stages_text};
 ghost use Rattle.replies.specs.Prelude.{answer_of, done, question_fault, seen_before};
 
 use crate::instead::{AskedInSteps, Paired, instead};
-use crate::not_paired::{no_pairing_because, undecided};
+use crate::not_paired::{no_pairing_because, tell_undecided};
 use crate::other_boards::{Settled, has_other_boards};
 use common_texts::Page;
 use dutch_choice::finder::Finder;
@@ -37,7 +35,7 @@ pub fn explain<F: Finder>(
     bye: u16,
 ) -> Result<Reply, AllocError>
     requires { bye ≤ 2 }
-    ensures { IfOk result (λ reply. AnswersExplain options (verdict bytes.now bye) (answer_of reply)) }
+    ensures { IfOk result (λ reply. answers.AnswersExplain options (verdict bytes.now bye) (answer_of reply)) }
 {
     match trf16_reader::read_with(alloc, bytes, bye) {
         Ok(report) => of_report::<F>(alloc, options, &report),
@@ -52,22 +50,22 @@ fn of_report<F: Finder>(
     options: ExplainOptions,
     report: &Report<'_>,
 ) -> Result<Reply, AllocError>
-    ensures { IfOk result (λ reply. AnswersExplain options (Ok report.now) (answer_of reply)) }
+    ensures { IfOk result (λ reply. answers.AnswersExplain options (Ok report.now) (answer_of reply)) }
 {
     match options.round {
-        Some(round) => before::<F>(alloc, options, report, round),
+        Some(round) => of_report_before::<F>(alloc, options, report, round),
         None => of_view::<F>(alloc, options, report, report),
     }
 }
 
 // What `explain` says of an accepted report of which a round is asked for, if the report reaches it.
-fn before<F: Finder>(
+fn of_report_before<F: Finder>(
     alloc: Global,
     options: ExplainOptions,
     report: &Report<'_>,
     round: u8,
 ) -> Result<Reply, AllocError>
-    ensures { IfOk result (λ reply. ExplainsSeen options report.now
+    ensures { IfOk result (λ reply. answers.ExplainsSeen options report.now
         (seen_before (Some round) (Ok report.now)) (answer_of reply)) }
 {
     match before_round(alloc, report, round)? {
@@ -84,7 +82,7 @@ fn of_view<'a, F: Finder>(
     whole: &Report<'a>,
     report: &Report<'a>,
 ) -> Result<Reply, AllocError>
-    ensures { IfOk result (λ reply. ExplainsSeen options whole.now (Ok report.now) (answer_of reply)) }
+    ensures { IfOk result (λ reply. answers.ExplainsSeen options whole.now (Ok report.now) (answer_of reply)) }
 {
     match Field::new(alloc, report, options.rounds, options.initial) {
         Ok(field) => {
@@ -107,7 +105,7 @@ fn of_field<F: Finder>(
     whole: &Report<'_>,
     telling: &Telling<'_>,
 ) -> Result<Reply, AllocError>
-    ensures { IfOk result (λ reply. ExplainsAsked options whole.now telling.now
+    ensures { IfOk result (λ reply. answers.ExplainsAsked options whole.now telling.now
         (question_fault telling.now.sheet options.question) (answer_of reply)) }
 {
     match question_fault(telling.report, options.question) {
@@ -123,7 +121,7 @@ fn of_round<F: Finder>(
     whole: &Report<'_>,
     telling: &Telling<'_>,
 ) -> Result<Reply, AllocError>
-    ensures { IfOk result (λ reply. IsExplained options whole.now telling.now (answer_of reply)) }
+    ensures { IfOk result (λ reply. answers.IsExplained options whole.now telling.now (answer_of reply)) }
 {
     match stages::<F>(alloc, telling.field, options.steps)? {
         AllStages::Paired { stages, bye } => {
@@ -143,7 +141,12 @@ fn of_round<F: Finder>(
         AllStages::NoPairing => {
             no_pairing_because(alloc, telling, options.question, options.steps)
         }
-        AllStages::Undecided { bracket, used } => undecided(alloc, telling.wording, bracket, used),
+        AllStages::Undecided { bracket, used } => tell_undecided(
+            alloc,
+            telling.wording,
+            bracket,
+            used,
+        ),
     }
 }
 
@@ -154,7 +157,7 @@ fn tell_paired<F: Finder>(
     round: &Paired<'_>,
 ) -> Result<Reply, AllocError>
     requires { AllByRecursion (IsStage round.now.telling.facts) round.now.stages }
-    ensures { IfOk result (λ reply. TellsPaired options.question options.steps round.now (answer_of reply)) }
+    ensures { IfOk result (λ reply. answers.TellsPaired options.question options.steps round.now (answer_of reply)) }
 {
     match options.question {
         Some(question) => tell_asked::<F>(alloc, options.steps, round, question),
@@ -166,7 +169,7 @@ fn tell_paired<F: Finder>(
 fn tell_all(alloc: Global, round: &Paired<'_>) -> Result<Reply, AllocError>
     requires { AllByRecursion (IsStage round.now.telling.facts) round.now.stages }
     ensures { IfOk result (λ reply. answer_of reply
-        ≡ done (first_text round.now ++ stages_text round.now.telling None round.now.stages)) }
+        ≡ done (answers.first_text round.now ++ stages_text round.now.telling None round.now.stages)) }
 {
     let mut text = Page::new(alloc);
     put_all(&mut text, round)?;
@@ -177,7 +180,7 @@ fn tell_all(alloc: Global, round: &Paired<'_>) -> Result<Reply, AllocError>
 fn put_all(text: &mut Page, round: &Paired<'_>) -> Result<(), AllocError>
     requires { AllByRecursion (IsStage round.now.telling.facts) round.now.stages }
     ensures { OnOk result (text.new
-        ≡ text.old ++ (first_text round.now ++ stages_text round.now.telling None round.now.stages)) }
+        ≡ text.old ++ (answers.first_text round.now ++ stages_text round.now.telling None round.now.stages)) }
 {
     put_first(text, round)?;
     put_stages(text, round.telling, round.stages, None)
@@ -185,7 +188,7 @@ fn put_all(text: &mut Page, round: &Paired<'_>) -> Result<(), AllocError>
 
 // Puts the line of a round, and behind it that the report has other boards, if it has.
 fn put_first(text: &mut Page, round: &Paired<'_>) -> Result<(), AllocError>
-    ensures { OnOk result (text.new ≡ text.old ++ first_text round.now) }
+    ensures { OnOk result (text.new ≡ text.old ++ answers.first_text round.now) }
 {
     let telling = round.telling;
     put_round(text, telling, round.bye)?;
@@ -197,7 +200,7 @@ fn put_first(text: &mut Page, round: &Paired<'_>) -> Result<(), AllocError>
 
 // Puts that the round has other boards in the report.
 fn put_other_boards(text: &mut Page, wording: Wording) -> Result<(), AllocError>
-    ensures { OnOk result (text.new ≡ text.old ++ other_boards_text wording true) }
+    ensures { OnOk result (text.new ≡ text.old ++ answers.other_boards_text wording true) }
 {
     text.push_str(in_wording(
         wording,
@@ -214,11 +217,12 @@ fn tell_asked<F: Finder>(
     question: Question,
 ) -> Result<Reply, AllocError>
     requires { AllByRecursion (IsStage round.now.telling.facts) round.now.stages }
-    ensures { IfOk result (λ reply. AnswersQuestion round.now steps question.player question.instead
+    ensures { IfOk result (λ reply. answers.AnswersQuestion round.now steps question.player question.instead
         (answer_of reply)) }
 {
     let player = question.player;
-    let front = front_of(alloc, round, player)?;
+    let mut front = Page::new(alloc);
+    put_front(&mut front, round, player)?;
     match question.instead {
         Some(number) => {
             let asked = Asked { player, number };
@@ -236,27 +240,17 @@ fn tell_behind<F: Finder>(
     front: Page,
 ) -> Result<Reply, AllocError>
     requires stages { AllByRecursion (IsStage round.now.telling.facts) round.now.stages }
-    requires front { front ≡ front_text round.now asking.asked.player }
-    ensures { IfOk result (λ reply. IsToldBehind round.now asking.steps asking.asked.player asking.asked.number
+    requires front { front ≡ answers.front_text round.now asking.asked.player }
+    ensures { IfOk result (λ reply. answers.IsToldBehind round.now asking.steps asking.asked.player asking.asked.number
         (answer_of reply)) }
 {
     instead::<F>(alloc, round, asking)?.behind(front)
 }
 
-// The line of a round, and what is told of a player.
-fn front_of(alloc: Global, round: &Paired<'_>, player: u16) -> Result<Page, AllocError>
-    requires { AllByRecursion (IsStage round.now.telling.facts) round.now.stages }
-    ensures { IfOk result (λ front. front ≡ front_text round.now player) }
-{
-    let mut text = Page::new(alloc);
-    put_front(&mut text, round, player)?;
-    Ok(text)
-}
-
 // Puts the line of a round, and what is told of a player.
 fn put_front(text: &mut Page, round: &Paired<'_>, player: u16) -> Result<(), AllocError>
     requires { AllByRecursion (IsStage round.now.telling.facts) round.now.stages }
-    ensures { OnOk result (text.new ≡ text.old ++ front_text round.now player) }
+    ensures { OnOk result (text.new ≡ text.old ++ answers.front_text round.now player) }
 {
     put_first(text, round)?;
     put_about(text, round, player)
@@ -266,7 +260,7 @@ fn put_front(text: &mut Page, round: &Paired<'_>, player: u16) -> Result<(), All
 fn put_about(text: &mut Page, round: &Paired<'_>, player: u16) -> Result<(), AllocError>
     requires { AllByRecursion (IsStage round.now.telling.facts) round.now.stages }
     ensures { OnOk result (text.new
-        ≡ text.old ++ about_text round.now player (seat_with round.now.telling.facts player)) }
+        ≡ text.old ++ answers.about_text round.now player (seat_with round.now.telling.facts player)) }
 {
     let telling = round.telling;
     match telling.field.seat_with(player) {
@@ -278,7 +272,7 @@ fn put_about(text: &mut Page, round: &Paired<'_>, player: u16) -> Result<(), All
 // Puts the line of a present player and their brackets.
 fn put_present(text: &mut Page, round: &Paired<'_>, seat: u16) -> Result<(), AllocError>
     requires { AllByRecursion (IsStage round.now.telling.facts) round.now.stages }
-    ensures { OnOk result (text.new ≡ text.old ++ present_text round.now seat) }
+    ensures { OnOk result (text.new ≡ text.old ++ answers.present_text round.now seat) }
 {
     put_player(text, round.telling, seat)?;
     put_stages(text, round.telling, round.stages, Some(seat))

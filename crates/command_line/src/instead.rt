@@ -4,16 +4,12 @@ ghost use Rattle.std.specs.List.{AllByRecursion};
 ghost use Rattle.dutch_sequence.specs.declared.numbers.TheConstants.{LIMIT};
 ghost use Rattle.dutch_rounds.specs.Prelude.{IsStage};
 ghost use Rattle.dutch_candidates.specs.Wishes.{grants};
-ghost use Rattle.command_line.specs.InsteadAnswers.{AnswersInstead, AnswersPresent, AnswersWish, IsSearched};
-ghost use Rattle.command_line.specs.InsteadAnswers.{decided_in};
-ghost use Rattle.command_line.specs.InsteadAnswers.{goes_on, keeps_both, number_among, number_in, obstacle_of, rival_of};
-ghost use Rattle.command_line.specs.InsteadAnswers.{settled_in, settled_of, shared_in, stands_in_one};
 ghost use Rattle.stage_lines.specs.InsteadTexts.{in_bracket, instead_text};
-ghost use Rattle.command_line.specs.InsteadAnswers.{search_answer};
+ghost use Rattle.command_line.specs.InsteadAnswers as answers;
 ghost use Rattle.player_lines.specs.Obstacles.{obstacle_text};
 ghost use Rattle.replies.specs.Prelude.{answer_of, done};
 
-use crate::not_paired::undecided;
+use crate::not_paired::tell_undecided;
 use common_texts::Page;
 use dutch_choice::finder::Finder;
 use dutch_player::Field;
@@ -83,7 +79,7 @@ pub fn instead<F: Finder>(
     asking: AskedInSteps,
 ) -> Result<Reply, AllocError>
     requires { AllByRecursion (IsStage round.now.telling.facts) round.now.stages }
-    ensures { IfOk result (λ reply. AnswersInstead round.now asking.asked.player asking.asked.number
+    ensures { IfOk result (λ reply. answers.AnswersInstead round.now asking.asked.player asking.asked.number
         asking.steps (answer_of reply)) }
 {
     let (telling, asked) = (round.telling, asking.asked);
@@ -104,9 +100,9 @@ fn of_meeting<F: Finder>(
     asking: AskedInSteps,
 ) -> Result<Reply, AllocError>
     requires { AllByRecursion (IsStage round.now.telling.facts) round.now.stages }
-    ensures { IfOk result (λ reply. AnswersPresent round.now.telling asking.steps asking.asked.player
-        asking.asked.number (obstacle_of round.now meeting.player meeting.rival)
-        (decided_in round.now.stages meeting.player meeting.rival) (answer_of reply)) }
+    ensures { IfOk result (λ reply. answers.AnswersPresent round.now.telling asking.steps asking.asked.player
+        asking.asked.number (answers.obstacle_of round.now meeting.player meeting.rival)
+        (answers.decided_in round.now.stages meeting.player meeting.rival) (answer_of reply)) }
 {
     let telling = round.telling;
     if let Some(obstacle) = obstacle_of(round, meeting) {
@@ -114,7 +110,7 @@ fn of_meeting<F: Finder>(
     }
     match decided_in(telling.field, round.stages, meeting) {
         Some(decided) => by_wish::<F>(alloc, telling, decided, asking),
-        None => Ok(Reply::made(Status::Done, Page::new(alloc))),
+        None => Ok(Reply::fixed(Status::Done, "")),
     }
 }
 
@@ -127,7 +123,7 @@ struct Meeting {
 
 // The bye for 0; otherwise the seat of a start rank.
 fn rival_of(field: &Field, number: u16) -> Option<Rival>
-    ensures { result ≡ rival_of field.now number }
+    ensures { result ≡ answers.rival_of field.now number }
 {
     if number == 0 {
         return Some(Rival::Bye);
@@ -140,7 +136,7 @@ fn rival_of(field: &Field, number: u16) -> Option<Rival>
 
 // What stands against it, whatever is chosen in a bracket.
 fn obstacle_of(round: &Paired<'_>, meeting: Meeting) -> Option<Obstacle>
-    ensures { result ≡ obstacle_of round.now meeting.player meeting.rival }
+    ensures { result ≡ answers.obstacle_of round.now meeting.player meeting.rival }
 {
     let telling = round.telling;
     match meeting.rival {
@@ -182,7 +178,7 @@ fn put_against(
 }
 
 fn stands_in_one(stages: &[Stage], seat: u16) -> bool
-    ensures { result ≡ stands_in_one stages.now seat }
+    ensures { result ≡ answers.stands_in_one stages.now seat }
 {
     stages
         .iter()
@@ -191,7 +187,7 @@ fn stands_in_one(stages: &[Stage], seat: u16) -> bool
 
 // The bye is given behind all brackets.
 fn goes_on(stages: &[Stage], rival: Rival) -> bool
-    ensures { result ≡ goes_on stages.now rival }
+    ensures { result ≡ answers.goes_on stages.now rival }
 {
     match rival {
         Rival::Bye => true,
@@ -203,7 +199,7 @@ fn goes_on(stages: &[Stage], rival: Rival) -> bool
 #[tactic(auto, using(crate::proofs::InsteadLemmas::passed, crate::proofs::InsteadLemmas::found, crate::proofs::InsteadLemmas::none))]
 fn number_among(seats: &[u16], seat: u16) -> u16
     requires { length seats.now ≤ LIMIT }
-    ensures { result ≡ number_among seats.now seat }
+    ensures { result ≡ answers.number_among seats.now seat }
 {
     for (i, other) in seats.iter().enumerate() {
         if *other == seat {
@@ -217,14 +213,14 @@ fn number_among(seats: &[u16], seat: u16) -> u16
 #[tactic(auto, using(crate::proofs::InsteadLemmas::few_seats))]
 fn number_in(field: &Field, stage: &Stage, seat: u16) -> u16
     requires { IsStage field.now stage.now }
-    ensures { result ≡ number_in stage.now seat }
+    ensures { result ≡ answers.number_in stage.now seat }
 {
     number_among(stage.reached().seats(), seat)
 }
 
 // A bracket that keeps its pairs, in which two seats stand.
 fn keeps_both(stage: &Stage, player: u16, other: u16) -> bool
-    ensures { result ≡ keeps_both player other stage.now }
+    ensures { result ≡ answers.keeps_both player other stage.now }
 {
     let seats = stage.reached().seats();
     !stage.is_again() && (seats.contains(&player) && seats.contains(&other))
@@ -233,7 +229,7 @@ fn keeps_both(stage: &Stage, player: u16, other: u16) -> bool
 // The first bracket that keeps its pairs and in which two seats stand: only there can they be paired.
 fn shared_in<'a>(field: &Field, stages: &'a [Stage], player: u16, other: u16) -> Option<&'a Stage>
     requires { AllByRecursion (IsStage field.now) stages.now }
-    ensures shared { option_copied result ≡ shared_in stages.now player other }
+    ensures shared { option_copied result ≡ answers.shared_in stages.now player other }
     ensures stage { IfSome result (λ stage. IsStage field.now stage.now) }
 {
     let [stage, behind @ ..] = stages else {
@@ -247,7 +243,7 @@ fn shared_in<'a>(field: &Field, stages: &'a [Stage], player: u16, other: u16) ->
 
 // Who does not stand behind a bracket.
 fn settled_of(behind: &[Stage], meeting: Meeting) -> u16
-    ensures { result ≡ settled_of behind.now meeting.player meeting.rival }
+    ensures { result ≡ answers.settled_of behind.now meeting.player meeting.rival }
 {
     match meeting.rival {
         Rival::Seat(other) if stands_in_one(behind, meeting.player) => other,
@@ -258,8 +254,8 @@ fn settled_of(behind: &[Stage], meeting: Meeting) -> u16
 // The first bracket behind which one of the two does not stand, and the wish that this one is left over in it.
 fn settled_in<'a>(field: &Field, stages: &'a [Stage], meeting: Meeting) -> Option<(&'a Stage, Wish)>
     requires { AllByRecursion (IsStage field.now) stages.now }
-    ensures decided { MatchOption result (settled_in stages.now meeting.player meeting.rival ≡ None)
-        (λ decided. settled_in stages.now meeting.player meeting.rival ≡ Some (decided.0.now, decided.1)) }
+    ensures decided { MatchOption result (answers.settled_in stages.now meeting.player meeting.rival ≡ None)
+        (λ decided. answers.settled_in stages.now meeting.player meeting.rival ≡ Some (decided.0.now, decided.1)) }
     ensures stage { IfSome result (λ decided. IsStage field.now decided.0.now) }
 {
     let [stage, behind @ ..] = stages else {
@@ -277,8 +273,8 @@ fn settled_in<'a>(field: &Field, stages: &'a [Stage], meeting: Meeting) -> Optio
 // bracket behind which one of them does not stand: that this one is left over.
 fn decided_in<'a>(field: &Field, stages: &'a [Stage], meeting: Meeting) -> Option<(&'a Stage, Wish)>
     requires { AllByRecursion (IsStage field.now) stages.now }
-    ensures decided { MatchOption result (decided_in stages.now meeting.player meeting.rival ≡ None)
-        (λ decided. decided_in stages.now meeting.player meeting.rival ≡ Some (decided.0.now, decided.1)) }
+    ensures decided { MatchOption result (answers.decided_in stages.now meeting.player meeting.rival ≡ None)
+        (λ decided. answers.decided_in stages.now meeting.player meeting.rival ≡ Some (decided.0.now, decided.1)) }
     ensures stage { IfSome result (λ decided. IsStage field.now decided.0.now) }
 {
     let Rival::Seat(other) = meeting.rival else {
@@ -301,7 +297,7 @@ fn by_wish<F: Finder>(
     asking: AskedInSteps,
 ) -> Result<Reply, AllocError>
     requires { IsStage telling.now.facts decided.0.now }
-    ensures { IfOk result (λ reply. AnswersWish telling.now asking.steps asking.asked.player asking.asked.number
+    ensures { IfOk result (λ reply. answers.AnswersWish telling.now asking.steps asking.asked.player asking.asked.number
         decided.entry.0.now decided.entry.1 (grants decided.entry.1 decided.entry.0.now.candidate.lists)
         (answer_of reply)) }
 {
@@ -322,7 +318,7 @@ fn by_search<F: Finder>(
     asking: AskedInSteps,
 ) -> Result<Reply, AllocError>
     requires { IsStage telling.now.facts decided.0.now }
-    ensures { IfOk result (λ reply. IsSearched telling.now asking.steps asking.asked.player asking.asked.number
+    ensures { IfOk result (λ reply. answers.IsSearched telling.now asking.steps asking.asked.player asking.asked.number
         decided.entry.0.now decided.entry.1 (answer_of reply)) }
 {
     let (stage, wish) = decided;
@@ -345,11 +341,11 @@ fn tell(
     searched: Searched<'_>,
 ) -> Result<Reply, AllocError>
     ensures { IfOk result (λ reply. answer_of reply
-        ≡ search_answer telling.now asked.player asked.number searched.entry.stage.now searched.entry.wish searched.entry.found.now) }
+        ≡ answers.search_answer telling.now asked.player asked.number searched.entry.stage.now searched.entry.wish searched.entry.found.now) }
 {
     match searched.found {
         Instead::Undecided { used } => {
-            undecided(
+            tell_undecided(
                 alloc,
                 telling.wording,
                 searched.stage.reached().number(),

@@ -1,8 +1,8 @@
 // What is answered where no round is paired: that there is no pairing, and why; or that the steps ended first.
 ghost use Rattle.std.specs.Prelude.{◌≡◌, ◌++◌, IfOk, OnOk};
 ghost use Rattle.dutch_player.specs.Prelude.{seat_with};
-ghost use Rattle.stage_lines.specs.BarrierTexts.{no_pairing_text, reason_text};
-ghost use Rattle.command_line.specs.ExplainAnswers.{TellsWhy, asked_text, line_text, no_pairing_with};
+ghost use Rattle.stage_lines.specs.BarrierTexts.{reason_text};
+ghost use Rattle.command_line.specs.ExplainAnswers.{TellsWhy, asked_text, line_text, no_pairing_text, no_pairing_with};
 ghost use Rattle.command_line.specs.InsteadAnswers.{undecided_in};
 ghost use Rattle.replies.specs.Prelude.{answer_of};
 
@@ -26,11 +26,11 @@ pub fn no_pairing_because(
     ensures { IfOk result (λ reply. TellsWhy telling.now question (answer_of reply)) }
 {
     let found = barrier_of(alloc, telling.field, steps)?;
-    because(alloc, telling, question, &found)
+    tell_no_pairing(alloc, telling, question, &found)
 }
 
 // No pairing, and why: by the barrier that was found, if one was.
-fn because(
+fn tell_no_pairing(
     alloc: Global,
     telling: &Telling<'_>,
     question: Option<Question>,
@@ -40,12 +40,12 @@ fn because(
         ≡ no_pairing_with telling.now question (reason_text telling.now found.now)) }
 {
     let mut text = Page::new(alloc);
-    put_because(&mut text, telling, question, found)?;
+    put_no_pairing(&mut text, telling, question, found)?;
     Ok(Reply::made(Status::NoPairing, text))
 }
 
 // Puts that there is no pairing, why, and what the player who is asked about would bring to the round.
-fn put_because(
+fn put_no_pairing(
     text: &mut Page,
     telling: &Telling<'_>,
     question: Option<Question>,
@@ -103,7 +103,7 @@ fn put_line(text: &mut Page, telling: &Telling<'_>, player: u16) -> Result<(), A
 }
 
 /// The steps of a bracket reached the limit before it was decided.
-pub fn undecided(
+pub fn tell_undecided(
     alloc: Global,
     wording: Wording,
     number: u16,

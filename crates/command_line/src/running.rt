@@ -114,7 +114,7 @@ fn reply_to_task<F: Finder, R: Source>(alloc: Global, task: Task<'_>, reader: &m
             Ok(reply) => reply,
             Err(AllocError) => out_of_memory(),
         },
-        Err(InputFault::Read) => read_failed(),
+        Err(InputFault::Read) => read_fault(),
         Err(InputFault::Memory) => out_of_memory(),
     }
 }
@@ -140,7 +140,7 @@ fn answer<F: Finder>(alloc: Global, task: Task<'_>, input: &[u8]) -> Result<Repl
 }
 
 // A call of the source failed.
-fn read_failed() -> Reply
+fn read_fault() -> Reply
     ensures { answer_of result ≡ read_fault }
 {
     Reply::fixed(Status::Trouble, "device: read failed\n")

@@ -1,5 +1,5 @@
 -- A listing as an answer, and the bracket that is found.
-use Rattle.std.proofs.Common.{◌≡◌, ◌++◌, ℕ, List, Result, Ok, Err, IfOk, sym, subst, refl}
+use Rattle.std.proofs.Common.{◌≡◌, ◌++◌, ℕ, List, Result, Ok, Err, IfOk, sym, subst, refl, ◌∙◌, ap, append_assoc}
 use Rattle.dutch_arrangements.specs.Prelude.{Arrangement, Frame, IsBracket, arrangements, cursor_of, IsIn}
 use Rattle.dutch_arrangements.specs.declared.bracket.Shape.{Shape}
 use Rattle.dutch_listing.proofs.CursorReads.{read-is}
@@ -12,7 +12,7 @@ use Rattle.dutch_arrangements.specs.declared.cursor.CursorFault.{CursorFault}
 use Rattle.round_commands.specs.CandidateAnswers.{IsAnswerToField, Lists, AnswersFound, coming_of, status_of}
 use Rattle.round_commands.specs.Known.{CanBeListed}
 use Rattle.round_lines.specs.CandidateTexts.{bracket_text, line_text}
-use Rattle.round_lines.specs.Listings.{IsListing, ending_text}
+use Rattle.round_lines.specs.Listings.{IsListing, Puts, ending_text}
 use Rattle.replies.specs.Prelude.{answer_of, not_of_bracket, plain}
 use Rattle.round_lines.specs.declared.listing.Ending.{Ending}
 use Rattle.requests.specs.declared.options.CandidatesOptions.{CandidatesOptions}
@@ -24,15 +24,19 @@ pub cursor_is_in : (frame : Frame) (shape : Shape) (bytes : List ℕ) (a : Arran
     → cursor_of frame shape bytes ≡ Ok a → IsIn a (arrangements frame shape)
 cursor_is_in frame shape bytes a is e = (read-is frame shape bytes a is e).0
 
--- a listing is answered
+-- a listing is answered: the bracket, the candidates and the end are put one behind the other
 pub listed : (options : CandidatesOptions) (facts : Facts) (reached : Reached) (shape : Shape) (coming : List Arrangement) (status : Status)
-    (text lines : List ℕ) (ending : Ending) → coming_of facts reached shape options.from ≡ Ok coming
-    → IsListing (line_text facts reached) coming options.count options.steps ending lines → status ≡ status_of ending
-    → text ≡ bracket_text options.bracket reached.kind shape ++ (lines ++ ending_text options.bracket ending)
+    (first more text : List ℕ) (ending : Ending) → coming_of facts reached shape options.from ≡ Ok coming
+    → first ≡ bracket_text options.bracket reached.kind shape
+    → Puts first more (IsListing (line_text facts reached) coming options.count options.steps ending) → status ≡ status_of ending
+    → text ≡ more ++ ending_text options.bracket ending
     → Lists options facts reached shape (coming_of facts reached shape options.from) (plain status text)
-listed options facts reached shape coming status text lines ending e listing s t =
+listed options facts reached shape coming status first more text ending e b put s t =
+    let last : List ℕ = ending_text options.bracket ending in
+    let whole : text ≡ bracket_text options.bracket reached.kind shape ++ (put.0 ++ last) =
+    t ∙ (ap (λ front. front ++ last) put.1 ∙ (append_assoc first put.0 last ∙ ap (λ front. front ++ (put.0 ++ last)) b)) in
     subst (λ r. Lists options facts reached shape r (plain status text)) (sym e)
-    (record { ending = ending; lines = lines; listing = listing; status = s; text = t; plain = refl })
+    (record { ending = ending; lines = put.0; listing = put.2; status = s; text = whole; plain = refl })
 
 -- a cursor of another bracket is told
 pub not_listed : (options : CandidatesOptions) (facts : Facts) (reached : Reached) (shape : Shape) (fault : CursorFault) {E : Type 0} (r : Result Reply E)

@@ -1,11 +1,10 @@
 // The command `candidates`: a bracket, its shape, and the candidates of that shape in the order of article D.
-ghost use Rattle.std.specs.Prelude.{◌≡◌, ◌≤◌, ◌++◌, IfOk, Ok, string_bytes};
+ghost use Rattle.std.specs.Prelude.{◌≡◌, ◌≤◌, IfOk, Ok};
 ghost use Rattle.trf16_report.specs.Prelude.{verdict};
 ghost use Rattle.dutch_arrangements.specs.Prelude.{Fits, IsIn, arrangements, candidates, rest};
 ghost use Rattle.dutch_bracket.specs.Prelude.{IsOf, frame_of};
 ghost use Rattle.round_commands.specs.CandidateAnswers.{AnswersCandidates, InField, Lists, AnswersFound, coming_of, status_of};
 ghost use Rattle.round_commands.specs.Known.{CanBeListed};
-ghost use Rattle.round_lines.specs.Listings.{ending_text};
 ghost use Rattle.replies.specs.Prelude.{answer_of, not_of_bracket, not_reached, seen_before};
 
 use common_texts::Page;
@@ -18,8 +17,8 @@ use replies::refusal::{cannot_be_paired, no_pairing, undecided};
 use replies::views::{not_seen, read_before};
 use replies::{Reply, Status, texts};
 use requests::CandidatesOptions;
-use round_lines::bracket_texts;
-use round_lines::listing::{Bracket, Ending, Listed, RemainingCandidates, lines};
+use round_lines::bracket_texts::{put_bracket_line, put_ending};
+use round_lines::listing::{Bracket, Ending, RemainingCandidates, put_candidates};
 use std::alloc::{AllocError, Global};
 use trf16_report::Report;
 
@@ -89,7 +88,7 @@ fn tell(
             };
             list(alloc, options, &asked)
         }
-        BracketAt::NotReached => not_reached(alloc, options.bracket),
+        BracketAt::NotReached => tell_not_reached(alloc, options.bracket),
         BracketAt::NoPairing => Ok(no_pairing()),
         BracketAt::Undecided { bracket, used } => undecided(alloc, *bracket, *used),
     }
@@ -169,7 +168,7 @@ fn list(
                 let mut coming = candidates_behind(alloc, fitting, &rule, cursor)?;
                 list_coming(alloc, options, asked, &mut *coming)
             }
-            Err(_) => not_of_bracket(alloc, options.bracket),
+            Err(_) => tell_not_of_bracket(alloc, options.bracket),
         },
     }
 }
@@ -200,10 +199,16 @@ fn list_coming<'a, R: Rule>(
         bracket,
         candidates,
     };
-    let listed = lines(alloc, coming, options.count, &mut budget)?;
-    let first = bracket_texts::bracket(alloc, options.bracket, asked.reached.kind(), asked.shape)?;
-    let text = listing(options.bracket, first, &listed)?;
-    Ok(Reply::made(status_of(listed.ending), text))
+    let mut text = Page::new(alloc);
+    put_bracket_line(
+        &mut text,
+        options.bracket,
+        asked.reached.kind(),
+        asked.shape,
+    )?;
+    let ending = put_candidates(&mut text, coming, options.count, &mut budget)?;
+    put_ending(&mut text, options.bracket, ending)?;
+    Ok(Reply::made(status_of(ending), text))
 }
 
 // The status of a listing that ended so.
@@ -216,19 +221,8 @@ fn status_of(ending: Ending) -> Status
     }
 }
 
-// A first line, the lines of the candidates of the bracket of a number, and how they ended.
-fn listing(number: u16, first: String, listed: &Listed) -> Result<Page, AllocError>
-    ensures { IfOk result (λ text. text
-        ≡ string_bytes first ++ (string_bytes listed.now.text ++ ending_text number listed.now.ending)) }
-{
-    let mut text = Page::from_bytes(first.into_bytes());
-    text.push_str(listed.text.as_str())?;
-    bracket_texts::put_ending(&mut text, number, listed.ending)?;
-    Ok(text)
-}
-
 // The round ends before the bracket that is asked for.
-fn not_reached(alloc: Global, number: u16) -> Result<Reply, AllocError>
+fn tell_not_reached(alloc: Global, number: u16) -> Result<Reply, AllocError>
     ensures { IfOk result (λ reply. answer_of reply ≡ not_reached number) }
 {
     let mut text = Page::new(alloc);
@@ -237,7 +231,7 @@ fn not_reached(alloc: Global, number: u16) -> Result<Reply, AllocError>
 }
 
 // The cursor is not one of the bracket that is asked for.
-fn not_of_bracket(alloc: Global, number: u16) -> Result<Reply, AllocError>
+fn tell_not_of_bracket(alloc: Global, number: u16) -> Result<Reply, AllocError>
     ensures { IfOk result (λ reply. answer_of reply ≡ not_of_bracket number) }
 {
     let mut text = Page::new(alloc);

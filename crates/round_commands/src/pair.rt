@@ -1,5 +1,6 @@
 // The command `pair`: the boards of the next round, or the report with that round.
-ghost use Rattle.std.specs.Prelude.{◌≡◌, ◌≤◌, ◌++◌, IfOk, Ok, OnOk, string_bytes};
+ghost use Rattle.std.specs.Prelude.{◌≡◌, ◌≤◌, ◌++◌, IfOk, Ok, OnOk};
+ghost use Rattle.std.specs.List.{flat_map};
 ghost use Rattle.dutch_player.specs.Prelude.{facts_of};
 ghost use Rattle.trf16_report.specs.Prelude.{verdict, CanBePaired, HasOwnStarts, with_round};
 ghost use Rattle.round_commands.specs.PairAnswers.{AnswersPair, PairsField, TellsBoards, TellsOutcome, TellsReport};
@@ -115,8 +116,9 @@ fn tell_boards(
 pub(crate) fn tell_ranks(alloc: Global, boards: &[Board]) -> Result<Reply, AllocError>
     ensures { IfOk result (λ reply. answer_of reply ≡ done (boards_text boards.now)) }
 {
-    let text = board_lines(alloc, boards)?.into_bytes();
-    Ok(Reply::made(Status::Done, Page::from_bytes(text)))
+    let mut text = Page::new(alloc);
+    put_boards(&mut text, boards)?;
+    Ok(Reply::made(Status::Done, text))
 }
 
 // The report whose next round the boards are.
@@ -128,24 +130,22 @@ fn tell_report(alloc: Global, report: &Report<'_>, boards: &[Board]) -> Result<R
     reply_with_report(alloc, &paired)
 }
 
-// How many boards there are, and a line for each.
-fn board_lines(alloc: Global, boards: &[Board]) -> Result<String, AllocError>
-    ensures { IfOk result (λ text. string_bytes text ≡ boards_text boards.now) }
+// Puts how many boards there are, and a line for each.
+fn put_boards(text: &mut Page, boards: &[Board]) -> Result<(), AllocError>
+    ensures { OnOk result (text.new ≡ text.old ++ boards_text boards.now) }
 {
     let count = boards.len();
-    let mut text = format!(in alloc; "{count}\n")?;
-    for board in boards {
-        put_board(alloc, &mut text, *board)?;
-    }
-    Ok(text)
+    write!(text, "{count}\n")?;
+    put_each_board(text, boards)
 }
 
-// Puts the line of a board.
+// Puts the lines of boards.
 #[tactic(auto, unfolding(crate::specs::PairAnswers::board_text))]
-fn put_board(alloc: Global, text: &mut String, board: Board) -> Result<(), AllocError>
-    ensures { OnOk result (string_bytes text.new ≡ string_bytes text.old ++ board_text board) }
+fn put_each_board(text: &mut Page, boards: &[Board]) -> Result<(), AllocError>
+    ensures { OnOk result (text.new ≡ text.old ++ flat_map board_text boards.now) }
 {
-    let (white, black) = board;
-    let line = format!(in alloc; "{white} {black}\n")?;
-    text.push_str(line.as_str())
+    for (white, black) in boards {
+        write!(text, "{white} {black}\n")?;
+    }
+    Ok(())
 }

@@ -14,47 +14,36 @@ use Rattle.round_lines.specs.CandidateTexts.{rank_text}
 use Rattle.round_lines.specs.Tellings.{TellingFacts, in_wording, seats_words}
 use Rattle.common_texts.specs.Prelude.{halves_text}
 
--- the article of an item [with item_words]
-abbrev pub article_text : Item → List ℕ
-article_text Psd = codes "C.6"
-article_text NextBracket = codes "C.7"
-article_text WideDifferences = codes "C.8"
-article_text ThirdColours = codes "C.9"
-article_text MissedPreferences = codes "C.10"
-article_text MissedStrong = codes "C.11"
-article_text DownAgain = codes "C.12"
-article_text UpAgain = codes "C.13"
-article_text DownAgainBefore = codes "C.14"
-article_text UpAgainBefore = codes "C.15"
-article_text DownAgainBy = codes "C.16"
-article_text UpAgainBy = codes "C.17"
-article_text DownAgainBeforeBy = codes "C.18"
-article_text UpAgainBeforeBy = codes "C.19"
+-- the words of an item: its article, what it tells of a choice, and what it compares in two qualities [with item_words]
+pub record ItemWords : Type 0 where
+  pub article : List ℕ
+  pub said : List ℕ
+  pub meaning : List ℕ
 
--- what an item tells of a choice, in words
-abbrev pub said_words : Item → List ℕ
-said_words Psd = codes "Score differences"
-said_words NextBracket = codes "Pairs that the next bracket can make"
-said_words WideDifferences = codes "Get a colour difference over 2, in a pair with a topscorer"
-said_words ThirdColours = codes "Get one colour three times in a row, in a pair with a topscorer"
-said_words MissedPreferences = codes "Do not get the colour they prefer"
-said_words MissedStrong = codes "Do not get the colour they strongly prefer"
-said_words DownAgain = codes "Go down, as in the last round"
-said_words UpAgain = codes "Go up, as in the last round"
-said_words DownAgainBefore = codes "Go down, as two rounds ago"
-said_words UpAgainBefore = codes "Go up, as two rounds ago"
-said_words DownAgainBy = codes "Score differences of those of C.12"
-said_words UpAgainBy = codes "Score differences of those of C.13"
-said_words DownAgainBeforeBy = codes "Score differences of those of C.14"
-said_words UpAgainBeforeBy = codes "Score differences of those of C.15"
+-- C.6 to C.19 in words: the article of each item, what it tells of a choice, and what it compares in two qualities [own]
+abbrev pub item_words : Item → ItemWords
+item_words Psd = record { article = codes "C.6"; said = codes "Score differences"; meaning = codes "score differences" }
+item_words NextBracket = record { article = codes "C.7"; said = codes "Pairs that the next bracket can make"; meaning = codes "pairs in the next bracket" }
+item_words WideDifferences = record { article = codes "C.8"; said = codes "Get a colour difference over 2, in a pair with a topscorer"; meaning = codes "colour differences of topscorers' pairs" }
+item_words ThirdColours = record { article = codes "C.9"; said = codes "Get one colour three times in a row, in a pair with a topscorer"; meaning = codes "colours three times in topscorers' pairs" }
+item_words MissedPreferences = record { article = codes "C.10"; said = codes "Do not get the colour they prefer"; meaning = codes "colours preferred and not given" }
+item_words MissedStrong = record { article = codes "C.11"; said = codes "Do not get the colour they strongly prefer"; meaning = codes "colours strongly preferred and not given" }
+item_words DownAgain = record { article = codes "C.12"; said = codes "Go down, as in the last round"; meaning = codes "players who go down again" }
+item_words UpAgain = record { article = codes "C.13"; said = codes "Go up, as in the last round"; meaning = codes "players who go up again" }
+item_words DownAgainBefore = record { article = codes "C.14"; said = codes "Go down, as two rounds ago"; meaning = codes "players who go down again" }
+item_words UpAgainBefore = record { article = codes "C.15"; said = codes "Go up, as two rounds ago"; meaning = codes "players who go up again" }
+item_words DownAgainBy = record { article = codes "C.16"; said = codes "Score differences of those of C.12"; meaning = codes "score differences of those players" }
+item_words UpAgainBy = record { article = codes "C.17"; said = codes "Score differences of those of C.13"; meaning = codes "score differences of those players" }
+item_words DownAgainBeforeBy = record { article = codes "C.18"; said = codes "Score differences of those of C.14"; meaning = codes "score differences of those players" }
+item_words UpAgainBeforeBy = record { article = codes "C.19"; said = codes "Score differences of those of C.15"; meaning = codes "score differences of those players" }
 
 -- the article of an item, at the end of its sentence
 abbrev pub closing_words : Item → List ℕ
-closing_words item = codes " (" ++ (article_text item ++ codes ").\n")
+closing_words item = codes " (" ++ ((item_words item).article ++ codes ").\n")
 
--- the sentence of an item: what it tells, of whom or what, and its article [own]
-abbrev pub item_words : Item → List ℕ → List ℕ
-item_words item what = said_words item ++ (codes ": " ++ (what ++ closing_words item))
+-- the sentence of an item: what it tells, of whom or what, and its article [with item_words]
+abbrev pub item_sentence : Item → List ℕ → List ℕ
+item_sentence item what = (item_words item).said ++ (codes ": " ++ (what ++ closing_words item))
 
 -- ---- lists of differences
 
@@ -78,11 +67,11 @@ differences_text (first ∷ rest) = flat_map (λ halves. codes " " ++ halves_tex
 
 -- differences behind the article of their item
 abbrev pub psd_line : Item → List ℕ → List ℕ
-psd_line item differences = article_text item ++ (differences_text differences ++ codes "\n")
+psd_line item differences = (item_words item).article ++ (differences_text differences ++ codes "\n")
 
 -- the same in a sentence
 abbrev pub psd_words : Item → List ℕ → List ℕ
-psd_words item differences = item_words item (points_text Words differences)
+psd_words item differences = item_sentence item (points_text Words differences)
 
 -- what is told of C.6, in a line or in a sentence [own]
 abbrev pub psd_text : Wording → Item → List ℕ → List ℕ
@@ -97,12 +86,12 @@ list_text wording item (first ∷ rest) = psd_text wording item (first ∷ rest)
 
 -- the pairs of the next bracket and its PSD
 abbrev pub next_line : Quality → List ℕ
-next_line quality = codes "C.7 " ++ (decimal quality.next_pairs ++ (differences_text quality.next_psd ++ codes "\n"))
+next_line quality = (item_words NextBracket).article ++ (codes " " ++ (decimal quality.next_pairs ++ (differences_text quality.next_psd ++ codes "\n")))
 
 -- the same in a sentence
 unfoldable pub next_words : Quality → List ℕ
 next_words quality =
-    said_words NextBracket ++ (codes ": " ++ (decimal quality.next_pairs
+    (item_words NextBracket).said ++ (codes ": " ++ (decimal quality.next_pairs
     ++ (codes ". Score differences there: " ++ (points_text Words quality.next_psd ++ closing_words NextBracket))))
 
 -- what is told of C.7, in an ordinary bracket alone: the pairs of the next bracket and its PSD [with psd_text]
@@ -117,11 +106,11 @@ next_text wording Collapsed quality = []
 -- how many players one of C.8 to C.15 counts, and who, by rank
 unfoldable pub who_line : Facts → Item → ℕ → List ℕ → List ℕ
 who_line facts item count who =
-    article_text item ++ (codes " " ++ (decimal count ++ (codes " players" ++ (flat_map (λ seat. codes " " ++ rank_text facts seat) who ++ codes "\n"))))
+    (item_words item).article ++ (codes " " ++ (decimal count ++ (codes " players" ++ (flat_map (λ seat. codes " " ++ rank_text facts seat) who ++ codes "\n"))))
 
 -- the same in a sentence, who alone
 unfoldable pub who_words : TellingFacts → Item → List ℕ → List ℕ
-who_words telling item who = item_words item (seats_words telling who)
+who_words telling item who = item_sentence item (seats_words telling who)
 
 -- what is told of C.8 to C.15: how many count and who, and in a sentence only who [with psd_text]
 abbrev pub who_text : TellingFacts → Item → ℕ → List ℕ → List ℕ

@@ -1,5 +1,5 @@
 -- The lines of a listing of candidates, and how it ends.
-use Rattle.std.specs.Prelude.{◌≡◌, ℕ, ◌<◌, ◌≤◌, List, length, take, codes}
+use Rattle.std.specs.Prelude.{◌≡◌, ℕ, ◌<◌, ◌≤◌, List, ◌++◌, length, take, codes}
 use Rattle.std.specs.List.{flat_map}
 use Rattle.dutch_arrangements.specs.Prelude.{Arrangement}
 use Rattle.dutch_sequence.specs.declared.steps.Budget.{Budget}
@@ -14,6 +14,10 @@ IsListing line coming count steps AtEnd text = (length coming < count) × (text 
 IsListing line coming count steps AtCount text = (count ≤ length coming) × (text ≡ flat_map line (take count coming))
 IsListing line coming count steps (Stopped used) text =
     (used ≡ steps) × ((k : ℕ) × (k < count) × (k ≤ length coming) × (text ≡ flat_map line (take k coming)))
+
+-- a text that is so is put behind what is there [with IsListing]
+abbrev pub Puts : List ℕ → List ℕ → (List ℕ → Type 0) → Type 0
+Puts old new IsSo = (text : List ℕ) × (new ≡ old ++ text) × IsSo text
 
 -- a listing is stopped only where all steps of its budget are used [with IsListing]
 abbrev pub StopsAtLimit : Ending → Budget → Type 0

@@ -7,7 +7,7 @@ use Rattle.dutch_bracket.specs.declared.item.Item.{Item}
 use Rattle.dutch_bracket.specs.declared.item.Item.TheVariants.{Psd, NextBracket, WideDifferences, ThirdColours, MissedPreferences, MissedStrong, DownAgain, UpAgain, DownAgainBefore, UpAgainBefore, DownAgainBy, UpAgainBy, DownAgainBeforeBy, UpAgainBeforeBy}
 use Rattle.requests.specs.declared.options.Wording.{Wording}
 use Rattle.requests.specs.declared.options.Wording.TheVariants.{Plain, Words}
-use Rattle.round_lines.specs.ItemTexts.{article_text, points_text}
+use Rattle.round_lines.specs.ItemTexts.{item_words, points_text}
 use Rattle.round_lines.specs.Tellings.{in_wording}
 
 -- C.7: the pairs of the next bracket; where the other quality has as many, its PSD
@@ -33,39 +33,23 @@ value_text wording UpAgainBeforeBy mine theirs = points_text wording mine.up_aga
 
 -- ---- what is compared, in words
 
--- C.7: the pairs of the next bracket; where both have as many, its PSD
-abbrev pub next_meaning : Quality → Quality → List ℕ
-next_meaning mine theirs =
-    if mine.next_pairs == theirs.next_pairs then codes "score differences in the next bracket" else codes "pairs in the next bracket"
-
--- C.6 to C.19: what an item compares in two qualities
-abbrev pub meaning_words : Item → Quality → Quality → List ℕ
-meaning_words Psd mine theirs = codes "score differences"
-meaning_words NextBracket mine theirs = next_meaning mine theirs
-meaning_words WideDifferences mine theirs = codes "colour differences of topscorers' pairs"
-meaning_words ThirdColours mine theirs = codes "colours three times in topscorers' pairs"
-meaning_words MissedPreferences mine theirs = codes "colours preferred and not given"
-meaning_words MissedStrong mine theirs = codes "colours strongly preferred and not given"
-meaning_words DownAgain mine theirs = codes "players who go down again"
-meaning_words UpAgain mine theirs = codes "players who go up again"
-meaning_words DownAgainBefore mine theirs = codes "players who go down again"
-meaning_words UpAgainBefore mine theirs = codes "players who go up again"
-meaning_words DownAgainBy mine theirs = codes "score differences of those players"
-meaning_words UpAgainBy mine theirs = codes "score differences of those players"
-meaning_words DownAgainBeforeBy mine theirs = codes "score differences of those players"
-meaning_words UpAgainBeforeBy mine theirs = codes "score differences of those players"
+-- what an item compares in two qualities; of C.7 the PSD of the next bracket, where both have as many pairs there
+abbrev pub compared_words : Item → Quality → Quality → List ℕ
+compared_words NextBracket mine theirs =
+    if mine.next_pairs == theirs.next_pairs then codes "score differences in the next bracket" else (item_words NextBracket).meaning
+compared_words item mine theirs = (item_words item).meaning
 
 -- ---- a candidate beside the chosen one
 
 -- how a quality stands to the chosen one: the first item in which they differ, and its value in both; or equal, and so behind
 abbrev pub against_line : Quality → Quality → Option Item → List ℕ
 against_line mine chosen (Some item) =
-    codes " " ++ (article_text item ++ (codes " " ++ (value_text Plain item mine chosen ++ (codes " " ++ value_text Plain item chosen mine))))
+    codes " " ++ ((item_words item).article ++ (codes " " ++ (value_text Plain item mine chosen ++ (codes " " ++ value_text Plain item chosen mine))))
 against_line mine chosen None = codes " behind"
 
 -- the item in which a quality is worse, and what it compares
 abbrev pub worse_words : Item → Quality → Quality → List ℕ
-worse_words item mine chosen = codes "is worse at " ++ (article_text item ++ (codes " (" ++ (meaning_words item mine chosen ++ codes "): ")))
+worse_words item mine chosen = codes "is worse at " ++ ((item_words item).article ++ (codes " (" ++ (compared_words item mine chosen ++ codes "): ")))
 
 -- the same in a sentence, with what the item compares
 abbrev pub against_words : Quality → Quality → Option Item → List ℕ

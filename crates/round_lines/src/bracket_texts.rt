@@ -1,17 +1,16 @@
 // The first line of a bracket, as codes and as a sentence, and the last line of a listing of its candidates.
-ghost use Rattle.std.specs.Prelude.{◌≡◌, ◌++◌, IfOk, OnOk, string_bytes};
+ghost use Rattle.std.specs.Prelude.{◌≡◌, ◌++◌, OnOk};
 ghost use Rattle.round_lines.specs.Listings.{ending_text};
 ghost use Rattle.round_lines.specs.CandidateTexts.{bracket_text, bracket_words, kind_text, kind_words};
 ghost use Rattle.round_lines.specs.Tellings.{in_wording};
 
 use crate::listing::Ending;
-use crate::pieces::Piece::{Count, Number, Text};
-use crate::pieces::say;
 use crate::telling::Telling;
 use common_texts::{Page, put_undecided};
 use dutch_arrangements::Shape;
 use dutch_bracket::{BracketKind, Reached};
-use std::alloc::{AllocError, Global};
+use requests::Wording;
+use std::alloc::AllocError;
 
 // What a bracket is for the round, and the same in a sentence, behind the bracket's number.
 fn kind(kind: BracketKind) -> (&'static str, &'static str)
@@ -26,25 +25,45 @@ fn kind(kind: BracketKind) -> (&'static str, &'static str)
     }
 }
 
-/// The bracket of a number: its kind, how many pairs it makes, and how many moved-down players are in them.
-#[tactic(auto, unfolding(crate::specs::CandidateTexts::bracket_text))]
-pub fn bracket(
-    alloc: Global,
-    number: u16,
-    of_kind: BracketKind,
-    shape: Shape,
-) -> Result<String, AllocError>
-    ensures { IfOk result (λ text. string_bytes text ≡ bracket_text number of_kind shape) }
-{
-    let (word, pairs, mdps) = (kind(of_kind).0, shape.pairs, shape.mdps);
-    format!(in alloc; "bracket {number} {word} pairs {pairs} mdps {mdps}\n")
-}
-
-/// Puts the same, as a line or as a sentence.
+/// Puts the line of a bracket: its number, its kind, how many pairs it makes, and how many moved-down players are in
+/// them.
 ///
 /// # Errors
 /// Memory was refused.
-#[tactic(auto, unfolding(crate::specs::CandidateTexts::bracket_text, crate::specs::CandidateTexts::bracket_words))]
+#[tactic(auto, unfolding(crate::specs::CandidateTexts::bracket_text))]
+pub fn put_bracket_line(
+    text: &mut Page,
+    number: u16,
+    of_kind: BracketKind,
+    shape: Shape,
+) -> Result<(), AllocError>
+    ensures { OnOk result (text.new ≡ text.old ++ bracket_text number of_kind shape) }
+{
+    let (word, pairs, mdps) = (kind(of_kind).0, shape.pairs, shape.mdps);
+    write!(text, "bracket {number} {word} pairs {pairs} mdps {mdps}\n")
+}
+
+// Puts the same as a sentence.
+#[tactic(auto, unfolding(crate::specs::CandidateTexts::bracket_words))]
+fn put_bracket_words(
+    text: &mut Page,
+    number: u16,
+    of_kind: BracketKind,
+    shape: Shape,
+) -> Result<(), AllocError>
+    ensures { OnOk result (text.new ≡ text.old ++ bracket_words number of_kind shape) }
+{
+    let (words, pairs, mdps) = (kind(of_kind).1, shape.pairs, shape.mdps);
+    write!(
+        text,
+        "Bracket {number}{words} Pairs: {pairs}. Moved-down players in them: {mdps}.\n"
+    )
+}
+
+/// Puts a bracket, as a line or as a sentence.
+///
+/// # Errors
+/// Memory was refused.
 pub fn put_bracket(
     text: &mut Page,
     telling: &Telling<'_>,
@@ -55,39 +74,16 @@ pub fn put_bracket(
         (bracket_text reached.now.number reached.now.kind shape)
         (bracket_words reached.now.number reached.now.kind shape)) }
 {
-    let number = Number(reached.number());
-    let (line, words) = kind(reached.kind());
-    let (pairs, mdps) = (Count(shape.pairs), Count(shape.mdps));
-    let behind = Text(" Pairs: ");
-    let within = Text(". Moved-down players in them: ");
-    say(
-        text,
-        telling,
-        &[
-            Text("bracket "),
-            number,
-            Text(" "),
-            Text(line),
-            Text(" pairs "),
-            pairs,
-            Text(" mdps "),
-            mdps,
-            Text("\n"),
-        ],
-        &[
-            Text("Bracket "),
-            number,
-            Text(words),
-            behind,
-            pairs,
-            within,
-            mdps,
-            Text(".\n"),
-        ],
-    )
+    match telling.wording {
+        Wording::Plain => put_bracket_line(text, reached.number(), reached.kind(), shape),
+        Wording::Words => put_bracket_words(text, reached.number(), reached.kind(), shape),
+    }
 }
 
 /// Puts the last line of a listing.
+///
+/// # Errors
+/// Memory was refused.
 pub fn put_ending(text: &mut Page, number: u16, ending: Ending) -> Result<(), AllocError>
     ensures { OnOk result (text.new ≡ text.old ++ ending_text number ending) }
 {

@@ -1,60 +1,17 @@
 // The lines and sentences of items that count against a choice (C.04.3 C.6 to C.19).
 ghost use Rattle.std.specs.Prelude.{◌≡◌, ◌++◌, OnOk};
 ghost use Rattle.dutch_bracket.specs.Prelude.{players_counted, quality_in};
-ghost use Rattle.round_lines.specs.ItemTexts.{article_text, list_text, next_line, next_text, next_words};
-ghost use Rattle.round_lines.specs.ItemTexts.{psd_text, said_words, who_text};
+ghost use Rattle.round_lines.specs.ItemTexts.{list_text, next_line, next_text, next_words};
+ghost use Rattle.round_lines.specs.ItemTexts.{psd_text, who_text};
 ghost use Rattle.round_lines.specs.Tellings.{in_wording};
 
+use crate::item_words::words_of;
 use crate::pieces::Piece::{Count, Differences, DifferencesWords, Ranks, Seats, Text};
 use crate::pieces::say;
 use crate::telling::Telling;
 use common_texts::Page;
 use dutch_bracket::{BracketKind, Item, Quality};
 use std::alloc::AllocError;
-
-/// The article of an item.
-pub fn article(item: Item) -> &'static str
-    ensures { result.now ≡ article_text item }
-{
-    match item {
-        Item::Psd => "C.6",
-        Item::NextBracket => "C.7",
-        Item::WideDifferences => "C.8",
-        Item::ThirdColours => "C.9",
-        Item::MissedPreferences => "C.10",
-        Item::MissedStrong => "C.11",
-        Item::DownAgain => "C.12",
-        Item::UpAgain => "C.13",
-        Item::DownAgainBefore => "C.14",
-        Item::UpAgainBefore => "C.15",
-        Item::DownAgainBy => "C.16",
-        Item::UpAgainBy => "C.17",
-        Item::DownAgainBeforeBy => "C.18",
-        Item::UpAgainBeforeBy => "C.19",
-    }
-}
-
-// What an item tells of a choice, in words.
-fn said(item: Item) -> &'static str
-    ensures { result.now ≡ said_words item }
-{
-    match item {
-        Item::Psd => "Score differences",
-        Item::NextBracket => "Pairs that the next bracket can make",
-        Item::WideDifferences => "Get a colour difference over 2, in a pair with a topscorer",
-        Item::ThirdColours => "Get one colour three times in a row, in a pair with a topscorer",
-        Item::MissedPreferences => "Do not get the colour they prefer",
-        Item::MissedStrong => "Do not get the colour they strongly prefer",
-        Item::DownAgain => "Go down, as in the last round",
-        Item::UpAgain => "Go up, as in the last round",
-        Item::DownAgainBefore => "Go down, as two rounds ago",
-        Item::UpAgainBefore => "Go up, as two rounds ago",
-        Item::DownAgainBy => "Score differences of those of C.12",
-        Item::UpAgainBy => "Score differences of those of C.13",
-        Item::DownAgainBeforeBy => "Score differences of those of C.14",
-        Item::UpAgainBeforeBy => "Score differences of those of C.15",
-    }
-}
 
 /// Puts a list of differences, always.
 ///
@@ -68,7 +25,8 @@ pub fn put_psd(
 ) -> Result<(), AllocError>
     ensures { OnOk result (text.new ≡ text.old ++ psd_text telling.now.wording item differences.now) }
 {
-    let (article, said) = (Text(article(item)), Text(said(item)));
+    let item_words = words_of(item);
+    let (article, said) = (Text(item_words.article), Text(item_words.said));
     let (line, words) = (Differences(differences), DifferencesWords(differences));
     say(
         text,
@@ -125,8 +83,8 @@ fn put_next_bracket(
     ensures { OnOk result (text.new ≡ text.old ++ in_wording telling.now.wording
         (next_line (quality_in quality.now)) (next_words (quality_in quality.now))) }
 {
-    let item = Item::NextBracket;
-    let (article, said) = (Text(article(item)), Text(said(item)));
+    let item_words = words_of(Item::NextBracket);
+    let (article, said) = (Text(item_words.article), Text(item_words.said));
     let (pairs, psd) = (Count(quality.next_pairs()), quality.next_psd());
     let (line, words) = (Differences(psd), DifferencesWords(psd));
     let there = Text(". Score differences there: ");
@@ -134,7 +92,7 @@ fn put_next_bracket(
     say(
         text,
         telling,
-        &[Text("C.7 "), pairs, line, Text("\n")],
+        &[article, Text(" "), pairs, line, Text("\n")],
         &[said, Text(": "), pairs, there, words, open, article, close],
     )
 }
@@ -182,7 +140,8 @@ pub fn put_who(
     ensures { OnOk result (text.new
         ≡ text.old ++ who_text telling.now item counted.entry.count counted.entry.seats.now) }
 {
-    let (article, said) = (Text(article(item)), Text(said(item)));
+    let item_words = words_of(item);
+    let (article, said) = (Text(item_words.article), Text(item_words.said));
     let (count, ranks) = (Count(counted.count), Ranks(counted.seats));
     let players = Seats(counted.seats);
     say(

@@ -1,7 +1,7 @@
 //! Lines on what a round is chosen from, as text for people: the round, a bracket, its candidates, the items of a
 //! quality. Specified by the texts, and by the first candidates to come.
 //!
-//! `listing::lines` lists candidates, as many as are asked for, within a budget of steps. `item_texts` and
+//! `listing::put_candidates` lists candidates, as many as are asked for, within a budget of steps. `item_texts` and
 //! `value_texts` have the items that count against a choice (C.6 to C.19). `pieces` puts lines and sentences together.
 //!
 //! To mind: no round is paired here. A call that makes a text needs memory for it, and fails if that is refused.
@@ -11,6 +11,7 @@ mod asked;
 mod board_line;
 pub mod bracket_texts;
 pub mod item_texts;
+mod item_words;
 pub mod listing;
 mod lists;
 mod member_lines;

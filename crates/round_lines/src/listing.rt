@@ -1,18 +1,19 @@
 // The lines of candidates, as many as are asked for, one after the other.
-ghost use Rattle.std.specs.Prelude.{◌≡◌, ◌++◌, IfOk, OnOk, string_bytes, codes};
+ghost use Rattle.std.specs.Prelude.{◌≡◌, ◌++◌, IfOk, OnOk, codes};
 ghost use Rattle.std.specs.List.{flat_map};
 ghost use Rattle.std.specs.Fmt.{decimal};
 ghost use Rattle.dutch_arrangements.specs.Prelude.{Spends};
 ghost use Rattle.dutch_bracket.specs.Prelude.{frame_of};
-ghost use Rattle.round_lines.specs.Listings.{IsListing, StopsAtLimit};
+ghost use Rattle.round_lines.specs.Listings.{IsListing, Puts, StopsAtLimit};
 ghost use Rattle.round_lines.specs.CandidateTexts.{down_text, candidate_text, line_text, pair_text, pairs_text};
 ghost use Rattle.round_lines.specs.CandidateTexts.{start_of};
 
+use common_texts::Page;
 use dutch_arrangements::{Budget, Candidate, Rule, Step};
 use dutch_bracket::Reached;
 use dutch_listing::Candidates;
 use dutch_player::Field;
-use std::alloc::{AllocError, Global};
+use std::alloc::AllocError;
 
 /// How a listing ended.
 #[derive(Clone, Copy)]
@@ -23,13 +24,6 @@ pub enum Ending {
     AtCount,
     /// The limit of steps, which is `used`, was reached first.
     Stopped { used: u64 },
-}
-
-/// Lines of candidates, and how they ended.
-#[derive(Drop)]
-pub struct Listed {
-    pub text: String,
-    pub ending: Ending,
 }
 
 /// A bracket of a field, whose numbers are told as start ranks.
@@ -46,55 +40,50 @@ pub struct RemainingCandidates<'a, 'c, R: Rule> {
     pub candidates: &'c mut Candidates<'a, R>,
 }
 
-/// The lines of the next `count` candidates, or of fewer if no more are left or all steps of the budget are used up
-/// before.
+/// Puts the lines of the next `count` candidates, or of fewer if no more are left or all steps of the budget are used up
+/// before, and says how they end.
+///
+/// # Errors
+/// Memory was refused.
 #[tactic(auto, using(crate::proofs::ListingLemmas::underway_none, crate::proofs::ListingLemmas::underway_line, crate::proofs::ListingLemmas::underway_end, crate::proofs::ListingLemmas::underway_stopped, crate::proofs::ListingLemmas::underway_count))]
-pub fn lines<R: Rule>(
-    alloc: Global,
+pub fn put_candidates<R: Rule>(
+    text: &mut Page,
     coming: RemainingCandidates<'_, '_, R>,
     count: usize,
     budget: &mut Budget,
-) -> Result<Listed, AllocError>
+) -> Result<Ending, AllocError>
     requires { coming.candidates.now.frame ≡ frame_of coming.bracket.field.now coming.bracket.reached.now }
-    ensures listing { IfOk result (λ listed.
-        IsListing (line_text coming.entry.bracket.field.now coming.entry.bracket.reached.now)
-        coming.entry.candidates.now.coming count budget.old.limit listed.ending (string_bytes listed.text)) }
-    ensures stopped { IfOk result (λ listed. StopsAtLimit listed.ending budget.new) }
+    ensures listing { IfOk result (λ ending. Puts text.old text.new
+        (IsListing (line_text coming.entry.bracket.field.now coming.entry.bracket.reached.now)
+        coming.entry.candidates.now.coming count budget.old.limit ending)) }
+    ensures stopped { IfOk result (λ ending. StopsAtLimit ending budget.new) }
     ensures spends { Spends budget.old budget.new }
 {
     let RemainingCandidates {
         bracket,
         candidates,
     } = coming;
-    let mut text = String::new(alloc);
     let mut done = 0;
     while done < count {
         match candidates.next(budget) {
-            Step::Found(candidate) => put_line(&mut text, &bracket, &candidate)?,
-            Step::End => {
-                let ending = Ending::AtEnd;
-                return Ok(Listed { text, ending });
-            }
-            Step::Undecided => {
-                let ending = Ending::Stopped { used: budget.used };
-                return Ok(Listed { text, ending });
-            }
+            Step::Found(candidate) => put_line(text, &bracket, &candidate)?,
+            Step::End => return Ok(Ending::AtEnd),
+            Step::Undecided => return Ok(Ending::Stopped { used: budget.used }),
         }
         done += 1;
     }
-    let ending = Ending::AtCount;
-    Ok(Listed { text, ending })
+    Ok(Ending::AtCount)
 }
 
 /// Puts the line of a candidate: its cursor, its pairs, and its downfloaters.
 #[tactic(auto, unfolding(crate::specs::CandidateTexts::candidate_text))]
 pub fn put_line(
-    text: &mut String,
+    text: &mut Page,
     bracket: &Bracket<'_>,
     candidate: &Candidate,
 ) -> Result<(), AllocError>
-    ensures { OnOk result (string_bytes text.new
-        ≡ string_bytes text.old ++ candidate_text bracket.now.field.now bracket.now.reached.now candidate.now) }
+    ensures { OnOk result (text.new
+        ≡ text.old ++ candidate_text bracket.now.field.now bracket.now.reached.now candidate.now) }
 {
     text.push_str(candidate.cursor().print().as_str())?;
     put_pairs(text, bracket, candidate.s1(), candidate.s2())?;
@@ -118,12 +107,12 @@ impl<'a> Bracket<'a> {
 // Puts the pairs of two lists, place by place.
 #[tactic(auto, using(crate::proofs::ListingLemmas::pairs_end))]
 fn put_pairs(
-    text: &mut String,
+    text: &mut Page,
     bracket: &Bracket<'_>,
     firsts: &[u16],
     seconds: &[u16],
 ) -> Result<(), AllocError>
-    ensures { OnOk result (string_bytes text.new ≡ string_bytes text.old
+    ensures { OnOk result (text.new ≡ text.old
         ++ pairs_text bracket.now.field.now bracket.now.reached.now firsts.now seconds.now) }
 {
     for (i, first) in firsts.iter().enumerate() {
@@ -137,22 +126,22 @@ fn put_pairs(
 
 // Puts two who are paired.
 fn put_pair(
-    text: &mut String,
+    text: &mut Page,
     bracket: &Bracket<'_>,
     first: u16,
     second: u16,
 ) -> Result<(), AllocError>
-    ensures { OnOk result (string_bytes text.new
-        ≡ string_bytes text.old ++ pair_text bracket.now.field.now bracket.now.reached.now first second) }
+    ensures { OnOk result (text.new
+        ≡ text.old ++ pair_text bracket.now.field.now bracket.now.reached.now first second) }
 {
     let (first, second) = (bracket.start_of(first), bracket.start_of(second));
     write!(text, " {first}-{second}")
 }
 
 // Puts those who are left over.
-fn put_down(text: &mut String, bracket: &Bracket<'_>, down: &[u16]) -> Result<(), AllocError>
-    ensures { OnOk result (string_bytes text.new
-        ≡ string_bytes text.old ++ down_text bracket.now.field.now bracket.now.reached.now down.now) }
+fn put_down(text: &mut Page, bracket: &Bracket<'_>, down: &[u16]) -> Result<(), AllocError>
+    ensures { OnOk result (text.new
+        ≡ text.old ++ down_text bracket.now.field.now bracket.now.reached.now down.now) }
 {
     if down.is_empty() {
         return Ok(());
@@ -162,8 +151,8 @@ fn put_down(text: &mut String, bracket: &Bracket<'_>, down: &[u16]) -> Result<()
 }
 
 // Puts players with a blank before each.
-fn put_each(text: &mut String, bracket: &Bracket<'_>, numbers: &[u16]) -> Result<(), AllocError>
-    ensures { OnOk result (string_bytes text.new ≡ string_bytes text.old
+fn put_each(text: &mut Page, bracket: &Bracket<'_>, numbers: &[u16]) -> Result<(), AllocError>
+    ensures { OnOk result (text.new ≡ text.old
         ++ flat_map (λ n. codes " " ++ decimal (start_of bracket.now.field.now bracket.now.reached.now n))
         numbers.now) }
 {

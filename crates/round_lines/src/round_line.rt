@@ -1,5 +1,5 @@
 // The line of a round.
-ghost use Rattle.std.specs.Prelude.{◌≡◌, ◌++◌, IfOk, OnOk, string_bytes};
+ghost use Rattle.std.specs.Prelude.{◌≡◌, ◌++◌, OnOk};
 ghost use Rattle.std.specs.List.{flat_map};
 ghost use Rattle.round_lines.specs.RoundTexts.{bye_text, counts_line, counts_words, round_text};
 ghost use Rattle.round_lines.specs.Tellings.{in_wording};
@@ -9,7 +9,7 @@ use crate::pieces::say;
 use crate::telling::Telling;
 use common_texts::Page;
 use requests::Wording;
-use std::alloc::{AllocError, Global};
+use std::alloc::AllocError;
 
 /// Puts the line of the round: its number, the total of rounds, who is there, how many boards, and who has the bye.
 ///
@@ -19,27 +19,28 @@ use std::alloc::{AllocError, Global};
 pub fn put_round(text: &mut Page, telling: &Telling<'_>, bye: &[u16]) -> Result<(), AllocError>
     ensures { OnOk result (text.new ≡ text.old ++ round_text telling.now bye.now) }
 {
-    let counts = counts(text.allocator(), telling, bye)?;
-    text.push_str(counts.as_str())?;
+    put_counts(text, telling, bye)?;
     put_byes(text, telling, bye)?;
     text.push_str("\n")
 }
 
-// The round and its counts.
+// Puts the round and its counts.
 #[tactic(auto, unfolding(crate::specs::RoundTexts::counts_line, crate::specs::RoundTexts::counts_words))]
-fn counts(alloc: Global, telling: &Telling<'_>, bye: &[u16]) -> Result<String, AllocError>
-    ensures { IfOk result (λ text. string_bytes text
-        ≡ in_wording telling.now.wording (counts_line telling.now bye.now) (counts_words telling.now bye.now)) }
+fn put_counts(text: &mut Page, telling: &Telling<'_>, bye: &[u16]) -> Result<(), AllocError>
+    ensures { OnOk result (text.new ≡ text.old
+        ++ in_wording telling.now.wording (counts_line telling.now bye.now) (counts_words telling.now bye.now)) }
 {
     let (round, total) = (telling.field.round(), telling.field.total());
     let present = telling.field.len();
     let absent = telling.report.players().len().saturating_sub(present);
     let boards = present.saturating_sub(bye.len()) / 2;
     match telling.wording {
-        Wording::Plain => format!(in alloc;
+        Wording::Plain => write!(
+            text,
             "round {round} of {total} present {present} absent {absent} boards {boards}"
         ),
-        Wording::Words => format!(in alloc;
+        Wording::Words => write!(
+            text,
             "Round {round} of {total}. Present: {present}. Absent: {absent}. Boards: {boards}."
         ),
     }

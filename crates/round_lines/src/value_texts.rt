@@ -1,13 +1,12 @@
 // The values of a quality's items as texts, beside those of another one (C.04.3 C.6 to C.19).
 ghost use Rattle.std.specs.Prelude.{◌≡◌, ◌++◌, OnOk, Some};
 ghost use Rattle.dutch_bracket.specs.Prelude.{first_difference, quality_in};
-ghost use Rattle.round_lines.specs.ValueTexts.{against_line, against_words, candidate_text, meaning_words, next_meaning};
+ghost use Rattle.round_lines.specs.ValueTexts.{against_line, against_words, candidate_text, compared_words};
 ghost use Rattle.round_lines.specs.ValueTexts.{next_value, value_text, worse_words};
 
-use crate::item_texts::{article, players_counted};
+use crate::item_texts::players_counted;
+use crate::item_words::words_of;
 use crate::lists::put_listed;
-use crate::pieces::Piece::Text;
-use crate::pieces::put;
 use crate::telling::Telling;
 use common_texts::Page;
 use dutch_arrangements::Candidate;
@@ -64,32 +63,15 @@ fn put_value(
     }
 }
 
-// What is compared of the next bracket.
-fn next_meaning(mine: &Quality, theirs: &Quality) -> &'static str
-    ensures { result.now ≡ next_meaning (quality_in mine.now) (quality_in theirs.now) }
-{
-    if mine.next_pairs() == theirs.next_pairs() {
-        "score differences in the next bracket"
-    } else {
-        "pairs in the next bracket"
-    }
-}
-
-// What an item compares in two qualities.
-fn meaning(item: Item, mine: &Quality, theirs: &Quality) -> &'static str
-    ensures { result.now ≡ meaning_words item (quality_in mine.now) (quality_in theirs.now) }
+// What an item compares in two qualities; of C.7 the PSD of the next bracket, where both have as many pairs there.
+fn compared_words(item: Item, mine: &Quality, theirs: &Quality) -> &'static str
+    ensures { result.now ≡ compared_words item (quality_in mine.now) (quality_in theirs.now) }
 {
     match item {
-        Item::Psd => "score differences",
-        Item::NextBracket => next_meaning(mine, theirs),
-        Item::WideDifferences => "colour differences of topscorers' pairs",
-        Item::ThirdColours => "colours three times in topscorers' pairs",
-        Item::MissedPreferences => "colours preferred and not given",
-        Item::MissedStrong => "colours strongly preferred and not given",
-        Item::DownAgain | Item::DownAgainBefore => "players who go down again",
-        Item::UpAgain | Item::UpAgainBefore => "players who go up again",
-        Item::DownAgainBy | Item::UpAgainBy | Item::DownAgainBeforeBy | Item::UpAgainBeforeBy =>
-            "score differences of those players",
+        Item::NextBracket if mine.next_pairs() == theirs.next_pairs() => {
+            "score differences in the next bracket"
+        }
+        _ => words_of(item).meaning,
     }
 }
 
@@ -102,7 +84,7 @@ fn put_against_line(text: &mut Page, of: Beside<'_>, item: Option<Item>) -> Resu
     let Some(item) = item else {
         return text.push_str(" behind");
     };
-    let article = article(item);
+    let article = words_of(item).article;
     write!(text, " {article} ")?;
     put_value(text, Wording::Plain, item, of)?;
     text.push_str(" ")?;
@@ -110,36 +92,21 @@ fn put_against_line(text: &mut Page, of: Beside<'_>, item: Option<Item>) -> Resu
 }
 
 // Puts the item in which a quality is worse, and what it compares, in words.
-fn put_worse(
-    text: &mut Page,
-    telling: &Telling<'_>,
-    of: Beside<'_>,
-    item: Item,
-) -> Result<(), AllocError>
+fn put_worse(text: &mut Page, of: Beside<'_>, item: Item) -> Result<(), AllocError>
     ensures { OnOk result (text.new
         ≡ text.old ++ worse_words item (quality_in of.entry.0.now) (quality_in of.entry.1.now)) }
 {
-    let (article, meaning) = (Text(article(item)), Text(meaning(item, of.0, of.1)));
-    let front = Text("is worse at ");
-    put(
-        text,
-        telling,
-        &[front, article, Text(" ("), meaning, Text("): ")],
-    )
+    let (article, meaning) = (words_of(item).article, compared_words(item, of.0, of.1));
+    write!(text, "is worse at {article} ({meaning}): ")
 }
 
 // Puts the same as `put_against_line`, in words.
-fn put_against_words(
-    text: &mut Page,
-    telling: &Telling<'_>,
-    of: Beside<'_>,
-    item: Option<Item>,
-) -> Result<(), AllocError>
+fn put_against_words(text: &mut Page, of: Beside<'_>, item: Option<Item>) -> Result<(), AllocError>
     ensures { OnOk result (text.new
         ≡ text.old ++ against_words (quality_in of.entry.0.now) (quality_in of.entry.1.now) item) }
 {
     match item {
-        Some(item) => put_worse_by(text, telling, of, item),
+        Some(item) => put_worse_by(text, of, item),
         None => {
             text.push_str("is as good, and stands behind the chosen one in the order of article D.")
         }
@@ -147,16 +114,11 @@ fn put_against_words(
 }
 
 // Puts the item in which a quality is worse, and its value in both, in words.
-fn put_worse_by(
-    text: &mut Page,
-    telling: &Telling<'_>,
-    of: Beside<'_>,
-    item: Item,
-) -> Result<(), AllocError>
+fn put_worse_by(text: &mut Page, of: Beside<'_>, item: Item) -> Result<(), AllocError>
     ensures { OnOk result (text.new
         ≡ text.old ++ against_words (quality_in of.entry.0.now) (quality_in of.entry.1.now) (Some item)) }
 {
-    put_worse(text, telling, of, item)?;
+    put_worse(text, of, item)?;
     put_value(text, Wording::Words, item, of)?;
     text.push_str(", where the chosen one has ")?;
     put_value(text, Wording::Words, item, (of.1, of.0))?;
@@ -183,6 +145,6 @@ pub fn put_candidate(
             text.push_str(candidate.cursor().print().as_str())?;
             put_against_line(text, of, item)
         }
-        Wording::Words => put_against_words(text, telling, of, item),
+        Wording::Words => put_against_words(text, of, item),
     }
 }

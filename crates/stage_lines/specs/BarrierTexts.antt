@@ -7,10 +7,6 @@ use Rattle.requests.specs.declared.options.Wording.{Wording}
 use Rattle.round_lines.specs.CandidateTexts.{rank_text}
 use Rattle.round_lines.specs.Tellings.{TellingFacts, in_wording, seats_words}
 
--- there is no pairing
-abbrev pub no_pairing_text : Wording → List ℕ
-no_pairing_text wording = in_wording wording (codes "no pairing\n") (codes "There is no pairing of the present players.\n")
-
 -- that an odd number of players are present and nobody may have the bye
 abbrev pub no_bye_text : Wording → List ℕ
 no_bye_text wording =
@@ -19,16 +15,16 @@ no_bye_text wording =
 module _ (telling : TellingFacts) where
   module _ (barrier : Barrier) where
     -- the players who have a label, by rank
-    abbrev pub labelled : ℕ → List ℕ
-    labelled l = filter (λ seat. label barrier seat == l) (everybody telling.facts)
+    abbrev pub seats_with_label : ℕ → List ℕ
+    seats_with_label l = filter (λ seat. label barrier seat == l) (everybody telling.facts)
 
     -- the same by their start ranks
-    abbrev pub labelled_text : ℕ → List ℕ
-    labelled_text l = flat_map (λ seat. codes " " ++ rank_text telling.facts seat) (labelled l)
+    abbrev pub ranks_with_label : ℕ → List ℕ
+    ranks_with_label l = flat_map (λ seat. codes " " ++ rank_text telling.facts seat) (seats_with_label l)
 
     -- who blocks, by rank, if anybody does
     abbrev pub blockers_text : List ℕ
-    blockers_text = if has_blockers telling.facts barrier then labelled_text 0 else codes " -"
+    blockers_text = if has_blockers telling.facts barrier then ranks_with_label 0 else codes " -"
 
     -- the line of those who block
     unfoldable pub blocked_line : List ℕ
@@ -36,16 +32,16 @@ module _ (telling : TellingFacts) where
 
     -- the same in a sentence
     unfoldable pub blocked_words : List ℕ
-    blocked_words = codes "Blocking players: " ++ (seats_words telling (labelled 0) ++ codes ".\n")
+    blocked_words = codes "Blocking players: " ++ (seats_words telling (seats_with_label 0) ++ codes ".\n")
 
     -- a group: its players, by rank
     unfoldable pub group_line : ℕ → List ℕ
-    group_line l = codes "group" ++ (labelled_text l ++ codes "\n")
+    group_line l = codes "group" ++ (ranks_with_label l ++ codes "\n")
 
     -- the same in a sentence
     unfoldable pub group_words : ℕ → List ℕ
     group_words l =
-        codes "Odd group, whose players may meet only each other and the blocking players: " ++ (seats_words telling (labelled l) ++ codes ".\n")
+        codes "Odd group, whose players may meet only each other and the blocking players: " ++ (seats_words telling (seats_with_label l) ++ codes ".\n")
 
     -- a group, in a line or in a sentence
     abbrev pub group_text : ℕ → List ℕ

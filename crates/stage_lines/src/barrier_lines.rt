@@ -4,7 +4,7 @@ ghost use Rattle.std.specs.Prelude.{◌≡◌, ◌++◌, IfOk, OnOk};
 ghost use Rattle.dutch_rounds.specs.Prelude.{everybody};
 ghost use Rattle.dutch_bracket.specs.Prelude.{AreSeats};
 ghost use Rattle.stage_lines.specs.BarrierTexts.{barrier_text, blocked_line, blocked_words, group_text};
-ghost use Rattle.stage_lines.specs.BarrierTexts.{groups_text, labelled, lacking_text};
+ghost use Rattle.stage_lines.specs.BarrierTexts.{groups_text, seats_with_label, lacking_text};
 ghost use Rattle.round_lines.specs.Tellings.{in_wording};
 
 use common_texts::Page;
@@ -58,7 +58,7 @@ fn put_blocked(text: &mut Page, telling: &Telling<'_>, barrier: &Barrier) -> Res
     ensures { OnOk result (text.new ≡ text.old ++ in_wording telling.now.wording
         (blocked_line telling.now barrier.now) (blocked_words telling.now barrier.now)) }
 {
-    let seats = labelled(text.allocator(), telling, barrier, 0)?;
+    let seats = seats_with_label(text.allocator(), telling, barrier, 0)?;
     put_blockers(text, telling, barrier, seats.as_slice())
 }
 
@@ -70,7 +70,7 @@ fn put_blockers(
     barrier: &Barrier,
     seats: &[u16],
 ) -> Result<(), AllocError>
-    requires { seats.now ≡ labelled telling.now barrier.now 0 }
+    requires { seats.now ≡ seats_with_label telling.now barrier.now 0 }
     ensures { OnOk result (text.new ≡ text.old ++ in_wording telling.now.wording
         (blocked_line telling.now barrier.now) (blocked_words telling.now barrier.now)) }
 {
@@ -112,7 +112,7 @@ fn put_group(
 ) -> Result<(), AllocError>
     ensures { OnOk result (text.new ≡ text.old ++ group_text telling.now barrier.now group) }
 {
-    let seats = labelled(text.allocator(), telling, barrier, group)?;
+    let seats = seats_with_label(text.allocator(), telling, barrier, group)?;
     let (line, words) = (Ranks(seats.as_slice()), Seats(seats.as_slice()));
     let odd = "Odd group, whose players may meet only each other and the blocking players: ";
     say(
@@ -124,13 +124,13 @@ fn put_group(
 }
 
 // The players with a label, by rank.
-fn labelled(
+fn seats_with_label(
     alloc: Global,
     telling: &Telling<'_>,
     barrier: &Barrier,
     group: u16,
 ) -> Result<Vec<u16>, AllocError>
-    ensures { IfOk result (λ members. members.items ≡ labelled telling.now barrier.now group) }
+    ensures { IfOk result (λ members. members.items ≡ seats_with_label telling.now barrier.now group) }
 {
     let all = all_seats(telling.field);
     all.as_slice()

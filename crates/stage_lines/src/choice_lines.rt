@@ -39,9 +39,8 @@ fn put_choice_line(text: &mut Page, telling: &Telling<'_>, stage: &Stage) -> Res
         field: telling.field,
         reached: stage.reached(),
     };
-    let mut line = String::from_str(text.allocator(), "chosen ")?;
-    put_line(&mut line, &bracket, stage.candidate())?;
-    text.push_str(line.as_str())
+    text.push_str("chosen ")?;
+    put_line(text, &bracket, stage.candidate())
 }
 
 // Puts what is chosen in a bracket as sentences.

@@ -16,7 +16,7 @@ returns-in-Ok-clause-replies g c = inr (inr (record { sound = c.in-Ok.ensures.in
 
 pub returns-in-Err-Read-clause-replies : goal.returns-in-Err-Read-clause-replies
 returns-in-Err-Read-clause-replies g c =
-    inr (inl (record { failed = rw c.in-Err-Read.field-0-is at c.in-Err-Read.ensures.input; tells = c.read_failed.ensures }))
+    inr (inl (record { failed = rw c.in-Err-Read.field-0-is at c.in-Err-Read.ensures.input; tells = c.read_fault.ensures }))
 
 pub returns-clause-replies : goal.returns-clause-replies
 returns-clause-replies g c =

@@ -2,9 +2,9 @@
 use Rattle.std.proofs.Common.{◌++◌, ◌∙◌, List, ℕ, ap}
 use Rattle.round_lines.proofs.Joined.{joined}
 use Rattle.round_lines.specs.Tellings.{TellingFacts}
-use Rattle.stage_lines.specs.BarrierTexts.{no_pairing_text, reason_text}
-use Rattle.command_line.specs.ExplainAnswers.{asked_text}
-use Rattle.command_line.proofs.not_paired.put_because.Goals as goal
+use Rattle.stage_lines.specs.BarrierTexts.{reason_text}
+use Rattle.command_line.specs.ExplainAnswers.{asked_text, no_pairing_text}
+use Rattle.command_line.proofs.not_paired.put_no_pairing.Goals as goal
 
 pub returns : goal.returns
 returns c =
