@@ -1,11 +1,11 @@
 -- Each obstacle that is told against the bye is there (C.04.3 C.2): the round in which a player had it, or a point without a game.
 use Rattle.std.proofs.Common.{◌≡◌, ℕ, zero, suc, Bool, true, false, cond, nat_eq, ◌+◌, ◌-◌, ◌≤◌, ◌<◌, not, List, [], ◌∷◌, Option, Some, None, Result, Ok, Err, refl, sym, ap, ◌∙◌, subst, inl, inr, arith, find, take, length, get_or}
 use Rattle.std.specs.Prelude.{All}
-use Rattle.std.specs.List.{AllByRecursion, IsDistinct, list_any}
+use Rattle.std.specs.Option.{unwrap_or}
+use Rattle.std.specs.List.{AllByRecursion, IsDistinct, list_any, range_with_len}
 use Rattle.std.proofs.lemmas.Bool.{cases_eq, eq-eqb, or_cases, true≢false}
 use Rattle.std.proofs.lemmas.List.Elements.{All-from_recursion, All-get_or}
 use Rattle.std.proofs.lemmas.List.Sorted.{All-permutation}
-use Rattle.dutch_arrangements.specs.Prelude.{numbers_from}
 use Rattle.trf16_report.specs.declared.cell.Cell.{Cell}
 use Rattle.trf16_report.specs.declared.cell.Cell.TheVariants.{Blank}
 use Rattle.trf16_report.specs.declared.cell.Colour.{Colour}
@@ -16,9 +16,9 @@ use Rattle.dutch_player.specs.declared.fault.FieldFault.{FieldFault}
 use Rattle.dutch_player.specs.Prelude.{Facts, SeatFacts, bars_bye, facts_of, goes_before, initial_of, may_bye, no_seat, ranked, seat_at, seat_of, seats_of, total_for}
 use Rattle.answer_laws.specs.InsteadLaws.{StandsAgainstBye}
 use Rattle.answer_laws.proofs.ObstacleTruth.{first_is}
-use Rattle.player_lines.specs.Obstacles.{against_bye, first_bye, has_had_bye, is_even, since}
+use Rattle.player_lines.specs.Obstacles.{against_bye, first_bye, has_had_bye, even_without_bye}
 use Rattle.player_lines.specs.declared.obstacle.Obstacle.{Obstacle}
-use Rattle.player_lines.specs.declared.obstacle.Obstacle.TheVariants.{Even}
+use Rattle.player_lines.specs.declared.obstacle.Obstacle.TheVariants.{Even, HadBye}
 
 -- ---- the cells of a seat
 
@@ -87,8 +87,8 @@ barred_at (cell ∷ cells) (suc count) barred = elim (or_cases (bars_bye cell) (
 ]
 
 none_at : (test : ℕ → Bool) (first count : ℕ) (t : Bool) → test first ≡ t
-    → (find test (numbers_from (suc first) count) ≡ None → (number : ℕ) → suc first ≤ number → number < suc first + count → test number ≡ false)
-    → cond t (Some first) (find test (numbers_from (suc first) count)) ≡ None → (number : ℕ) → first ≤ number → number < first + suc count → test number ≡ false
+    → (find test (range_with_len (first + 1) count) ≡ None → (number : ℕ) → first + 1 ≤ number → number < first + 1 + count → test number ≡ false)
+    → cond t (Some first) (find test (range_with_len (first + 1) count)) ≡ None → (number : ℕ) → first ≤ number → number < first + suc count → test number ≡ false
 none_at test first count true is later e number low high = absurd (let bad : Some first ≡ None = e in cc)
 none_at test first count false is later e number low high = elim (cases_eq number first) [
   | inl same ↦ ap test same ∙ is
@@ -96,9 +96,9 @@ none_at test first count false is later e number low high = elim (cases_eq numbe
 ]
 
 -- where no number is found, none passes
-none_passes : (test : ℕ → Bool) (first count : ℕ) → find test (numbers_from first count) ≡ None → (number : ℕ) → first ≤ number → number < first + count → test number ≡ false
+none_passes : (test : ℕ → Bool) (first count : ℕ) → find test (range_with_len first count) ≡ None → (number : ℕ) → first ≤ number → number < first + count → test number ≡ false
 none_passes test first zero e = λ number low high. absurd (omega (arith, low, high))
-none_passes test first (suc count) e = none_at test first count (test first) refl (none_passes test (suc first) count) e
+none_passes test first (suc count) e = none_at test first count (test first) refl (none_passes test (first + 1) count) e
 
 not_barred : (may barred : Bool) → may ≡ false → may ≡ not barred → barred ≡ true
 not_barred may true off is = refl
@@ -121,18 +121,18 @@ module _ (sheet : Sheet) (facts : Facts) (bye : List ℕ) (seat : ℕ) (by : IsB
       let same : suc place.0 - 1 ≡ place.0 = omega arith in
       true≢false (sym place.2 ∙ ap (λ k. bars_bye (get_or cells k Blank)) (sym same) ∙ passed)
 
-  since_then : (found : Option ℕ) → first_bye sheet start ≡ found → (seat_at facts seat).may_bye ≡ false → StandsAgainstBye sheet facts bye seat (since found)
-  since_then (Some round) e off =
+  barred_since : (found : Option ℕ) → first_bye sheet start ≡ found → (seat_at facts seat).may_bye ≡ false → StandsAgainstBye sheet facts bye seat (HadBye (unwrap_or found 0))
+  barred_since (Some round) e off =
       let there = first_is (has_had_bye sheet start) 1 (rounds_played sheet) round e in
       (off, record { from_one = there.from; within = omega (arith, there.within); barred = there.passes; none_before = there.before })
-  since_then None e off = absurd (some_round off e)
+  barred_since None e off = absurd (some_round off e)
 
-  bye_at : (may : Bool) (obstacle : Obstacle) → (seat_at facts seat).may_bye ≡ may → cond may (is_even bye) (Some (since (first_bye sheet start))) ≡ Some obstacle
+  bye_at : (may : Bool) (obstacle : Obstacle) → (seat_at facts seat).may_bye ≡ may → cond may (even_without_bye bye) (Some (HadBye (unwrap_or (first_bye sheet start) 0))) ≡ Some obstacle
       → StandsAgainstBye sheet facts bye seat obstacle
   bye_at false obstacle off e =
-      let is : since (first_bye sheet start) ≡ obstacle = cc in subst (StandsAgainstBye sheet facts bye seat) is (since_then (first_bye sheet start) refl off)
+      let is : HadBye (unwrap_or (first_bye sheet start) 0) ≡ obstacle = cc in subst (StandsAgainstBye sheet facts bye seat) is (barred_since (first_bye sheet start) refl off)
   bye_at true obstacle may e = nobody bye obstacle may e where
-    nobody : (all : List ℕ) (obstacle : Obstacle) → (seat_at facts seat).may_bye ≡ true → is_even all ≡ Some obstacle → StandsAgainstBye sheet facts all seat obstacle
+    nobody : (all : List ℕ) (obstacle : Obstacle) → (seat_at facts seat).may_bye ≡ true → even_without_bye all ≡ Some obstacle → StandsAgainstBye sheet facts all seat obstacle
     nobody [] obstacle may e = let is : Even ≡ obstacle = cc in subst (StandsAgainstBye sheet facts [] seat) is (may, refl)
     nobody (first ∷ rest) obstacle may e = cc
 

@@ -1,8 +1,8 @@
 -- Each obstacle that is told against a meeting is there.
 use Rattle.std.proofs.Common.{◌≡◌, ◌≢◌, ◌∙◌, ℕ, zero, suc, Bool, true, false, cond, not, ◌&&◌, ◌||◌, ◌==◌, ◌+◌, ◌≤◌, ◌<◌, Option, Some, None, refl, sym, ap, inl, inr, arith, find}
+use Rattle.std.specs.List.{range_with_len}
 use Rattle.std.specs.Option.{option_map_or}
 use Rattle.std.proofs.lemmas.Bool.{eq-eqb, eqb-true, true≢false, and_parts, cases_eq}
-use Rattle.dutch_arrangements.specs.Prelude.{numbers_from}
 use Rattle.dutch_player.specs.Prelude.{Facts, seat_at, opponent_played, clash, colours_allow, is_absolute, is_topscorer, is_same, preference}
 use Rattle.dutch_player.specs.declared.preference.Strength.{Strength}
 use Rattle.dutch_player.specs.declared.preference.Strength.TheVariants.{Absolute, Strong, Mild}
@@ -24,8 +24,8 @@ pub record IsFirst (test : ℕ → Bool) (first count number : ℕ) : Type 0 whe
   pub before : (earlier : ℕ) → first ≤ earlier → earlier < number → test earlier ≡ false
 
 first_at : (test : ℕ → Bool) (first count number : ℕ) (t : Bool) → test first ≡ t
-    → (find test (numbers_from (suc first) count) ≡ Some number → IsFirst test (suc first) count number)
-    → cond t (Some first) (find test (numbers_from (suc first) count)) ≡ Some number → IsFirst test first (suc count) number
+    → (find test (range_with_len (first + 1) count) ≡ Some number → IsFirst test (first + 1) count number)
+    → cond t (Some first) (find test (range_with_len (first + 1) count)) ≡ Some number → IsFirst test first (suc count) number
 first_at test first count number true is later e =
     let same : first ≡ number = cc in
     record {
@@ -46,9 +46,9 @@ first_at test first count number false is later e =
       ];
     }
 
-pub first_is : (test : ℕ → Bool) (first count number : ℕ) → find test (numbers_from first count) ≡ Some number → IsFirst test first count number
+pub first_is : (test : ℕ → Bool) (first count number : ℕ) → find test (range_with_len first count) ≡ Some number → IsFirst test first count number
 first_is test first zero number e = cc
-first_is test first (suc count) number e = first_at test first count number (test first) refl (first_is test (suc first) count number) e
+first_is test first (suc count) number e = first_at test first count number (test first) refl (first_is test (first + 1) count number) e
 
 is_other : (found : Option ℕ) (other : ℕ) → option_map_or (λ start. start == other) found false ≡ true → found ≡ Some other
 is_other (Some start) other e = ap Some (eqb-true start other e)

@@ -1,2 +1,1 @@
 pub mod PlayerLemmas
-pub mod ObstacleLemmas

@@ -1,45 +1,51 @@
--- What a player brings to the next round: in one line, or in five sentences.
+-- What a player brings to the next round: in one line, or in five sentences. Each part has its text in either wording.
 use Rattle.std.specs.Prelude.{ℕ, zero, suc, ◌+◌, Bool, true, false, ◌==◌, nat_lt, if◌then◌else◌, List, [], ◌∷◌, ◌++◌, Option, Some, None, codes, ℤ, pos, int_lt}
 use Rattle.std.specs.List.{flat_map}
 use Rattle.std.specs.Fmt.{decimal, signed_decimal}
-use Rattle.trf16_report.specs.Prelude.{Sheet, cell_in, rounds_played}
+use Rattle.trf16_report.specs.Prelude.{cell_in, rounds_played}
 use Rattle.trf16_report.specs.declared.cell.Colour.{Colour}
 use Rattle.trf16_report.specs.declared.cell.Colour.TheVariants.{White, Black}
 use Rattle.dutch_player.specs.declared.float.Float.{Float}
 use Rattle.dutch_player.specs.declared.float.Float.TheVariants.{Up, Down}
-use Rattle.dutch_player.specs.Prelude.{SeatFacts, Facts, seat_at, colour_played, is_topscorer, difference, preference}
-use Rattle.round_lines.specs.PreferenceTexts.{colour_text, preference_text, preference_words}
+use Rattle.dutch_player.specs.Prelude.{SeatFacts, seat_at, colour_played, is_topscorer, difference, preference}
+use Rattle.requests.specs.declared.options.Wording.{Wording}
+use Rattle.round_lines.specs.PreferenceTexts.{preference_text, preference_words}
 use Rattle.round_lines.specs.Tellings.{TellingFacts, in_wording, player_words, players_words}
 use Rattle.common_texts.specs.Prelude.{halves_text}
 
 -- a number put to its place among ascending ones, where it does not stand among them
-abbrev pub placed : ℕ → List ℕ → List ℕ
-placed n [] = n ∷ []
-placed n (first ∷ rest) = if n == first then first ∷ rest else (if nat_lt n first then n ∷ first ∷ rest else first ∷ placed n rest)
+abbrev pub with_number : ℕ → List ℕ → List ℕ
+with_number n [] = n ∷ []
+with_number n (first ∷ rest) = if n == first then first ∷ rest else (if nat_lt n first then n ∷ first ∷ rest else first ∷ with_number n rest)
 
 -- some numbers, ascending and each once
-abbrev pub ascending : List ℕ → List ℕ
-ascending [] = []
-ascending (n ∷ rest) = placed n (ascending rest)
+abbrev pub ascending_numbers : List ℕ → List ℕ
+ascending_numbers [] = []
+ascending_numbers (n ∷ rest) = with_number n (ascending_numbers rest)
 
--- the colour of a game that was played; a dot where none was
-abbrev pub game_text : Option Colour → List ℕ
-game_text (Some White) = codes " w"
-game_text (Some Black) = codes " b"
-game_text None = codes " ."
+-- start ranks, each behind a blank; a dash for none
+abbrev pub starts_text : List ℕ → List ℕ
+starts_text [] = codes " -"
+starts_text (start ∷ starts) = flat_map (λ other. codes " " ++ decimal other) (start ∷ starts)
 
--- A.6: the colours of a player's games in so many rounds from the first on
-abbrev pub games_text : Sheet → ℕ → ℕ → List ℕ
-games_text sheet start zero = []
-games_text sheet start (suc rounds) = games_text sheet start rounds ++ game_text (colour_played (cell_in sheet start (rounds + 1)))
+-- what parts a game from what stands before it, by how many games do
+abbrev pub mark_text : Wording → ℕ → List ℕ
+mark_text wording zero = codes " "
+mark_text wording (suc before) = in_wording wording (codes " ") (codes ", ")
 
--- the same, with a dash where no round was paired
-abbrev pub colours_text : Sheet → ℕ → ℕ → List ℕ
-colours_text sheet start rounds = if rounds == 0 then codes " -" else games_text sheet start rounds
+-- the colour of a game that was played; that none was
+abbrev pub played_text : Wording → Option Colour → List ℕ
+played_text wording (Some White) = in_wording wording (codes "w") (codes "white")
+played_text wording (Some Black) = in_wording wording (codes "b") (codes "black")
+played_text wording None = in_wording wording (codes ".") (codes "none")
 
--- A.6: a colour difference, with its sign where it is not 0
-abbrev pub difference_text : ℤ → List ℕ
-difference_text games = if int_lt (pos 0) games then codes "+" ++ signed_decimal games else signed_decimal games
+-- the same behind the games of the rounds before it, so many
+unfoldable pub game_text : Wording → ℕ → Option Colour → List ℕ
+game_text wording before played = mark_text wording before ++ played_text wording played
+
+-- what stands before a number with its sign, where it is above 0
+abbrev pub plus_text : ℤ → List ℕ
+plus_text games = if int_lt (pos 0) games then codes "+" else []
 
 -- A.4: the float of a round
 abbrev pub float_text : Option Float → List ℕ
@@ -47,113 +53,73 @@ float_text (Some Up) = codes "up"
 float_text (Some Down) = codes "down"
 float_text None = codes "none"
 
--- C.1: those whom a player has met, by start rank; a dash if they have met nobody
-abbrev pub met_text : List ℕ → List ℕ
-met_text [] = codes " -"
-met_text (start ∷ starts) = flat_map (λ other. codes " " ++ decimal other) (ascending (start ∷ starts))
-
 -- yes or no
 abbrev pub yes_text : Bool → List ℕ
 yes_text true = codes "yes"
 yes_text false = codes "no"
 
--- ---- the line
+module _ (telling : TellingFacts) (seat : ℕ) where
+  -- what is known of the player of a seat
+  abbrev pub player : SeatFacts
+  player = seat_at telling.facts seat
 
--- who a player is, and their score (A.2)
-unfoldable pub score_text : SeatFacts → List ℕ
-score_text seat = codes "player " ++ (decimal seat.start ++ (codes " score " ++ halves_text seat.score))
+  -- A.2: who a player is, and their score
+  abbrev pub score_text : List ℕ
+  score_text =
+      in_wording telling.wording (codes "player " ++ (decimal player.start ++ (codes " score " ++ halves_text player.score)))
+      (player_words telling.sheet player.start ++ (codes " has " ++ (halves_text player.score ++ codes " points.\n")))
 
--- A.6: what a player's colours come to
-unfoldable pub wish_text : SeatFacts → List ℕ
-wish_text seat = codes " difference " ++ (difference_text (difference seat.played) ++ (codes " prefers " ++ preference_text (preference seat.played)))
+  -- A.6: the colours of a player's games in so many rounds from the first on
+  abbrev pub games_text : ℕ → List ℕ
+  games_text zero = []
+  games_text (suc rounds) = games_text rounds ++ game_text telling.wording rounds (colour_played (cell_in telling.sheet player.start (rounds + 1)))
 
--- A.4: the floats of the last round and of the one before it
-unfoldable pub floats_text : SeatFacts → List ℕ
-floats_text seat = codes " floats " ++ (float_text seat.latest ++ (codes " " ++ float_text seat.earlier))
+  -- the same in all rounds that were paired; that there was none
+  abbrev pub all_games_text : List ℕ
+  all_games_text =
+      if rounds_played telling.sheet == 0 then in_wording telling.wording (codes " -") (codes " none") else games_text (rounds_played telling.sheet)
 
--- A.7, C.2: whether a player is a topscorer, and whether they may have the bye
-unfoldable pub rights_text : Facts → SeatFacts → List ℕ
-rights_text facts seat = codes " topscorer " ++ (yes_text (is_topscorer facts seat) ++ (codes " bye " ++ (yes_text seat.may_bye ++ codes "\n")))
+  -- A.6: a player's colour difference, with its sign where it is not 0, which a line alone has
+  abbrev pub difference_text : List ℕ
+  difference_text =
+      in_wording telling.wording (codes " difference " ++ (plus_text (difference player.played) ++ signed_decimal (difference player.played))) []
 
--- a player's score, and their colours in a report
-unfoldable pub history_text : Sheet → SeatFacts → List ℕ
-history_text sheet seat = score_text seat ++ (codes " colours" ++ (colours_text sheet seat.start (rounds_played sheet) ++ wish_text seat))
+  -- A.6: the colour that a player prefers
+  abbrev pub prefers_text : List ℕ
+  prefers_text =
+      in_wording telling.wording (codes " prefers " ++ preference_text (preference player.played))
+      (codes ". Preference: " ++ (preference_words (preference player.played) ++ codes ".\n"))
 
--- the line of one of the present players
-unfoldable pub player_line : Sheet → Facts → SeatFacts → List ℕ
-player_line sheet facts seat = history_text sheet seat ++ (floats_text seat ++ (codes " met" ++ (met_text seat.opponents ++ rights_text facts seat)))
+  -- A.6: a player's colours, and what they come to
+  abbrev pub colours_text : List ℕ
+  colours_text = in_wording telling.wording (codes " colours") (codes "Colours so far:") ++ (all_games_text ++ (difference_text ++ prefers_text))
 
--- ---- the sentences
+  -- A.4: the floats of the last round and of the one before it
+  abbrev pub floats_text : List ℕ
+  floats_text =
+      in_wording telling.wording (codes " floats " ++ (float_text player.latest ++ (codes " " ++ float_text player.earlier)))
+      (codes "Floats: " ++ (float_text player.latest ++ (codes " in the last round, " ++ (float_text player.earlier ++ codes " in the round before.\n"))))
 
--- A.2: a player's score
-unfoldable pub score_words : Sheet → SeatFacts → List ℕ
-score_words sheet seat = player_words sheet seat.start ++ (codes " has " ++ (halves_text seat.score ++ codes " points.\n"))
+  -- C.1: those whom a player has met, by start rank
+  abbrev pub met_text : List ℕ
+  met_text =
+      in_wording telling.wording (codes " met" ++ starts_text (ascending_numbers player.opponents))
+      (codes "Has met: " ++ (players_words telling.sheet (ascending_numbers player.opponents) ++ codes ".\n"))
 
--- A.6: the colour of a round's game; that there was none
-abbrev pub game_words : Option Colour → List ℕ
-game_words (Some colour) = colour_text colour
-game_words None = codes "none"
+  -- A.7, C.2: whether a player is a topscorer, and whether they may have the bye
+  abbrev pub rights_text : List ℕ
+  rights_text =
+      let topscorer = yes_text (is_topscorer telling.facts player) in
+      let bye = yes_text player.may_bye in
+      in_wording telling.wording (codes " topscorer " ++ (topscorer ++ (codes " bye " ++ (bye ++ codes "\n"))))
+      (codes "Topscorer: " ++ (topscorer ++ (codes ". May have the bye: " ++ (bye ++ codes ".\n"))))
 
--- what parts a round from those before it
-abbrev pub comma_behind : ℕ → List ℕ
-comma_behind zero = []
-comma_behind (suc rounds) = codes ", "
-
--- the colour of a round's game behind those of the rounds before it, so many
-unfoldable pub game_behind : ℕ → Option Colour → List ℕ
-game_behind before played = comma_behind before ++ game_words played
-
--- A.6: the colours of a player's games in so many rounds from the first on
-abbrev pub games_words : Sheet → ℕ → ℕ → List ℕ
-games_words sheet start zero = []
-games_words sheet start (suc rounds) = games_words sheet start rounds ++ game_behind rounds (colour_played (cell_in sheet start (rounds + 1)))
-
--- the same, where a round was paired
-abbrev pub colours_words : Sheet → ℕ → ℕ → List ℕ
-colours_words sheet start rounds = if rounds == 0 then codes "none" else games_words sheet start rounds
-
--- A.6: a player's colours in a report, and what they come to
-unfoldable pub wish_words : Sheet → SeatFacts → List ℕ
-wish_words sheet seat =
-    codes "Colours so far: " ++ (colours_words sheet seat.start (rounds_played sheet)
-    ++ (codes ". Preference: " ++ (preference_words (preference seat.played) ++ codes ".\n")))
-
--- A.4: the floats of the last round and of the one before it
-unfoldable pub floats_words : SeatFacts → List ℕ
-floats_words seat =
-    codes "Floats: " ++ (float_text seat.latest ++ (codes " in the last round, " ++ (float_text seat.earlier ++ codes " in the round before.\n")))
-
--- C.1: those whom a player has met
-unfoldable pub met_words : Sheet → SeatFacts → List ℕ
-met_words sheet seat = codes "Has met: " ++ (players_words sheet (ascending seat.opponents) ++ codes ".\n")
-
--- A.7, C.2: whether a player is a topscorer, and whether they may have the bye
-unfoldable pub rights_words : Facts → SeatFacts → List ℕ
-rights_words facts seat =
-    codes "Topscorer: " ++ (yes_text (is_topscorer facts seat) ++ (codes ". May have the bye: " ++ (yes_text seat.may_bye ++ codes ".\n")))
-
--- the five sentences of one of the present players
-unfoldable pub player_sentences : Sheet → Facts → SeatFacts → List ℕ
-player_sentences sheet facts seat =
-    score_words sheet seat ++ (wish_words sheet seat ++ (floats_words seat ++ (met_words sheet seat ++ rights_words facts seat)))
-
--- ---- what is told
-
--- what a present player brings to the round, in a line or in five sentences: score, colours and preference, floats of the last two rounds,
--- whom they have met, and whether they are a topscorer and may have the bye [own]
-unfoldable pub player_text : TellingFacts → ℕ → List ℕ
-player_text telling seat =
-    in_wording telling.wording (player_line telling.sheet telling.facts (seat_at telling.facts seat))
-    (player_sentences telling.sheet telling.facts (seat_at telling.facts seat))
-
--- that a player is absent
-abbrev pub absent_line : ℕ → List ℕ
-absent_line start = codes "player " ++ (decimal start ++ codes " absent\n")
-
--- the same in a sentence
-abbrev pub absent_sentence : Sheet → ℕ → List ℕ
-absent_sentence sheet start = player_words sheet start ++ codes " is absent.\n"
+  -- what a present player brings to the round, in a line or in five sentences: score, colours and preference, floats of the last two rounds,
+  -- whom they have met, and whether they are a topscorer and may have the bye [own]
+  unfoldable pub player_text : List ℕ
+  player_text = score_text ++ (colours_text ++ (floats_text ++ (met_text ++ rights_text)))
 
 -- that a player is absent, in a line or in a sentence [with player_text]
 abbrev pub absent_text : TellingFacts → ℕ → List ℕ
-absent_text telling start = in_wording telling.wording (absent_line start) (absent_sentence telling.sheet start)
+absent_text telling start =
+    in_wording telling.wording (codes "player " ++ (decimal start ++ codes " absent\n")) (player_words telling.sheet start ++ codes " is absent.\n")

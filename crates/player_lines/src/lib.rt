@@ -9,7 +9,6 @@
 
 mod obstacle;
 mod player_line;
-mod player_sentences;
 
 pub use obstacle::{Obstacle, against_bye, against_meeting, put_obstacle};
 pub use player_line::{put_absent, put_player};

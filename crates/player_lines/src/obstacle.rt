@@ -1,18 +1,16 @@
 // What stands against a meeting in the next round, or against the bye, whatever is chosen in a bracket (C.04.3 C.1 to
 // C.3).
-ghost use Rattle.std.specs.Prelude.{◌≡◌, ◌<◌, ◌++◌, OnOk, Some};
-ghost use Rattle.player_lines.specs.Obstacles.{against_bye, against_meeting, first_bye, first_meeting, has_had_bye, has_played, since};
-ghost use Rattle.player_lines.specs.Obstacles.{obstacle_text, obstacle_words};
+ghost use Rattle.std.specs.Prelude.{◌≡◌, ◌<◌, ◌++◌, OnOk};
+ghost use Rattle.player_lines.specs.declared.obstacle.Obstacle.TheVariants.{Absent};
+ghost use Rattle.player_lines.specs.Obstacles.{against_bye, against_meeting, first_bye, first_meeting, obstacle_text};
 
 use common_texts::Page;
 use dutch_player::{Field, bars_bye, opponent_played};
-use requests::Wording;
 use round_lines::Asked;
 use round_lines::pieces::Piece::{Number, Player, Text};
-use round_lines::pieces::put;
+use round_lines::pieces::say;
 use round_lines::telling::Telling;
 use std::alloc::AllocError;
-use std::fmt;
 use trf16_report::Report;
 
 /// Why a player does not meet another one in the next round, or does not have the bye, whatever is chosen in a bracket.
@@ -32,45 +30,15 @@ pub enum Obstacle {
     Even,
 }
 
-impl fmt::Display for Obstacle {
-    ghost use Rattle.player_lines.specs.Obstacles.{obstacle_line};
-
-    ghost output = { λ obstacle. Some (obstacle_line obstacle) };
-
-    fn fmt<W: fmt::Write>(&self, f: &mut fmt::Formatter<W>) -> fmt::Result {
-        match *self {
-            Obstacle::Absent => f.write_str("absent"),
-            Obstacle::Met { round } => write!(f, "met round {round} C.1"),
-            Obstacle::Apart => f.write_str("apart XXP"),
-            Obstacle::Colours => f.write_str("colours C.3"),
-            Obstacle::HadBye { .. } => f.write_str("bye C.2"),
-            Obstacle::Even => f.write_str("even"),
-        }
-    }
-}
-
-fn has_played(report: &Report<'_>, one: u16, other: u16, round: u8) -> bool
-    requires { 0 < round }
-    ensures { result ≡ has_played report.now one other round }
-{
-    match opponent_played(&report.cell(one, round)) {
-        Some(start) => start == other,
-        None => false,
-    }
-}
-
 // The first round in which two players have played against each other.
-#[tactic(auto, using(crate::proofs::ObstacleLemmas::passed, crate::proofs::ObstacleLemmas::found, crate::proofs::ObstacleLemmas::none))]
 fn first_meeting(report: &Report<'_>, one: u16, other: u16) -> Option<u8>
     ensures { result ≡ first_meeting report.now one other }
 {
-    let rounds = report.rounds_played();
-    for round in 0..rounds {
-        if has_played(report, one, other, round + 1) {
-            return Some(round + 1);
-        }
-    }
-    None
+    (1..report.rounds_played() + 1).find(
+        |round|
+            requires { 0 < round.now }
+        { opponent_played(&report.cell(one, *round)) == Some(other) },
+    )
 }
 
 /// What stands first against a meeting of two seats: a game (C.1), a line `XXP`, their colours (C.3).
@@ -91,33 +59,15 @@ pub fn against_meeting(report: &Report<'_>, field: &Field, one: u16, other: u16)
     }
 }
 
-fn has_had_bye(report: &Report<'_>, start: u16, round: u8) -> bool
-    requires { 0 < round }
-    ensures { result ≡ has_had_bye report.now start round }
-{
-    bars_bye(&report.cell(start, round))
-}
-
 // The first round in which a player had the bye, or a point without a game.
-#[tactic(auto, using(crate::proofs::ObstacleLemmas::passed, crate::proofs::ObstacleLemmas::found, crate::proofs::ObstacleLemmas::none))]
 fn first_bye(report: &Report<'_>, start: u16) -> Option<u8>
     ensures { result ≡ first_bye report.now start }
 {
-    let rounds = report.rounds_played();
-    for round in 0..rounds {
-        if has_had_bye(report, start, round + 1) {
-            return Some(round + 1);
-        }
-    }
-    None
-}
-
-// That a player may not have the bye, since a round.
-fn since(round: Option<u8>) -> Obstacle
-    ensures { result ≡ since round }
-{
-    let round = round.unwrap_or(0);
-    Obstacle::HadBye { round }
+    (1..report.rounds_played() + 1).find(
+        |round|
+            requires { 0 < round.now }
+        { bars_bye(&report.cell(start, *round)) },
+    )
 }
 
 /// What stands first against the bye of a seat, if these have it: C.2, or that nobody has it.
@@ -125,7 +75,8 @@ pub fn against_bye(report: &Report<'_>, field: &Field, bye: &[u16], seat: u16) -
     ensures { result ≡ against_bye report.now field.now bye.now seat }
 {
     if !field.may_bye(seat) {
-        return Some(since(first_bye(report, field.start_rank(seat))));
+        let round = first_bye(report, field.start_rank(seat)).unwrap_or(0);
+        return Some(Obstacle::HadBye { round });
     }
     if bye.is_empty() {
         return Some(Obstacle::Even);
@@ -146,38 +97,42 @@ pub fn put_obstacle(
     ensures { OnOk result (text.new
         ≡ text.old ++ obstacle_text telling.now asked.player asked.number obstacle) }
 {
-    match telling.wording {
-        Wording::Plain => write!(text, "{obstacle}"),
-        Wording::Words => put_obstacle_words(text, telling, asked, obstacle),
+    match obstacle {
+        Obstacle::Absent => put_absence(text, telling, asked),
+        Obstacle::Met { round } => {
+            let (met, round) = (Text("They met in round "), Number(u16::from(round)));
+            let line = [Text("met round "), round, Text(" C.1")];
+            say(text, telling, &line, &[met, round, Text(" (C.1).")])
+        }
+        Obstacle::Apart => {
+            let words = Text("An XXP line keeps them apart.");
+            say(text, telling, &[Text("apart XXP")], &[words])
+        }
+        Obstacle::Colours => {
+            let words = Text("Both have to get the same colour (C.3).");
+            say(text, telling, &[Text("colours C.3")], &[words])
+        }
+        Obstacle::HadBye { round } => {
+            let (player, round) = (Player(asked.player), Number(u16::from(round)));
+            let why = Text(" has had the bye, or a point without a game, in round ");
+            let words = [player, why, round, Text(" (C.2).")];
+            say(text, telling, &[Text("bye C.2")], &words)
+        }
+        Obstacle::Even => {
+            let words = Text("The number of players present is even.");
+            say(text, telling, &[Text("even")], &[words])
+        }
     }
 }
 
-// Puts the sentence of what stands against it.
-fn put_obstacle_words(
-    text: &mut Page,
-    telling: &Telling<'_>,
-    asked: Asked,
-    obstacle: Obstacle,
-) -> Result<(), AllocError>
+// Puts that one of two is absent, or, if the player asks for the bye, that they are.
+fn put_absence(text: &mut Page, telling: &Telling<'_>, asked: Asked) -> Result<(), AllocError>
     ensures { OnOk result (text.new
-        ≡ text.old ++ obstacle_words telling.now.sheet asked.player asked.number obstacle) }
+        ≡ text.old ++ obstacle_text telling.now asked.player asked.number Absent) }
 {
-    let player = Player(asked.player);
-    match obstacle {
-        Obstacle::Absent => {
-            if asked.number != 0 {
-                return text.push_str("One of them is absent.");
-            }
-            put(text, telling, &[player, Text(" is absent.")])
-        }
-        Obstacle::Met { round } => write!(text, "They met in round {round} (C.1)."),
-        Obstacle::Apart => text.push_str("An XXP line keeps them apart."),
-        Obstacle::Colours => text.push_str("Both have to get the same colour (C.3)."),
-        Obstacle::HadBye { round } => {
-            let why = Text(" has had the bye, or a point without a game, in round ");
-            let round = Number(u16::from(round));
-            put(text, telling, &[player, why, round, Text(" (C.2).")])
-        }
-        Obstacle::Even => text.push_str("The number of players present is even."),
+    let (line, player) = (Text("absent"), Player(asked.player));
+    if asked.number == 0 {
+        return say(text, telling, &[line], &[player, Text(" is absent.")]);
     }
+    say(text, telling, &[line], &[Text("One of them is absent.")])
 }

@@ -1,22 +1,19 @@
-// What a player brings to the next round, in one line; and that a player is absent.
+// What a player brings to the next round, in one line or in five sentences; and that a player is absent. Each part is
+// put in either wording by one function.
 ghost use Rattle.std.specs.Prelude.{◌≡◌, ◌++◌, IfOk, OnOk, codes};
 ghost use Rattle.std.specs.List.{flat_map};
 ghost use Rattle.std.specs.Fmt.{decimal};
-ghost use Rattle.dutch_player.specs.Prelude.{seat_at};
-ghost use Rattle.trf16_report.specs.Prelude.{rounds_played};
-ghost use Rattle.player_lines.specs.PlayerTexts.{absent_text, ascending, colours_text, difference_text};
-ghost use Rattle.player_lines.specs.PlayerTexts.{float_text, floats_text, game_text, games_text, history_text};
-ghost use Rattle.player_lines.specs.PlayerTexts.{met_text, placed, player_line, player_text};
-ghost use Rattle.player_lines.specs.PlayerTexts.{rights_text, score_text, wish_text, yes_text};
+ghost use Rattle.player_lines.specs.PlayerTexts as texts;
 
-use crate::player_sentences::put_player_sentences;
-use common_texts::{HalfPoints, Page};
-use dutch_player::{Field, Float, colour_played};
+use common_texts::Page;
+use dutch_player::{Float, colour_played};
 use requests::Wording;
+use round_lines::pieces::Piece::{Number, Player, Players, Points, Text};
+use round_lines::pieces::{put, say};
 use round_lines::preference_texts::preference;
-use round_lines::telling::{Telling, put_one};
+use round_lines::telling::{Telling, in_wording};
 use std::alloc::{AllocError, Global};
-use trf16_report::{Colour, Report};
+use trf16_report::Colour;
 
 /// Puts what a present player of a report brings to the next round: their score, the colours of their games round by
 /// round, what these come to (A.6), their floats in the last round and in the one before it (A.4), whom they have met
@@ -27,43 +24,13 @@ use trf16_report::{Colour, Report};
 /// Memory was refused.
 #[tactic(auto, unfolding(crate::specs::PlayerTexts::player_text))]
 pub fn put_player(text: &mut Page, telling: &Telling<'_>, seat: u16) -> Result<(), AllocError>
-    ensures { OnOk result (text.new ≡ text.old ++ player_text telling.now seat) }
+    ensures { OnOk result (text.new ≡ text.old ++ texts.player_text telling.now seat) }
 {
-    match telling.wording {
-        Wording::Plain => put_player_line(text, telling, seat),
-        Wording::Words => put_player_sentences(text, telling, seat),
-    }
-}
-
-// Puts the line of a player.
-#[tactic(auto, unfolding(crate::specs::PlayerTexts::player_line))]
-fn put_player_line(text: &mut Page, telling: &Telling<'_>, seat: u16) -> Result<(), AllocError>
-    ensures { OnOk result (text.new ≡ text.old
-        ++ player_line telling.now.sheet telling.now.facts (seat_at telling.now.facts seat)) }
-{
-    let field = telling.field;
-    put_history(text, telling.report, field, seat)?;
-    put_floats(text, field, seat)?;
-    text.push_str(" met")?;
-    put_met(text, field.opponents(seat))?;
-    put_rights(text, field, seat)
-}
-
-// Puts a player's score and colours.
-#[tactic(auto, unfolding(crate::specs::PlayerTexts::history_text))]
-fn put_history(
-    text: &mut Page,
-    report: &Report<'_>,
-    field: &Field,
-    seat: u16,
-) -> Result<(), AllocError>
-    ensures { OnOk result (text.new
-        ≡ text.old ++ history_text report.now (seat_at field.now seat)) }
-{
-    put_score(text, field, seat)?;
-    text.push_str(" colours")?;
-    put_colours(text, report, field.start_rank(seat))?;
-    put_wish(text, field, seat)
+    put_score(text, telling, seat)?;
+    put_colours(text, telling, seat)?;
+    put_floats(text, telling, seat)?;
+    put_met(text, telling, seat)?;
+    put_rights(text, telling, seat)
 }
 
 /// Puts that a player is absent.
@@ -71,85 +38,121 @@ fn put_history(
 /// # Errors
 /// Memory was refused.
 pub fn put_absent(text: &mut Page, telling: &Telling<'_>, start: u16) -> Result<(), AllocError>
-    ensures { OnOk result (text.new ≡ text.old ++ absent_text telling.now start) }
+    ensures { OnOk result (text.new ≡ text.old ++ texts.absent_text telling.now start) }
 {
-    match telling.wording {
-        Wording::Plain => write!(text, "player {start} absent\n"),
-        Wording::Words => {
-            put_one(text, telling.report, start)?;
-            text.push_str(" is absent.\n")
-        }
-    }
+    say(
+        text,
+        telling,
+        &[Text("player "), Number(start), Text(" absent\n")],
+        &[Player(start), Text(" is absent.\n")],
+    )
 }
 
 // Puts who a player is, and their score.
-#[tactic(auto, unfolding(crate::specs::PlayerTexts::score_text))]
-fn put_score(text: &mut Page, field: &Field, seat: u16) -> Result<(), AllocError>
-    ensures { OnOk result (text.new ≡ text.old ++ score_text (seat_at field.now seat)) }
+fn put_score(text: &mut Page, telling: &Telling<'_>, seat: u16) -> Result<(), AllocError>
+    ensures { OnOk result (text.new ≡ text.old ++ texts.score_text telling.now seat) }
 {
-    let start = field.start_rank(seat);
-    let score = HalfPoints(u32::from(field.score(seat)));
-    write!(text, "player {start} score {score}")
+    let start = telling.field.start_rank(seat);
+    let score = Points(telling.field.score(seat));
+    say(
+        text,
+        telling,
+        &[Text("player "), Number(start), Text(" score "), score],
+        &[Player(start), Text(" has "), score, Text(" points.\n")],
+    )
 }
 
-// The colour of a game that was played.
-fn game(colour: Option<Colour>) -> &'static str
-    ensures { result.now ≡ game_text colour }
+// Puts a player's colours, and what they come to.
+fn put_colours(text: &mut Page, telling: &Telling<'_>, seat: u16) -> Result<(), AllocError>
+    ensures { OnOk result (text.new ≡ text.old ++ texts.colours_text telling.now seat) }
 {
-    match colour {
-        Some(Colour::White) => " w",
-        Some(Colour::Black) => " b",
-        None => " .",
+    text.push_str(in_wording(telling.wording, " colours", "Colours so far:"))?;
+    put_games(text, telling, seat)?;
+    put_difference(text, telling, seat)?;
+    put_preference(text, telling, seat)
+}
+
+// Puts the colours of a player's games, round by round, or that no round was paired.
+fn put_games(text: &mut Page, telling: &Telling<'_>, seat: u16) -> Result<(), AllocError>
+    ensures { OnOk result (text.new ≡ text.old ++ texts.all_games_text telling.now seat) }
+{
+    let (start, rounds) = (
+        telling.field.start_rank(seat),
+        telling.report.rounds_played(),
+    );
+    if rounds == 0 {
+        return text.push_str(in_wording(telling.wording, " -", " none"));
     }
-}
-
-// Puts the colours of a player's games, round by round.
-fn put_games(text: &mut Page, report: &Report<'_>, start: u16, rounds: u8) -> Result<(), AllocError>
-    ensures { OnOk result (text.new ≡ text.old ++ games_text report.now start rounds) }
-{
     for round in 0..rounds {
-        let cell = report.cell(start, round + 1);
-        text.push_str(game(colour_played(&cell)))?;
+        let cell = telling.report.cell(start, round + 1);
+        put_game(text, telling.wording, round, colour_played(&cell))?;
     }
     Ok(())
 }
 
-// Puts the same, or a dash where no round was paired.
-fn put_colours(text: &mut Page, report: &Report<'_>, start: u16) -> Result<(), AllocError>
-    ensures { OnOk result (text.new
-        ≡ text.old ++ colours_text report.now start (rounds_played report.now)) }
+// Puts the colour of a game behind those of the rounds before it, so many, or that it was not played.
+#[tactic(auto, unfolding(crate::specs::PlayerTexts::game_text))]
+fn put_game(
+    text: &mut Page,
+    wording: Wording,
+    before: u8,
+    played: Option<Colour>,
+) -> Result<(), AllocError>
+    ensures { OnOk result (text.new ≡ text.old ++ texts.game_text wording before played) }
 {
-    let rounds = report.rounds_played();
-    if rounds == 0 {
-        return text.push_str(" -");
-    }
-    put_games(text, report, start, rounds)
+    text.push_str(mark(wording, before))?;
+    text.push_str(colour(wording, played))
 }
 
-// Puts a colour difference, with its sign.
-fn put_difference(text: &mut Page, games: i16) -> Result<(), AllocError>
-    ensures { OnOk result (text.new ≡ text.old ++ difference_text games) }
+// What parts a game from what stands before it, by how many games do.
+fn mark(wording: Wording, before: u8) -> &'static str
+    ensures { result.now ≡ texts.mark_text wording before }
 {
-    if 0 < games {
-        write!(text, "+{games}")
+    if before == 0 {
+        " "
     } else {
-        write!(text, "{games}")
+        in_wording(wording, " ", ", ")
     }
 }
 
-// Puts what a player's colours come to.
-#[tactic(auto, unfolding(crate::specs::PlayerTexts::wish_text))]
-fn put_wish(text: &mut Page, field: &Field, seat: u16) -> Result<(), AllocError>
-    ensures { OnOk result (text.new ≡ text.old ++ wish_text (seat_at field.now seat)) }
+// The colour of a game that was played.
+fn colour(wording: Wording, played: Option<Colour>) -> &'static str
+    ensures { result.now ≡ texts.played_text wording played }
 {
-    text.push_str(" difference ")?;
-    put_difference(text, field.difference(seat))?;
-    text.push_str(" prefers ")?;
-    text.push_str(preference(field.preference(seat)).0)
+    match played {
+        Some(Colour::White) => in_wording(wording, "w", "white"),
+        Some(Colour::Black) => in_wording(wording, "b", "black"),
+        None => in_wording(wording, ".", "none"),
+    }
 }
 
-pub(crate) fn float(float: Option<Float>) -> &'static str
-    ensures { result.now ≡ float_text float }
+// Puts a player's colour difference with its sign, which a line alone has.
+fn put_difference(text: &mut Page, telling: &Telling<'_>, seat: u16) -> Result<(), AllocError>
+    ensures { OnOk result (text.new ≡ text.old ++ texts.difference_text telling.now seat) }
+{
+    let difference = telling.field.difference(seat);
+    let sign = if 0 < difference { "+" } else { "" };
+    match telling.wording {
+        Wording::Plain => write!(text, " difference {sign}{difference}"),
+        Wording::Words => Ok(()),
+    }
+}
+
+// Puts the colour that a player prefers.
+fn put_preference(text: &mut Page, telling: &Telling<'_>, seat: u16) -> Result<(), AllocError>
+    ensures { OnOk result (text.new ≡ text.old ++ texts.prefers_text telling.now seat) }
+{
+    let (line, words) = preference(telling.field.preference(seat));
+    say(
+        text,
+        telling,
+        &[Text(" prefers "), Text(line)],
+        &[Text(". Preference: "), Text(words), Text(".\n")],
+    )
+}
+
+fn float(float: Option<Float>) -> &'static str
+    ensures { result.now ≡ texts.float_text float }
 {
     match float {
         Some(Float::Up) => "up",
@@ -159,18 +162,24 @@ pub(crate) fn float(float: Option<Float>) -> &'static str
 }
 
 // Puts a player's floats in the last two rounds.
-#[tactic(auto, unfolding(crate::specs::PlayerTexts::floats_text))]
-fn put_floats(text: &mut Page, field: &Field, seat: u16) -> Result<(), AllocError>
-    ensures { OnOk result (text.new ≡ text.old ++ floats_text (seat_at field.now seat)) }
+fn put_floats(text: &mut Page, telling: &Telling<'_>, seat: u16) -> Result<(), AllocError>
+    ensures { OnOk result (text.new ≡ text.old ++ texts.floats_text telling.now seat) }
 {
-    let (latest, earlier) = (float(field.float(seat, 1)), float(field.float(seat, 2)));
-    write!(text, " floats {latest} {earlier}")
+    let latest = Text(float(telling.field.float(seat, 1)));
+    let earlier = Text(float(telling.field.float(seat, 2)));
+    let (last, before) = (" in the last round, ", " in the round before.\n");
+    say(
+        text,
+        telling,
+        &[Text(" floats "), latest, Text(" "), earlier],
+        &[Text("Floats: "), latest, Text(last), earlier, Text(before)],
+    )
 }
 
 // Puts a number to its place among ascending ones, where it does not stand among them.
 #[tactic(auto, using(crate::proofs::PlayerLemmas::along_more, crate::proofs::PlayerLemmas::along_same, crate::proofs::PlayerLemmas::along_stop, crate::proofs::PlayerLemmas::along_end))]
 fn place(numbers: &mut Vec<u16>, number: u16) -> Result<(), AllocError>
-    ensures { OnOk result (numbers.new.items ≡ placed number numbers.old.items) }
+    ensures { OnOk result (numbers.new.items ≡ texts.with_number number numbers.old.items) }
 {
     for at in 0..numbers.len() {
         let other = numbers[at];
@@ -187,22 +196,24 @@ fn place(numbers: &mut Vec<u16>, number: u16) -> Result<(), AllocError>
 }
 
 // Some numbers, ascending and each once, put to their places from the last one on.
-pub(crate) fn ascending(alloc: Global, numbers: &[u16]) -> Result<Vec<u16>, AllocError>
-    ensures { IfOk result (λ all. all.items ≡ ascending numbers.now) }
+fn ascending_numbers(alloc: Global, numbers: &[u16]) -> Result<Vec<u16>, AllocError>
+    ensures { IfOk result (λ all. all.items ≡ texts.ascending_numbers numbers.now) }
 {
     let [first, others @ ..] = numbers else {
         return Ok(Vec::new(alloc));
     };
-    let mut all = ascending(alloc, others)?;
+    let mut all = ascending_numbers(alloc, others)?;
     place(&mut all, *first)?;
     Ok(all)
 }
 
-// Puts start ranks with a blank before each.
-fn put_each(text: &mut Page, starts: &[u16]) -> Result<(), AllocError>
-    ensures { OnOk result (text.new
-        ≡ text.old ++ flat_map (λ start. codes " " ++ decimal start) starts.now) }
+// Puts start ranks in a line, each behind a blank, or a dash for none.
+fn put_starts(text: &mut Page, starts: &[u16]) -> Result<(), AllocError>
+    ensures { OnOk result (text.new ≡ text.old ++ texts.starts_text starts.now) }
 {
+    if starts.is_empty() {
+        return text.push_str(" -");
+    }
     for start in starts {
         let one = *start;
         write!(text, " {one}")?;
@@ -211,28 +222,37 @@ fn put_each(text: &mut Page, starts: &[u16]) -> Result<(), AllocError>
 }
 
 // Puts those whom a player has met.
-fn put_met(text: &mut Page, opponents: &[u16]) -> Result<(), AllocError>
-    ensures { OnOk result (text.new ≡ text.old ++ met_text opponents.now) }
+fn put_met(text: &mut Page, telling: &Telling<'_>, seat: u16) -> Result<(), AllocError>
+    ensures { OnOk result (text.new ≡ text.old ++ texts.met_text telling.now seat) }
 {
-    if opponents.is_empty() {
-        return text.push_str(" -");
+    let met = ascending_numbers(text.allocator(), telling.field.opponents(seat))?;
+    let players = Players(met.as_slice());
+    match telling.wording {
+        Wording::Plain => {
+            text.push_str(" met")?;
+            put_starts(text, met.as_slice())
+        }
+        Wording::Words => put(text, telling, &[Text("Has met: "), players, Text(".\n")]),
     }
-    let met = ascending(text.allocator(), opponents)?;
-    put_each(text, met.as_slice())
 }
 
-pub(crate) fn yes(holds: bool) -> &'static str
-    ensures { result.now ≡ yes_text holds }
+fn yes(holds: bool) -> &'static str
+    ensures { result.now ≡ texts.yes_text holds }
 {
     if holds { "yes" } else { "no" }
 }
 
 // Puts whether a player is a topscorer, and whether they may have the bye.
-#[tactic(auto, unfolding(crate::specs::PlayerTexts::rights_text))]
-fn put_rights(text: &mut Page, field: &Field, seat: u16) -> Result<(), AllocError>
-    ensures { OnOk result (text.new
-        ≡ text.old ++ rights_text field.now (seat_at field.now seat)) }
+fn put_rights(text: &mut Page, telling: &Telling<'_>, seat: u16) -> Result<(), AllocError>
+    ensures { OnOk result (text.new ≡ text.old ++ texts.rights_text telling.now seat) }
 {
-    let (topscorer, bye) = (yes(field.topscorer(seat)), yes(field.may_bye(seat)));
-    write!(text, " topscorer {topscorer} bye {bye}\n")
+    let topscorer = Text(yes(telling.field.topscorer(seat)));
+    let bye = Text(yes(telling.field.may_bye(seat)));
+    let (line, words) = (Text(" bye "), Text(". May have the bye: "));
+    say(
+        text,
+        telling,
+        &[Text(" topscorer "), topscorer, line, bye, Text("\n")],
+        &[Text("Topscorer: "), topscorer, words, bye, Text(".\n")],
+    )
 }
