@@ -9,8 +9,7 @@ ghost use Rattle.dutch_arrangements.specs.Prelude.{Spends};
 ghost use Rattle.dutch_choice.specs.Prelude.{IsBest};
 ghost use Rattle.dutch_choice.specs.declared.start.Start.TheVariants.{Anew};
 ghost use Rattle.dutch_passes.specs.Incumbent.{IsIncumbent};
-ghost use Rattle.dutch_passes.specs.Passes.{IsChosenNext, IsEnd, IsHere, IsLentFor, ListsFor, LooksFor, LooksThrough};
-ghost use Rattle.dutch_passes.specs.Passes.{SeeksTheSame, near_of, wished_of};
+ghost use Rattle.dutch_passes.specs.Passes as passes;
 
 use crate::guide::Guide;
 use crate::pass::{Pass, PassSoFar, loses};
@@ -43,14 +42,14 @@ fn consider<G: Guide>(
     state: &mut PassState<'_, G>,
     budget: &mut Budget,
 ) -> Result<(), Stopped>
-    requires candidate { IsHere pass.now.shaped.context.now candidate.now }
+    requires candidate { passes.IsHere pass.now.shaped.context.now candidate.now }
     requires incumbent { IsIncumbent pass.now.shaped.context.now state.old.incumbent }
-    requires look { LooksFor pass.now state.old.look }
+    requires look { passes.LooksFor pass.now state.old.look }
     ensures answer { MatchResult result
-        (λ _. IsChosenNext pass.now state.old.incumbent state.new.incumbent candidate.now.lists)
+        (λ _. passes.IsChosenNext pass.now state.old.incumbent state.new.incumbent candidate.now.lists)
         (λ _. budget.new.used ≡ budget.new.limit) }
     ensures incumbent { IsIncumbent pass.now.shaped.context.now state.new.incumbent }
-    ensures look { LooksFor pass.now state.new.look }
+    ensures look { passes.LooksFor pass.now state.new.look }
     ensures guide { state.new.guide ≡ state.old.guide }
     ensures spends { Spends budget.old budget.new }
 {
@@ -75,14 +74,14 @@ fn begin<G: Guide>(
     search: &mut PassRoom<'_, '_, '_, '_, G>,
     budget: &mut Budget,
 ) -> Result<(), Stopped>
-    requires lister { IsLentFor pass.now search.old.start search.old.lister.now }
-    requires look { LooksFor pass.now search.old.state.value.look }
+    requires lister { passes.IsLentFor pass.now search.old.start search.old.lister.now }
+    requires look { passes.LooksFor pass.now search.old.state.value.look }
     ensures answer { MatchResult result
-        (λ _. LooksThrough pass.now search.new.state.value.incumbent search.new.lister.now.listing)
+        (λ _. passes.LooksThrough pass.now search.new.state.value.incumbent search.new.lister.now.listing)
         (λ _. budget.new.used ≡ budget.new.limit) }
-    ensures lists { ListsFor pass.now search.new.lister.now.listing }
+    ensures lists { passes.ListsFor pass.now search.new.lister.now.listing }
     ensures start { search.new.start ≡ Anew }
-    ensures look { LooksFor pass.now search.new.state.value.look }
+    ensures look { passes.LooksFor pass.now search.new.state.value.look }
     ensures guide { search.new.state.value.guide ≡ search.old.state.value.guide }
     ensures spends { Spends budget.old budget.new }
 {
@@ -108,16 +107,16 @@ fn go_on<'a, G: Guide>(
     state: &mut PassState<'_, G>,
     budget: &mut Budget,
 ) -> Result<(), Stopped>
-    requires looks { LooksThrough pass.now state.old.incumbent lister.old.listing }
-    requires lists { ListsFor pass.now lister.old.listing }
-    requires look { LooksFor pass.now state.old.look }
+    requires looks { passes.LooksThrough pass.now state.old.incumbent lister.old.listing }
+    requires lists { passes.ListsFor pass.now lister.old.listing }
+    requires look { passes.LooksFor pass.now state.old.look }
     requires guide { G.knows state.old.guide.value pass.now.shaped.context.now pass.now.shaped.shape pass.now.wish }
     ensures answer { MatchResult result
-        (λ _. MatchOption state.new.incumbent (near_of pass.now ≡ None)
-        (IsBest pass.now.shaped.context.now (near_of pass.now)))
+        (λ _. MatchOption state.new.incumbent (passes.near_of pass.now ≡ None)
+        (IsBest pass.now.shaped.context.now (passes.near_of pass.now)))
         (λ _. budget.new.used ≡ budget.new.limit) }
-    ensures lists { ListsFor pass.now lister.new.listing }
-    ensures look { LooksFor pass.now state.new.look }
+    ensures lists { passes.ListsFor pass.now lister.new.listing }
+    ensures look { passes.LooksFor pass.now state.new.look }
     ensures guide { G.knows state.new.guide.value pass.now.shaped.context.now pass.now.shaped.shape pass.now.wish }
     ensures spends { Spends budget.old budget.new }
 {
@@ -143,16 +142,18 @@ fn best_near<'a, G: Guide>(
     search: &mut PassRoom<'_, '_, '_, '_, G>,
     budget: &mut Budget,
 ) -> Result<(), Stopped>
-    requires lister { IsLentFor pass.now search.old.start search.old.lister.now }
-    requires look { LooksFor pass.now search.old.state.value.look }
-    requires guide { G.knows search.old.state.value.guide.value pass.now.shaped.context.now pass.now.shaped.shape pass.now.wish }
+    requires lister { passes.IsLentFor pass.now search.old.start search.old.lister.now }
+    requires look { passes.LooksFor pass.now search.old.state.value.look }
+    requires guide { G.knows search.old.state.value.guide.value pass.now.shaped.context.now pass.now.shaped.shape
+        pass.now.wish }
     ensures answer { MatchResult result
-        (λ _. MatchOption search.new.state.value.incumbent (near_of pass.now ≡ None)
-        (IsBest pass.now.shaped.context.now (near_of pass.now)))
+        (λ _. MatchOption search.new.state.value.incumbent (passes.near_of pass.now ≡ None)
+        (IsBest pass.now.shaped.context.now (passes.near_of pass.now)))
         (λ _. budget.new.used ≡ budget.new.limit) }
-    ensures lister { IsLentFor pass.now search.new.start search.new.lister.now }
-    ensures look { LooksFor pass.now search.new.state.value.look }
-    ensures guide { G.knows search.new.state.value.guide.value pass.now.shaped.context.now pass.now.shaped.shape pass.now.wish }
+    ensures lister { passes.IsLentFor pass.now search.new.start search.new.lister.now }
+    ensures look { passes.LooksFor pass.now search.new.state.value.look }
+    ensures guide { G.knows search.new.state.value.guide.value pass.now.shaped.context.now pass.now.shaped.shape
+        pass.now.wish }
     ensures spends { Spends budget.old budget.new }
 {
     begin(pass, search, budget)?;
@@ -166,15 +167,17 @@ fn best_by_target<'a, G: Guide>(
     search: &mut PassRoom<'_, '_, '_, '_, G>,
     budget: &mut Budget,
 ) -> Result<(), Stopped>
-    requires lister { IsLentFor pass.now search.old.start search.old.lister.now }
-    requires look { LooksFor pass.now search.old.state.value.look }
-    requires guide { G.knows search.old.state.value.guide.value pass.now.shaped.context.now pass.now.shaped.shape pass.now.wish }
+    requires lister { passes.IsLentFor pass.now search.old.start search.old.lister.now }
+    requires look { passes.LooksFor pass.now search.old.state.value.look }
+    requires guide { G.knows search.old.state.value.guide.value pass.now.shaped.context.now pass.now.shaped.shape
+        pass.now.wish }
     ensures answer { MatchResult result
-        (λ _. IfSome search.new.state.value.incumbent (IsBest pass.now.shaped.context.now (wished_of pass.now)))
+        (λ _. IfSome search.new.state.value.incumbent (IsBest pass.now.shaped.context.now (passes.wished_of pass.now)))
         (λ _. budget.new.used ≡ budget.new.limit) }
-    ensures lister { IsLentFor pass.now search.new.start search.new.lister.now }
-    ensures look { LooksFor pass.now search.new.state.value.look }
-    ensures guide { G.knows search.new.state.value.guide.value pass.now.shaped.context.now pass.now.shaped.shape pass.now.wish }
+    ensures lister { passes.IsLentFor pass.now search.new.start search.new.lister.now }
+    ensures look { passes.LooksFor pass.now search.new.state.value.look }
+    ensures guide { G.knows search.new.state.value.guide.value pass.now.shaped.context.now pass.now.shaped.shape
+        pass.now.wish }
     ensures spends { Spends budget.old budget.new }
 {
     if pass.target.is_none() {
@@ -191,15 +194,17 @@ fn best_in_passes<G: Guide>(
     search: &mut PassRoom<'_, '_, '_, '_, G>,
     budget: &mut Budget,
 ) -> Result<(), Stopped>
-    requires lister { IsLentFor pass.old search.old.start search.old.lister.now }
-    requires look { LooksFor pass.old search.old.state.value.look }
-    requires guide { G.knows search.old.state.value.guide.value pass.old.shaped.context.now pass.old.shaped.shape pass.old.wish }
-    ensures answer { MatchResult result (λ _. IsEnd pass.old search.new.state.value.incumbent)
+    requires lister { passes.IsLentFor pass.old search.old.start search.old.lister.now }
+    requires look { passes.LooksFor pass.old search.old.state.value.look }
+    requires guide { G.knows search.old.state.value.guide.value pass.old.shaped.context.now pass.old.shaped.shape
+        pass.old.wish }
+    ensures answer { MatchResult result (λ _. passes.IsEnd pass.old search.new.state.value.incumbent)
         (λ _. budget.new.used ≡ budget.new.limit) }
-    ensures lister { IsLentFor pass.old search.new.start search.new.lister.now }
-    ensures look { LooksFor pass.old search.new.state.value.look }
-    ensures guide { G.knows search.new.state.value.guide.value pass.old.shaped.context.now pass.old.shaped.shape pass.old.wish }
-    ensures pass { SeeksTheSame pass.old pass.new }
+    ensures lister { passes.IsLentFor pass.old search.new.start search.new.lister.now }
+    ensures look { passes.LooksFor pass.old search.new.state.value.look }
+    ensures guide { G.knows search.new.state.value.guide.value pass.old.shaped.context.now pass.old.shaped.shape
+        pass.old.wish }
+    ensures pass { passes.SeeksTheSame pass.old pass.new }
     ensures spends { Spends budget.old budget.new }
 {
     best_by_target(pass, search, budget)?;
@@ -226,15 +231,17 @@ fn best_within<G: Guide>(
     steps: u64,
     budget: &mut Budget,
 ) -> Result<bool, Stopped>
-    requires lister { IsLentFor pass.old search.old.start search.old.lister.now }
-    requires look { LooksFor pass.old search.old.state.value.look }
-    requires guide { G.knows search.old.state.value.guide.value pass.old.shaped.context.now pass.old.shaped.shape pass.old.wish }
-    ensures answer { MatchResult result (λ ended. ended ≡ true → IsEnd pass.old search.new.state.value.incumbent)
+    requires lister { passes.IsLentFor pass.old search.old.start search.old.lister.now }
+    requires look { passes.LooksFor pass.old search.old.state.value.look }
+    requires guide { G.knows search.old.state.value.guide.value pass.old.shaped.context.now pass.old.shaped.shape
+        pass.old.wish }
+    ensures answer { MatchResult result (λ ended. ended ≡ true → passes.IsEnd pass.old search.new.state.value.incumbent)
         (λ _. budget.new.used ≡ budget.new.limit) }
-    ensures lister { IsLentFor pass.old search.new.start search.new.lister.now }
-    ensures look { LooksFor pass.old search.new.state.value.look }
-    ensures guide { G.knows search.new.state.value.guide.value pass.old.shaped.context.now pass.old.shaped.shape pass.old.wish }
-    ensures pass { SeeksTheSame pass.old pass.new }
+    ensures lister { passes.IsLentFor pass.old search.new.start search.new.lister.now }
+    ensures look { passes.LooksFor pass.old search.new.state.value.look }
+    ensures guide { G.knows search.new.state.value.guide.value pass.old.shaped.context.now pass.old.shaped.shape
+        pass.old.wish }
+    ensures pass { passes.SeeksTheSame pass.old pass.new }
     ensures spends { Spends budget.old budget.new }
 {
     let mut few = at_most(steps, budget);
@@ -258,10 +265,11 @@ fn best_by_weight<G: Guide>(
     few: u64,
     budget: &mut Budget,
 ) -> Result<(), Stopped>
-    requires lister { IsLentFor pass.old search.old.start search.old.lister.now }
-    requires look { LooksFor pass.old search.old.state.value.look }
-    requires guide { G.knows search.old.state.value.guide.value pass.old.shaped.context.now pass.old.shaped.shape pass.old.wish }
-    ensures answer { MatchResult result (λ _. IsEnd pass.old search.new.state.value.incumbent)
+    requires lister { passes.IsLentFor pass.old search.old.start search.old.lister.now }
+    requires look { passes.LooksFor pass.old search.old.state.value.look }
+    requires guide { G.knows search.old.state.value.guide.value pass.old.shaped.context.now pass.old.shaped.shape
+        pass.old.wish }
+    ensures answer { MatchResult result (λ _. passes.IsEnd pass.old search.new.state.value.incumbent)
         (λ _. budget.new.used ≡ budget.new.limit) }
     ensures spends { Spends budget.old budget.new }
 {
@@ -283,10 +291,11 @@ pub fn best_in_time<G: Guide>(
     search: &mut PassRoom<'_, '_, '_, '_, G>,
     budget: &mut Budget,
 ) -> Result<(), Stopped>
-    requires lister { IsLentFor pass.old search.old.start search.old.lister.now }
-    requires look { LooksFor pass.old search.old.state.value.look }
-    requires guide { G.knows search.old.state.value.guide.value pass.old.shaped.context.now pass.old.shaped.shape pass.old.wish }
-    ensures answer { MatchResult result (λ _. IsEnd pass.old search.new.state.value.incumbent)
+    requires lister { passes.IsLentFor pass.old search.old.start search.old.lister.now }
+    requires look { passes.LooksFor pass.old search.old.state.value.look }
+    requires guide { G.knows search.old.state.value.guide.value pass.old.shaped.context.now pass.old.shaped.shape
+        pass.old.wish }
+    ensures answer { MatchResult result (λ _. passes.IsEnd pass.old search.new.state.value.incumbent)
         (λ _. budget.new.used ≡ budget.new.limit) }
     ensures spends { Spends budget.old budget.new }
 {

@@ -11,8 +11,7 @@ ghost use Rattle.dutch_rounds.specs.declared.walk.Halt.TheVariants.{Fault};
 ghost use Rattle.dutch_rounds.specs.Round.{everybody, brackets, paired_again};
 ghost use Rattle.dutch_rounds.specs.Walk.{Goes};
 ghost use Rattle.dutch_rounds.specs.WaysOut.{GoesOut, StandsBefore};
-ghost use Rattle.dutch_rounds.specs.Stages.{GoesOn, IsFound, IsHalt, IsSettled, StandsAt, Starts, TellsUsed, group_kind};
-ghost use Rattle.dutch_rounds.specs.Stages.{round_by, round_from, stage_first};
+ghost use Rattle.dutch_rounds.specs.Stages as stages;
 
 use crate::stage::{Stage, settle};
 use dutch_arrangements::{Budget, Shape, Stopped, numbered_from};
@@ -93,7 +92,7 @@ impl From<PairFault> for Halt {
 
 /// The kind of the bracket of a scoregroup above lower seats.
 fn group_kind(lower: &[u16]) -> BracketKind
-    ensures { result ≡ group_kind lower.now }
+    ensures { result ≡ stages.group_kind lower.now }
 {
     match lower {
         [] => BracketKind::Last,
@@ -139,8 +138,8 @@ fn first_group<'a>(
     requires out { GoesOut field.now left.items (parts.0.now ++ parts.1.now) }
     requires small { number + length (parts.0.now ++ parts.1.now) ≤ length field.now.seats + 1 }
     requires first { parts.0.now ≡ first_group field.now (scoregroups field.now (parts.0.now ++ parts.1.now)) }
-    ensures stands { StandsAt field.now number result }
-    ensures rest { round_from field.now result ≡ brackets field.now number left.items
+    ensures stands { stages.StandsAt field.now number result }
+    ensures rest { stages.round_from field.now result ≡ brackets field.now number left.items
         (scoregroups field.now (parts.entry.0.now ++ parts.entry.1.now)) }
 {
     scores_do_not_ascend(field);
@@ -157,10 +156,10 @@ fn first_group<'a>(
 fn behind<'a>(field: &Field, stage: &Stage, lower: &'a [u16], group: usize) -> Next<'a>
     requires stands { StandsBefore field.now stage.now.reached.number stage.now.reached lower.now }
     requires group { group ≡ length (first_group field.now (scoregroups field.now lower.now)) }
-    requires settled { IsSettled field.now lower.now stage.now }
-    ensures stands { StandsAt field.now (stage.now.reached.number + 1) result }
-    ensures rest { round_by field.now stage.now.reached.kind stage.now.reached lower.now
-        ≡ stage_first field.now stage.now (round_from field.now result) }
+    requires settled { stages.IsSettled field.now lower.now stage.now }
+    ensures stands { stages.StandsAt field.now (stage.now.reached.number + 1) result }
+    ensures rest { stages.round_by field.now stage.now.reached.kind stage.now.reached lower.now
+        ≡ stages.stage_first field.now stage.now (stages.round_from field.now result) }
 {
     scores_do_not_ascend(field);
     let reached = &stage.reached;
@@ -191,7 +190,7 @@ impl<'a> Walk<'a> {
         limit: u64,
     ) -> Result<Walk<'a>, Halt>
         requires all { all.now ≡ everybody field.now }
-        ensures { MatchResult result (Starts field.now limit) (IsHalt field.now limit) }
+        ensures { MatchResult result (stages.Starts field.now limit) (stages.IsHalt field.now limit) }
     {
         scores_do_not_ascend(field);
         let mut budget = Budget { limit, used: 0 };
@@ -230,8 +229,9 @@ impl<'a> Walk<'a> {
     /// Settles the bracket that comes next by its choice and the test behind it, and goes behind it, where the budget
     /// begins anew. The answer is none if no bracket comes.
     pub(crate) fn settle_next<F: Finder>(&mut self, alloc: Global) -> Result<Option<Stage>, Halt>
-        ensures goes { MatchResult result (GoesOn self.old self.new) (IsHalt self.old.facts self.old.limit) }
-        ensures used { IfErr result (TellsUsed self.new.used) }
+        ensures goes { MatchResult result (stages.GoesOn self.old self.new) (stages.IsHalt self.old.facts
+            self.old.limit) }
+        ensures used { IfErr result (stages.TellsUsed self.new.used) }
     {
         scores_do_not_ascend(self.field);
         let Next::Bracket { reached, lower } = &self.next else {
@@ -253,9 +253,9 @@ impl<'a> Walk<'a> {
     /// The bracket that comes next, with its shape; nothing more is asked of it. The answer is none if no bracket
     /// comes.
     pub(crate) fn bracket(&mut self, alloc: Global) -> Result<Option<(Reached, Shape)>, Halt>
-        ensures found { MatchResult result (IsFound self.old.facts self.old.number)
-            (IsHalt self.old.facts self.old.limit) }
-        ensures used { IfErr result (TellsUsed self.new.used) }
+        ensures found { MatchResult result (stages.IsFound self.old.facts self.old.number)
+            (stages.IsHalt self.old.facts self.old.limit) }
+        ensures used { IfErr result (stages.TellsUsed self.new.used) }
     {
         scores_do_not_ascend(self.field);
         let Next::Bracket { reached, lower } = &self.next else {

@@ -1,9 +1,7 @@
 // The page of a tournament.
 ghost use Rattle.std.specs.Prelude.{◌≡◌, ◌++◌, IfOk, OnOk, codes, string_bytes};
 ghost use Rattle.markup.specs.Prelude.{node_text};
-ghost use Rattle.sheets.specs.Pages.{counted_facts, document_head, document_of, event_dates, event_title, last_items};
-ghost use Rattle.sheets.specs.Pages.{last_names, links, names_item, page_body, page_header, page_of, round_item};
-ghost use Rattle.sheets.specs.Pages.{round_sections, rounds_text, said_facts, sections, style, title_or, viewport};
+ghost use Rattle.sheets.specs.Pages as pages;
 ghost use Rattle.sheets.specs.HeadLines.{head_text};
 ghost use Rattle.sheets.specs.Parts.{each_down, fact};
 
@@ -22,7 +20,7 @@ use trf16_report::Report;
 
 // A title, or a word of its own if there is none.
 fn title_or(alloc: Global, said: Vec<u8>) -> Result<Vec<u8>, AllocError>
-    ensures { IfOk result (λ title. title.items ≡ title_or said.items) }
+    ensures { IfOk result (λ title. title.items ≡ pages.title_or said.items) }
 {
     if said.is_empty() {
         return Vec::from_slice(alloc, b"Tournament");
@@ -32,7 +30,7 @@ fn title_or(alloc: Global, said: Vec<u8>) -> Result<Vec<u8>, AllocError>
 
 // The title of the event.
 fn event_title(alloc: Global, report: &Report<'_>) -> Result<Vec<u8>, AllocError>
-    ensures { IfOk result (λ title. title.items ≡ event_title report.now) }
+    ensures { IfOk result (λ title. title.items ≡ pages.event_title report.now) }
 {
     let said = head_text(alloc, report, b"012")?;
     title_or(alloc, said)
@@ -40,7 +38,7 @@ fn event_title(alloc: Global, report: &Report<'_>) -> Result<Vec<u8>, AllocError
 
 // The dates of the event: from one to another, or one alone.
 fn event_dates(alloc: Global, report: &Report<'_>) -> Result<Vec<u8>, AllocError>
-    ensures { IfOk result (λ dates. dates.items ≡ event_dates report.now) }
+    ensures { IfOk result (λ dates. dates.items ≡ pages.event_dates report.now) }
 {
     let first = head_text(alloc, report, b"042")?;
     let last = head_text(alloc, report, b"052")?;
@@ -49,7 +47,7 @@ fn event_dates(alloc: Global, report: &Report<'_>) -> Result<Vec<u8>, AllocError
 
 // How many rounds were paired, and of how many if the report says it.
 fn rounds_text(alloc: Global, rounds: u8, total: Option<u8>) -> Result<String, AllocError>
-    ensures { IfOk result (λ text. string_bytes text ≡ rounds_text rounds total) }
+    ensures { IfOk result (λ text. string_bytes text ≡ pages.rounds_text rounds total) }
 {
     match total {
         Some(total) => format!(in alloc; "{rounds} of {total}"),
@@ -60,7 +58,7 @@ fn rounds_text(alloc: Global, rounds: u8, total: Option<u8>) -> Result<String, A
 // Puts that a page is as wide as the screen.
 #[tactic(auto, unfolding(crate::specs::Pages::viewport))]
 fn put_viewport(page: &mut Markup) -> Result<(), AllocError>
-    ensures { OnOk result (page.new ≡ page.old ++ node_text viewport) }
+    ensures { OnOk result (page.new ≡ page.old ++ node_text pages.viewport) }
 {
     let name = Attribute {
         name: AttributeName::Name,
@@ -76,7 +74,7 @@ fn put_viewport(page: &mut Markup) -> Result<(), AllocError>
 // Puts the style sheet.
 #[tactic(auto, unfolding(crate::specs::Pages::style))]
 fn put_style(page: &mut Markup) -> Result<(), AllocError>
-    ensures { OnOk result (page.new ≡ page.old ++ node_text style) }
+    ensures { OnOk result (page.new ≡ page.old ++ node_text pages.style) }
 {
     page.element(Tag::Style, &[], STYLE.as_bytes())
 }
@@ -84,7 +82,7 @@ fn put_style(page: &mut Markup) -> Result<(), AllocError>
 // Puts the head of the document.
 #[tactic(auto, unfolding(crate::specs::Pages::document_head))]
 fn put_head(page: &mut Markup, title: &[u8]) -> Result<(), AllocError>
-    ensures { OnOk result (page.new ≡ page.old ++ node_text (document_head title.now)) }
+    ensures { OnOk result (page.new ≡ page.old ++ node_text (pages.document_head title.now)) }
 {
     let charset = Attribute {
         name: AttributeName::Charset,
@@ -113,7 +111,7 @@ fn put_said(
 
 // Puts the dates of the event, if the report says them.
 fn put_dates(page: &mut Markup, report: &Report<'_>) -> Result<(), AllocError>
-    ensures { OnOk result (page.new ≡ page.old ++ node_text (fact (codes "Dates") (event_dates report.now))) }
+    ensures { OnOk result (page.new ≡ page.old ++ node_text (fact (codes "Dates") (pages.event_dates report.now))) }
 {
     let dates = event_dates(page.allocator(), report)?;
     put_fact(page, "Dates", dates.as_slice())
@@ -122,7 +120,7 @@ fn put_dates(page: &mut Markup, report: &Report<'_>) -> Result<(), AllocError>
 // Puts place, dates and chief arbiter, if the report says them.
 #[tactic(auto, unfolding(crate::specs::Pages::said_facts))]
 fn put_said_facts(page: &mut Markup, report: &Report<'_>) -> Result<(), AllocError>
-    ensures { OnOk result (page.new ≡ page.old ++ node_text (said_facts report.now)) }
+    ensures { OnOk result (page.new ≡ page.old ++ node_text (pages.said_facts report.now)) }
 {
     put_said(page, report, "Place", b"022")?;
     put_dates(page, report)?;
@@ -132,7 +130,7 @@ fn put_said_facts(page: &mut Markup, report: &Report<'_>) -> Result<(), AllocErr
 // Puts how many rounds were paired, and how many players there are.
 #[tactic(auto, unfolding(crate::specs::Pages::counted_facts))]
 fn put_counted_facts(page: &mut Markup, report: &Report<'_>) -> Result<(), AllocError>
-    ensures { OnOk result (page.new ≡ page.old ++ node_text (counted_facts report.now)) }
+    ensures { OnOk result (page.new ≡ page.old ++ node_text (pages.counted_facts report.now)) }
 {
     let alloc = page.allocator();
     let rounds = rounds_text(alloc, report.rounds_played(), report.total_rounds())?;
@@ -144,7 +142,7 @@ fn put_counted_facts(page: &mut Markup, report: &Report<'_>) -> Result<(), Alloc
 // Puts what the page says of the event.
 #[tactic(auto, unfolding(crate::specs::Pages::page_header))]
 fn put_header(page: &mut Markup, title: &[u8], report: &Report<'_>) -> Result<(), AllocError>
-    ensures { OnOk result (page.new ≡ page.old ++ node_text (page_header title.now report.now)) }
+    ensures { OnOk result (page.new ≡ page.old ++ node_text (pages.page_header title.now report.now)) }
 {
     page.start(Tag::Header, &[])?;
     page.element(Tag::Heading, &[], title)?;
@@ -156,7 +154,7 @@ fn put_header(page: &mut Markup, title: &[u8], report: &Report<'_>) -> Result<()
 // Puts a link to a round.
 #[tactic(auto, unfolding(crate::specs::Pages::round_item))]
 fn put_round_item(page: &mut Markup, round: u8) -> Result<(), AllocError>
-    ensures { OnOk result (page.new ≡ page.old ++ node_text (round_item round)) }
+    ensures { OnOk result (page.new ≡ page.old ++ node_text (pages.round_item round)) }
 {
     let alloc = page.allocator();
     let name = round_name(alloc, round)?;
@@ -167,7 +165,7 @@ fn put_round_item(page: &mut Markup, round: u8) -> Result<(), AllocError>
 // Puts the links to so many rounds, the last one first.
 #[tactic(auto, using(crate::proofs::PartLemmas::down_more))]
 fn put_round_items(page: &mut Markup, rounds: u8) -> Result<(), AllocError>
-    ensures { OnOk result (page.new ≡ page.old ++ node_text (each_down round_item rounds)) }
+    ensures { OnOk result (page.new ≡ page.old ++ node_text (each_down pages.round_item rounds)) }
 {
     let mut left = rounds;
     while 0 < left {
@@ -179,7 +177,7 @@ fn put_round_items(page: &mut Markup, rounds: u8) -> Result<(), AllocError>
 
 // Puts a link to the names, if a round was paired.
 fn put_names_item(page: &mut Markup, rounds: u8) -> Result<(), AllocError>
-    ensures { OnOk result (page.new ≡ page.old ++ node_text (names_item rounds)) }
+    ensures { OnOk result (page.new ≡ page.old ++ node_text (pages.names_item rounds)) }
 {
     if rounds == 0 {
         return Ok(());
@@ -190,7 +188,7 @@ fn put_names_item(page: &mut Markup, rounds: u8) -> Result<(), AllocError>
 // Puts the links to the sections behind the rounds.
 #[tactic(auto, unfolding(crate::specs::Pages::last_items))]
 fn put_last_items(page: &mut Markup, rounds: u8) -> Result<(), AllocError>
-    ensures { OnOk result (page.new ≡ page.old ++ node_text (last_items rounds)) }
+    ensures { OnOk result (page.new ≡ page.old ++ node_text (pages.last_items rounds)) }
 {
     put_names_item(page, rounds)?;
     put_item(page, "standings", b"Standings")?;
@@ -200,7 +198,7 @@ fn put_last_items(page: &mut Markup, rounds: u8) -> Result<(), AllocError>
 // Puts the links to the sections.
 #[tactic(auto, unfolding(crate::specs::Pages::links))]
 fn put_links(page: &mut Markup, rounds: u8) -> Result<(), AllocError>
-    ensures { OnOk result (page.new ≡ page.old ++ node_text (links rounds)) }
+    ensures { OnOk result (page.new ≡ page.old ++ node_text (pages.links rounds)) }
 {
     page.start(Tag::Nav, &[])?;
     page.start(Tag::List, &[])?;
@@ -213,7 +211,7 @@ fn put_links(page: &mut Markup, rounds: u8) -> Result<(), AllocError>
 // Puts the sections of the rounds that were paired, the last one first.
 #[tactic(auto, unfolding(crate::specs::Pages::round_sections), using(crate::proofs::PartLemmas::down_more))]
 fn put_rounds(page: &mut Markup, report: &Report<'_>) -> Result<(), AllocError>
-    ensures { OnOk result (page.new ≡ page.old ++ node_text (round_sections report.now)) }
+    ensures { OnOk result (page.new ≡ page.old ++ node_text (pages.round_sections report.now)) }
 {
     let dates = first_line(report, b"132");
     let mut left = report.rounds_played();
@@ -226,7 +224,7 @@ fn put_rounds(page: &mut Markup, report: &Report<'_>) -> Result<(), AllocError>
 
 // Puts who sits where in the last round, if a round was paired.
 fn put_last_names(page: &mut Markup, report: &Report<'_>, rounds: u8) -> Result<(), AllocError>
-    ensures { OnOk result (page.new ≡ page.old ++ node_text (last_names report.now rounds)) }
+    ensures { OnOk result (page.new ≡ page.old ++ node_text (pages.last_names report.now rounds)) }
 {
     if rounds == 0 {
         return Ok(());
@@ -237,7 +235,7 @@ fn put_last_names(page: &mut Markup, report: &Report<'_>, rounds: u8) -> Result<
 // Puts the sections of the page.
 #[tactic(auto, unfolding(crate::specs::Pages::sections))]
 fn put_sections(page: &mut Markup, report: &Report<'_>, keys: &[Key]) -> Result<(), AllocError>
-    ensures { OnOk result (page.new ≡ page.old ++ node_text (sections report.now keys.now)) }
+    ensures { OnOk result (page.new ≡ page.old ++ node_text (pages.sections report.now keys.now)) }
 {
     page.start(Tag::Main, &[])?;
     put_rounds(page, report)?;
@@ -255,7 +253,7 @@ fn put_body(
     report: &Report<'_>,
     keys: &[Key],
 ) -> Result<(), AllocError>
-    ensures { OnOk result (page.new ≡ page.old ++ node_text (page_body title.now report.now keys.now)) }
+    ensures { OnOk result (page.new ≡ page.old ++ node_text (pages.page_body title.now report.now keys.now)) }
 {
     page.start(Tag::Body, &[])?;
     put_header(page, title, report)?;
@@ -267,7 +265,7 @@ fn put_body(
 // Puts the page.
 #[tactic(auto, unfolding(crate::specs::Pages::page_of))]
 fn put_page(page: &mut Markup, report: &Report<'_>, keys: &[Key]) -> Result<(), AllocError>
-    ensures { OnOk result (page.new ≡ page.old ++ node_text (page_of report.now keys.now)) }
+    ensures { OnOk result (page.new ≡ page.old ++ node_text (pages.page_of report.now keys.now)) }
 {
     let title = event_title(page.allocator(), report)?;
     let lang = Attribute {
@@ -286,7 +284,7 @@ fn put_page(page: &mut Markup, report: &Report<'_>, keys: &[Key]) -> Result<(), 
 /// Memory was refused.
 #[tactic(auto, unfolding(crate::specs::Pages::document_of))]
 pub fn document(alloc: Global, report: &Report<'_>, keys: &[Key]) -> Result<Vec<u8>, AllocError>
-    ensures { IfOk result (λ text. text.items ≡ document_of report.now keys.now) }
+    ensures { IfOk result (λ text. text.items ≡ pages.document_of report.now keys.now) }
 {
     let mut page = Markup::new(alloc);
     page.doctype()?;

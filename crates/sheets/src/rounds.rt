@@ -4,8 +4,7 @@ ghost use Rattle.common_texts.specs.Texts.{halves_text};
 ghost use Rattle.markup.specs.Prelude.{node_text};
 ghost use Rattle.trf16_report.specs.declared.limits.TheConstants.{MOST_ROUNDS};
 ghost use Rattle.sheets.specs.Parts.{cell, column_head, each, round_name, round_words};
-ghost use Rattle.sheets.specs.Rounds.{absent_row, absent_table, board_heads, board_row, board_rows, boards_caption, boards_table, bye_part, marks_text};
-ghost use Rattle.sheets.specs.Rounds.{opponent_part, result_text, round_heading, round_section, seat, why_text};
+ghost use Rattle.sheets.specs.Rounds as rounds;
 
 use crate::head_lines::date_in;
 use crate::orders::not_paired;
@@ -47,7 +46,7 @@ pub(crate) fn put_points(page: &mut Markup, halves: u16) -> Result<(), AllocErro
 #[tactic(auto, unfolding(crate::specs::Rounds::seat))]
 fn put_seat(page: &mut Markup, report: &Report<'_>, round: u8, start: u16) -> Result<(), AllocError>
     requires { 0 < round }
-    ensures { OnOk result (page.new ≡ page.old ++ node_text (seat report.now round start)) }
+    ensures { OnOk result (page.new ≡ page.old ++ node_text (rounds.seat report.now round start)) }
 {
     let person = person_in(page.allocator(), report, start)?;
     put_number(page, usize::from(start))?;
@@ -57,7 +56,7 @@ fn put_seat(page: &mut Markup, report: &Report<'_>, round: u8, start: u16) -> Re
 
 // The result of a board by the marks of white and of black, if both have one.
 fn marks_text(alloc: Global, white: &str, black: &str) -> Result<String, AllocError>
-    ensures { IfOk result (λ text. string_bytes text ≡ marks_text white.now black.now) }
+    ensures { IfOk result (λ text. string_bytes text ≡ rounds.marks_text white.now black.now) }
 {
     if white.is_empty() || black.is_empty() {
         return Ok(String::new(alloc));
@@ -73,7 +72,7 @@ fn result_text(
     board: Board,
 ) -> Result<String, AllocError>
     requires { 0 < round }
-    ensures { IfOk result (λ text. string_bytes text ≡ result_text report.now round board) }
+    ensures { IfOk result (λ text. string_bytes text ≡ rounds.result_text report.now round board) }
 {
     let white = result_mark(report.cell(board.0, round));
     let black = result_mark(report.cell(board.1, round));
@@ -82,7 +81,7 @@ fn result_text(
 
 // Puts that white has the bye.
 fn put_bye(page: &mut Markup) -> Result<(), AllocError>
-    ensures { OnOk result (page.new ≡ page.old ++ node_text bye_part) }
+    ensures { OnOk result (page.new ≡ page.old ++ node_text rounds.bye_part) }
 {
     let colspan = Attribute {
         name: AttributeName::Colspan,
@@ -100,7 +99,7 @@ fn put_opponent(
     board: Board,
 ) -> Result<(), AllocError>
     requires { 0 < round }
-    ensures { OnOk result (page.new ≡ page.old ++ node_text (opponent_part report.now round board)) }
+    ensures { OnOk result (page.new ≡ page.old ++ node_text (rounds.opponent_part report.now round board)) }
 {
     if board.1 == 0 {
         return put_bye(page);
@@ -119,7 +118,7 @@ fn put_board(
     numbered: (usize, Board),
 ) -> Result<(), AllocError>
     requires { 0 < round }
-    ensures { OnOk result (page.new ≡ page.old ++ node_text (board_row report.now round numbered.0 numbered.1)) }
+    ensures { OnOk result (page.new ≡ page.old ++ node_text (rounds.board_row report.now round numbered.0 numbered.1)) }
 {
     let (number, board) = numbered;
     let text = number.to_string(page.allocator())?;
@@ -137,7 +136,7 @@ fn put_boards(
     boards: &[Board],
 ) -> Result<(), AllocError>
     requires { 0 < round }
-    ensures { OnOk result (page.new ≡ page.old ++ node_text (board_rows report.now round boards.now)) }
+    ensures { OnOk result (page.new ≡ page.old ++ node_text (rounds.board_rows report.now round boards.now)) }
 {
     for (i, board) in boards.iter().enumerate() {
         put_board(page, report, round, (i + 1, *board))?;
@@ -147,7 +146,7 @@ fn put_boards(
 
 // Puts the heads of the columns of boards.
 fn put_board_heads(page: &mut Markup) -> Result<(), AllocError>
-    ensures { OnOk result (page.new ≡ page.old ++ node_text (each column_head board_heads)) }
+    ensures { OnOk result (page.new ≡ page.old ++ node_text (each column_head rounds.board_heads)) }
 {
     let labels = [
         "Board", "No.", "White", "Pts", "Result", "No.", "Black", "Pts",
@@ -158,7 +157,7 @@ fn put_board_heads(page: &mut Markup) -> Result<(), AllocError>
 // The caption of the boards of a round.
 #[tactic(auto, unfolding(crate::specs::Rounds::boards_caption))]
 fn boards_caption() -> &'static str
-    ensures { result.now ≡ boards_caption }
+    ensures { result.now ≡ rounds.boards_caption }
 {
     "The boards, with the points before the round"
 }
@@ -172,7 +171,7 @@ fn put_boards_table(
     boards: &[Board],
 ) -> Result<(), AllocError>
     requires { 0 < round }
-    ensures { OnOk result (page.new ≡ page.old ++ node_text (boards_table report.now round boards.now)) }
+    ensures { OnOk result (page.new ≡ page.old ++ node_text (rounds.boards_table report.now round boards.now)) }
 {
     start_table(page, boards_caption())?;
     put_board_heads(page)?;
@@ -183,7 +182,7 @@ fn put_boards_table(
 
 /// Why a player was not paired, by their cell of the round: a bye that was asked for, with what it gives, or absent.
 pub(crate) fn why_text(cell: Cell) -> &'static str
-    ensures { result.now ≡ why_text cell }
+    ensures { result.now ≡ rounds.why_text cell }
 {
     match cell {
         Cell::Bye(Bye::Half) => "half-point bye",
@@ -201,7 +200,7 @@ fn put_absent(
     start: u16,
 ) -> Result<(), AllocError>
     requires { 0 < round }
-    ensures { OnOk result (page.new ≡ page.old ++ node_text (absent_row report.now round start)) }
+    ensures { OnOk result (page.new ≡ page.old ++ node_text (rounds.absent_row report.now round start)) }
 {
     let alloc = page.allocator();
     let person = person_in(alloc, report, start)?;
@@ -221,7 +220,7 @@ fn put_absent_rows(
     starts: &[u16],
 ) -> Result<(), AllocError>
     requires { 0 < round }
-    ensures { OnOk result (page.new ≡ page.old ++ node_text (each (absent_row report.now round) starts.now)) }
+    ensures { OnOk result (page.new ≡ page.old ++ node_text (each (rounds.absent_row report.now round) starts.now)) }
 {
     for start in starts {
         put_absent(page, report, round, *start)?;
@@ -238,7 +237,7 @@ fn put_absent_table(
     starts: &[u16],
 ) -> Result<(), AllocError>
     requires { 0 < round }
-    ensures { OnOk result (page.new ≡ page.old ++ node_text (absent_table report.now round starts.now)) }
+    ensures { OnOk result (page.new ≡ page.old ++ node_text (rounds.absent_table report.now round starts.now)) }
 {
     if starts.is_empty() {
         return Ok(());
@@ -258,7 +257,7 @@ fn round_heading(
     round: u8,
 ) -> Result<Vec<u8>, AllocError>
     requires { round ≤ MOST_ROUNDS }
-    ensures { IfOk result (λ text. text.items ≡ round_heading report.now dates.now round) }
+    ensures { IfOk result (λ text. text.items ≡ rounds.round_heading report.now dates.now round) }
 {
     let words = round_words(alloc, round)?;
     let date = date_in(alloc, report.is_utf8(), dates, round)?;
@@ -275,7 +274,7 @@ pub(crate) fn put_round(
 ) -> Result<(), AllocError>
     requires counted { 0 < round }
     requires few { round ≤ MOST_ROUNDS }
-    ensures { OnOk result (page.new ≡ page.old ++ node_text (round_section report.now dates.now round)) }
+    ensures { OnOk result (page.new ≡ page.old ++ node_text (rounds.round_section report.now dates.now round)) }
 {
     let alloc = page.allocator();
     let name = round_name(alloc, round)?;

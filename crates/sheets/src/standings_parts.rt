@@ -4,10 +4,7 @@ ghost use Rattle.common_texts.specs.Prelude.{value_text};
 ghost use Rattle.std.specs.Fmt.{decimal};
 ghost use Rattle.markup.specs.Prelude.{node_text};
 ghost use Rattle.sheets.specs.Parts.{cell, column_head, each, each_up};
-ghost use Rattle.sheets.specs.StandingsParts.{all_heads, full_table, game_cell, game_cells, is_open, key_name};
-ghost use Rattle.sheets.specs.StandingsParts.{no_standings, rows_table, scored, standings_caption};
-ghost use Rattle.sheets.specs.StandingsParts.{standings_heading, standings_heads, standings_round, standings_row};
-ghost use Rattle.sheets.specs.StandingsParts.{standings_rows, standings_section, standings_table, value_cells};
+ghost use Rattle.sheets.specs.StandingsParts as parts;
 ghost use Rattle.tables.specs.Prelude.{standings_of};
 
 use crate::parts::{
@@ -26,7 +23,7 @@ use trf16_writer::before_round;
 // True if a game of a round has no result yet.
 fn is_open(report: &Report<'_>, round: u8) -> bool
     requires { 0 < round }
-    ensures { result ≡ is_open report.now round }
+    ensures { result ≡ parts.is_open report.now round }
 {
     for player in report.players() {
         if is_unfinished(&cell_at(&player.cells, round)) {
@@ -40,7 +37,7 @@ fn is_open(report: &Report<'_>, round: u8) -> bool
 // was paired.
 #[tactic(auto, using(crate::proofs::PartLemmas::open_more))]
 fn standings_round(report: &Report<'_>) -> u8
-    ensures { result ≡ standings_round report.now }
+    ensures { result ≡ parts.standings_round report.now }
 {
     let rounds = report.rounds_played();
     for past in 0..rounds {
@@ -53,7 +50,7 @@ fn standings_round(report: &Report<'_>) -> u8
 
 // The name of a key.
 fn key_name(key: Key) -> &'static str
-    ensures { result.now ≡ key_name key }
+    ensures { result.now ≡ parts.key_name key }
 {
     match key {
         Key::Direct => "Direct encounter",
@@ -65,7 +62,7 @@ fn key_name(key: Key) -> &'static str
 // Puts the values of some keys, in their order.
 #[tactic(auto, using(crate::proofs::PartLemmas::values_end))]
 fn put_values(page: &mut Markup, keys: &[Key], values: &[Option<u32>]) -> Result<(), AllocError>
-    ensures { OnOk result (page.new ≡ page.old ++ node_text (value_cells keys.now values.now)) }
+    ensures { OnOk result (page.new ≡ page.old ++ node_text (parts.value_cells keys.now values.now)) }
 {
     for (i, key) in keys.iter().enumerate() {
         if values.len() <= i {
@@ -88,7 +85,7 @@ fn put_value(page: &mut Markup, key: Key, value: Option<u32>) -> Result<(), Allo
 #[tactic(auto, unfolding(crate::specs::StandingsParts::game_cell))]
 fn put_game(page: &mut Markup, report: &Report<'_>, start: u16, round: u8) -> Result<(), AllocError>
     requires { 0 < round }
-    ensures { OnOk result (page.new ≡ page.old ++ node_text (game_cell report.now start round)) }
+    ensures { OnOk result (page.new ≡ page.old ++ node_text (parts.game_cell report.now start round)) }
 {
     let alloc = page.allocator();
     let name = round_name(alloc, round)?;
@@ -101,7 +98,7 @@ fn put_game(page: &mut Markup, report: &Report<'_>, start: u16, round: u8) -> Re
 // Puts the games of a player in all rounds that were paired.
 #[tactic(auto, unfolding(crate::specs::StandingsParts::game_cells))]
 fn put_games(page: &mut Markup, report: &Report<'_>, start: u16) -> Result<(), AllocError>
-    ensures { OnOk result (page.new ≡ page.old ++ node_text (game_cells report.now start)) }
+    ensures { OnOk result (page.new ≡ page.old ++ node_text (parts.game_cells report.now start)) }
 {
     let rounds = report.rounds_played();
     for round in 0..rounds {
@@ -113,7 +110,7 @@ fn put_games(page: &mut Markup, report: &Report<'_>, start: u16) -> Result<(), A
 // Puts start rank, name and score of a player.
 #[tactic(auto, unfolding(crate::specs::StandingsParts::scored))]
 fn put_scored(page: &mut Markup, report: &Report<'_>, row: &Row) -> Result<(), AllocError>
-    ensures { OnOk result (page.new ≡ page.old ++ node_text (scored report.now row.now)) }
+    ensures { OnOk result (page.new ≡ page.old ++ node_text (parts.scored report.now row.now)) }
 {
     let person = person_in(page.allocator(), report, row.start())?;
     put_number(page, usize::from(row.start()))?;
@@ -130,7 +127,7 @@ fn put_row(
     placed: (usize, &Row),
 ) -> Result<(), AllocError>
     ensures { OnOk result (page.new
-        ≡ page.old ++ node_text (standings_row report.now keys.now placed.entry.0 placed.entry.1.now)) }
+        ≡ page.old ++ node_text (parts.standings_row report.now keys.now placed.entry.0 placed.entry.1.now)) }
 {
     let (place, row) = placed;
     let text = place.to_string(page.allocator())?;
@@ -148,7 +145,7 @@ fn put_rows(
     keys: &[Key],
     rows: &[Row],
 ) -> Result<(), AllocError>
-    ensures { OnOk result (page.new ≡ page.old ++ node_text (standings_rows report.now keys.now rows.now)) }
+    ensures { OnOk result (page.new ≡ page.old ++ node_text (parts.standings_rows report.now keys.now rows.now)) }
 {
     for (i, row) in rows.iter().enumerate() {
         put_row(page, report, keys, (i + 1, row))?;
@@ -158,7 +155,7 @@ fn put_rows(
 
 // Puts the heads of some keys.
 fn put_key_heads(page: &mut Markup, keys: &[Key]) -> Result<(), AllocError>
-    ensures { OnOk result (page.new ≡ page.old ++ node_text (each (λ key. column_head (key_name key)) keys.now)) }
+    ensures { OnOk result (page.new ≡ page.old ++ node_text (each (λ key. column_head (parts.key_name key)) keys.now)) }
 {
     for key in keys {
         put_column_head(page, key_name(*key).as_bytes())?;
@@ -179,7 +176,7 @@ fn put_round_heads(page: &mut Markup, rounds: u8) -> Result<(), AllocError>
 
 // Puts the heads of the columns in front of the keys.
 fn put_front_heads(page: &mut Markup) -> Result<(), AllocError>
-    ensures { OnOk result (page.new ≡ page.old ++ node_text (each column_head standings_heads)) }
+    ensures { OnOk result (page.new ≡ page.old ++ node_text (each column_head parts.standings_heads)) }
 {
     put_column_heads(page, &["Place", "No.", "Name", "Pts"])
 }
@@ -187,7 +184,7 @@ fn put_front_heads(page: &mut Markup) -> Result<(), AllocError>
 // Puts the heads of all columns.
 #[tactic(auto, unfolding(crate::specs::StandingsParts::all_heads))]
 fn put_heads(page: &mut Markup, keys: &[Key], rounds: u8) -> Result<(), AllocError>
-    ensures { OnOk result (page.new ≡ page.old ++ node_text (all_heads keys.now rounds)) }
+    ensures { OnOk result (page.new ≡ page.old ++ node_text (parts.all_heads keys.now rounds)) }
 {
     put_front_heads(page)?;
     put_key_heads(page, keys)?;
@@ -197,7 +194,7 @@ fn put_heads(page: &mut Markup, keys: &[Key], rounds: u8) -> Result<(), AllocErr
 // The caption.
 #[tactic(auto, unfolding(crate::specs::StandingsParts::standings_caption))]
 fn caption() -> &'static str
-    ensures { result.now ≡ standings_caption }
+    ensures { result.now ≡ parts.standings_caption }
 {
     "The games of each round: the number of the opponent, the colour, and the result"
 }
@@ -210,7 +207,7 @@ fn put_full_table(
     keys: &[Key],
     rows: &[Row],
 ) -> Result<(), AllocError>
-    ensures { OnOk result (page.new ≡ page.old ++ node_text (full_table report.now keys.now rows.now)) }
+    ensures { OnOk result (page.new ≡ page.old ++ node_text (parts.full_table report.now keys.now rows.now)) }
 {
     start_table(page, caption())?;
     put_heads(page, keys, report.rounds_played())?;
@@ -222,7 +219,7 @@ fn put_full_table(
 // Puts that there are no standings.
 #[tactic(auto, unfolding(crate::specs::StandingsParts::no_standings))]
 fn put_none(page: &mut Markup) -> Result<(), AllocError>
-    ensures { OnOk result (page.new ≡ page.old ++ node_text no_standings) }
+    ensures { OnOk result (page.new ≡ page.old ++ node_text parts.no_standings) }
 {
     page.element(
         Tag::Paragraph,
@@ -234,7 +231,7 @@ fn put_none(page: &mut Markup) -> Result<(), AllocError>
 // Puts the standings of a report, or that there are none.
 fn put_table(page: &mut Markup, report: &Report<'_>, keys: &[Key]) -> Result<(), AllocError>
     ensures { OnOk result (page.new
-        ≡ page.old ++ node_text (rows_table report.now keys.now (standings_of report.now keys.now))) }
+        ≡ page.old ++ node_text (parts.rows_table report.now keys.now (standings_of report.now keys.now))) }
 {
     match table(page.allocator(), report, keys) {
         Ok(standings) => put_full_table(page, report, keys, standings.rows()),
@@ -249,7 +246,7 @@ fn put_counted(
     counted: Option<Report<'_>>,
     keys: &[Key],
 ) -> Result<(), AllocError>
-    ensures { OnOk result (page.new ≡ page.old ++ node_text (standings_table keys.now counted.entry)) }
+    ensures { OnOk result (page.new ≡ page.old ++ node_text (parts.standings_table keys.now counted.entry)) }
 {
     match counted {
         Some(report) => put_table(page, &report, keys),
@@ -260,7 +257,7 @@ fn put_counted(
 // The heading of the standings before a round, if so many rounds were paired.
 #[tactic(auto, unfolding(crate::specs::StandingsParts::standings_heading))]
 fn heading(alloc: Global, round: u8, rounds: u8) -> Result<String, AllocError>
-    ensures { IfOk result (λ text. string_bytes text ≡ standings_heading round rounds) }
+    ensures { IfOk result (λ text. string_bytes text ≡ parts.standings_heading round rounds) }
 {
     if round <= rounds || rounds == 0 {
         format!(in alloc; "Standings before round {round}")
@@ -276,7 +273,7 @@ pub(crate) fn put_standings(
     report: &Report<'_>,
     keys: &[Key],
 ) -> Result<(), AllocError>
-    ensures { OnOk result (page.new ≡ page.old ++ node_text (standings_section report.now keys.now)) }
+    ensures { OnOk result (page.new ≡ page.old ++ node_text (parts.standings_section report.now keys.now)) }
 {
     let alloc = page.allocator();
     let round = standings_round(report);
