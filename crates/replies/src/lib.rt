@@ -5,10 +5,9 @@
 //! `enter::enter`, `standings::standings` and `sheet::sheet` answer to the bytes of a report. `refusal` has the answers
 //! that several commands have, whose lines stand in `refusal_texts`: `refused: `, where it is (the line of the report,
 //! or the start rank of a player and perhaps a round), and what it is. `texts` has the other lines of the program's
-//! own, `wall` boards and standings with names, and `shown` a name as it is printed. `Reply::write` writes a reply
-//! where its status says.
+//! own, and `wall` boards and standings with names. `Reply::write` writes a reply where its status says.
 //!
-//! To mind: a text is made whole in memory before a byte of it is written, and if memory is refused, a call says so.
+//! To mind: a text is put onto a `Page` whole before a byte of it is written, and if memory is refused, a call says so.
 #![tactic(auto)]
 
 mod cells_note;

@@ -1,6 +1,5 @@
 // The lines of `check --notes` beside a refusal: what was found.
 ghost use Rattle.std.specs.Prelude.{◌≡◌, ◌≢◌, ◌≤◌, ◌++◌, [], codes, IfOk, Ok, OnOk};
-ghost use Rattle.std.specs.Option.{option_map_or};
 ghost use Rattle.trf16_report.specs.Prelude.{verdict_unsummed};
 ghost use Rattle.report_notes.specs.RefusalNotes.{are_lines_read, fits_in_bytes};
 ghost use Rattle.replies.specs.RefusalNoteTexts as texts;
@@ -153,28 +152,25 @@ fn put_points_note(text: &mut Page, player: u16, bytes: &[u8], bye: u16) -> Resu
 fn put_sums_note(text: &mut Page, report: &Report<'_>, player: u16) -> Result<(), AllocError>
     ensures { OnOk result (text.new ≡ text.old ++ texts.points_note player (Ok report.now)) }
 {
-    put_sums(text, sums_of(report, player))?;
+    if let Some(sums) = sums_of(report, player) {
+        put_sums(text, sums)?;
+    }
     put_unfinished(text, report.unfinished())
 }
 
-// Puts the sums that a points field was compared with, or nothing.
+// Puts the sums that a points field was compared with.
 #[tactic(auto, unfolding(crate::specs::RefusalNoteTexts::sums_text))]
-fn put_sums(text: &mut Page, sums: Option<Sums>) -> Result<(), AllocError>
-    ensures { OnOk result (text.new ≡ text.old ++ option_map_or texts.sums_text sums []) }
+fn put_sums(text: &mut Page, sums: Sums) -> Result<(), AllocError>
+    ensures { OnOk result (text.new ≡ text.old ++ texts.sums_text sums) }
 {
-    match sums {
-        Some(sums) => {
-            let player = sums.player;
-            let field = HalfPoints(u32::from(sums.field));
-            let paired = HalfPoints(u32::from(sums.paired));
-            let all = HalfPoints(u32::from(sums.all));
-            write!(
-                text,
-                "note player {player}: points field {field}, rounds paired {paired}, all rounds {all}\n"
-            )
-        }
-        None => Ok(()),
-    }
+    let player = sums.player;
+    let field = HalfPoints(u32::from(sums.field));
+    let paired = HalfPoints(u32::from(sums.paired));
+    let all = HalfPoints(u32::from(sums.all));
+    write!(
+        text,
+        "note player {player}: points field {field}, rounds paired {paired}, all rounds {all}\n"
+    )
 }
 
 // Puts the first game without a result, if there is one.
