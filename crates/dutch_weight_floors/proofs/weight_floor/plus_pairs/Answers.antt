@@ -15,6 +15,6 @@ loop-i-preserved c =
       arith,
       c.loop-i.invariant,
       one_pair (slack_in c.args.floor.now) c.args.firsts.now c.args.seconds.now c.loop-i.i c.min-count.result c.loop-i-test.true c.min-count.ensures,
-      c.slacks.ensures,
+      c.slack.ensures,
       c.in_ok-sum.ensures.1,
     )
