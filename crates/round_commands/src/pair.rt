@@ -144,7 +144,8 @@ fn put_boards(text: &mut Page, boards: &[Board]) -> Result<(), AllocError>
 fn put_each_board(text: &mut Page, boards: &[Board]) -> Result<(), AllocError>
     ensures { OnOk result (text.new ≡ text.old ++ flat_map board_text boards.now) }
 {
-    for (white, black) in boards {
+    for board in boards {
+        let (white, black) = *board;
         write!(text, "{white} {black}\n")?;
     }
     Ok(())

@@ -60,7 +60,7 @@ pub underway_end : (front : List ℕ) (line : Arrangement → List ℕ) (all com
     → (steps : ℕ) → IsUnderway front line all coming done text → coming ≡ [] → done < count → Puts front text (IsListing line all count steps AtEnd)
 underway_end front line all coming done count text steps h e less =
     let none = none_left all done h.within (sym h.rest ∙ e) in
-    (flat_map line all, (h.text_is ∙ ap (λ some. front ++ flat_map line some) none.1, (subst (λ n. n < count) (sym none.0) less, refl)))
+    (flat_map line all, h.text_is ∙ ap (λ some. front ++ flat_map line some) none.1, (subst (λ n. n < count) (sym none.0) less, refl))
 
 no_seconds : (facts : Facts) (reached : Reached) (firsts : List ℕ) → pairs_text facts reached firsts [] ≡ []
 no_seconds facts reached [] = refl
@@ -77,14 +77,14 @@ pairs_end facts reached firsts seconds i old text e end =
 -- the listing is stopped
 pub underway_stopped : (front : List ℕ) (line : Arrangement → List ℕ) (all coming : List Arrangement) (done count : ℕ) (text : List ℕ)
     → (steps used : ℕ) → IsUnderway front line all coming done text → done < count → used ≡ steps → Puts front text (IsListing line all count steps (Stopped used))
-underway_stopped front line all coming done count text steps used h less e = (flat_map line (take done all), (h.text_is, (e, (done, less, h.within, refl))))
+underway_stopped front line all coming done count text steps used h less e = (flat_map line (take done all), h.text_is, (e, (done, less, h.within, refl)))
 
 -- as many came as were asked for
 pub underway_count : (front : List ℕ) (line : Arrangement → List ℕ) (all coming : List Arrangement) (done count : ℕ) (text : List ℕ)
     → (steps : ℕ) → IsUnderway front line all coming done text → done ≤ count → count ≤ done → Puts front text (IsListing line all count steps AtCount)
 underway_count front line all coming done count text steps h low high =
     let same : done ≡ count = omega (arith, low, high) in
-    (flat_map line (take count all), (subst (λ n. text ≡ front ++ flat_map line (take n all)) same h.text_is, (subst (λ n. n ≤ length all) same h.within, refl)))
+    (flat_map line (take count all), subst (λ n. text ≡ front ++ flat_map line (take n all)) same h.text_is, (subst (λ n. n ≤ length all) same h.within, refl))
 
 -- behind the line of one more candidate
 pub underway_line : (facts : Facts) (reached : Reached) (front : List ℕ) (all before coming : List Arrangement) (candidate : Candidate) (frame : Frame) (done : ℕ) (text new : List ℕ)

@@ -36,8 +36,8 @@ module _ (telling : TellingFacts) where
   -- ---- the round
 
   -- how many players are absent
-  abbrev pub absent : ℕ
-  absent = length telling.sheet.players - length telling.facts.seats
+  abbrev pub absent_players : ℕ
+  absent_players = length telling.sheet.players - length telling.facts.seats
 
   -- how many boards there are: half of those present who have no bye
   abbrev pub boards : List ℕ → ℕ
@@ -47,13 +47,13 @@ module _ (telling : TellingFacts) where
   unfoldable pub counts_line : List ℕ → List ℕ
   counts_line bye =
       codes "round " ++ (decimal telling.facts.round ++ (codes " of " ++ (decimal telling.facts.total ++ (codes " present "
-      ++ (decimal (length telling.facts.seats) ++ (codes " absent " ++ (decimal absent ++ (codes " boards " ++ decimal (boards bye)))))))))
+      ++ (decimal (length telling.facts.seats) ++ (codes " absent " ++ (decimal absent_players ++ (codes " boards " ++ decimal (boards bye)))))))))
 
   -- the same in sentences
   unfoldable pub counts_words : List ℕ → List ℕ
   counts_words bye =
       codes "Round " ++ (decimal telling.facts.round ++ (codes " of " ++ (decimal telling.facts.total ++ (codes ". Present: "
-      ++ (decimal (length telling.facts.seats) ++ (codes ". Absent: " ++ (decimal absent ++ (codes ". Boards: " ++ (decimal (boards bye) ++ codes ".")))))))))
+      ++ (decimal (length telling.facts.seats) ++ (codes ". Absent: " ++ (decimal absent_players ++ (codes ". Boards: " ++ (decimal (boards bye) ++ codes ".")))))))))
 
   -- who has the bye
   abbrev pub bye_text : ℕ → List ℕ

@@ -23,13 +23,13 @@ in_wording Words line words = words
 -- ---- players in a sentence
 
 -- a start rank, and behind it a name as it is shown; a dash is no name
-abbrev pub named : ℕ → List ℕ → List ℕ
-named start name = if bytes_eq name (codes "-") then decimal start else decimal start ++ (codes " " ++ name)
+abbrev pub rank_and_name : ℕ → List ℕ → List ℕ
+rank_and_name start name = if bytes_eq name (codes "-") then decimal start else decimal start ++ (codes " " ++ name)
 
 module _ (sheet : Sheet) where
   -- a player in a sentence: the start rank, and behind it the name as it is shown, if there is one [own]
   abbrev pub player_words : ℕ → List ℕ
-  player_words start = named start (shown (name_in sheet start))
+  player_words start = rank_and_name start (shown (name_in sheet start))
 
   -- players in a sentence, by start ranks, with semicolons between them, and none for nobody [with player_words]
   abbrev pub players_words : List ℕ → List ℕ

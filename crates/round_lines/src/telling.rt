@@ -2,7 +2,7 @@
 ghost use Rattle.std.specs.Prelude.{◌≡◌, ◌++◌, IfOk, OnOk, codes, map};
 ghost use Rattle.std.specs.List.{flat_map};
 ghost use Rattle.dutch_player.specs.Prelude.{seat_at};
-ghost use Rattle.round_lines.specs.Tellings.{in_wording, named, player_words, players_words, seat_words, seats_words};
+ghost use Rattle.round_lines.specs.Tellings.{in_wording, player_words, players_words, rank_and_name, seat_words, seats_words};
 
 use common_texts::{Page, shown};
 use dutch_player::Field;
@@ -39,7 +39,7 @@ pub fn in_wording(wording: Wording, line: &'static str, words: &'static str) -> 
 
 // Puts a start rank, and behind it a name as it is shown; a dash is no name.
 fn put_named(text: &mut Page, start: u16, name: &[u8]) -> Result<(), AllocError>
-    ensures { OnOk result (text.new ≡ text.old ++ named start name.now) }
+    ensures { OnOk result (text.new ≡ text.old ++ rank_and_name start name.now) }
 {
     write!(text, "{start}")?;
     if name == b"-".as_slice() {

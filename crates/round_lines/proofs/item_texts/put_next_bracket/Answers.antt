@@ -4,4 +4,4 @@ use Rattle.round_lines.proofs.item_texts.put_next_bracket.Goals as goal
 
 pub returns : goal.returns
 unfolding next_words
-returns c = rw (c.article.ensures, c.said.ensures, c.next_pairs.ensures, c.next_psd-psd.ensures) at c.say.ensures
+returns c = rw (c.words_of-item_words.ensures.article, c.words_of-item_words.ensures.said, c.next_pairs.ensures, c.next_psd-psd.ensures) at c.say.ensures
