@@ -1,9 +1,8 @@
 -- The values of a row at their end, and the labels of a line one by one.
 use Rattle.std.proofs.Common.{◌≡◌, ◌∙◌, ◌≤◌, ◌<◌, ◌+◌, ℕ, Bool, List, [], ◌∷◌, Option, ◌++◌, ap, append-nil, append_assoc, refl, sym, length, drop, get_or}
-use Rattle.std.specs.Prelude.{slice_index_or, codes, None}
+use Rattle.std.specs.Prelude.{slice_index_or, None}
 use Rattle.std.proofs.lemmas.List.{drop_all, drop_more}
 use Rattle.tables.specs.declared.key.Key.{Key}
-use Rattle.common_texts.specs.Prelude.{value_text}
 use Rattle.replies.specs.Prelude.{values_text, LabelFacts, gap, labels_text, padded, values_labels}
 
 no_values : (keys : List Key) → values_text keys [] ≡ []
@@ -17,14 +16,16 @@ values_end keys values i old text e end =
     let none : values_text (drop i keys) (drop i values) ≡ [] = ap (values_text (drop i keys)) (drop_all i values end) ∙ no_values (drop i keys) in
     sym (append-nil text) ∙ (ap (λ t. text ++ t) (sym none) ∙ e)
 
--- one more value
-pub values_more : (keys : List Key) (values : List (Option ℕ)) (i : ℕ) (d : Key) (old put whole : List ℕ) → i < length keys → i < length values
-    → put ≡ old ++ (codes " " ++ value_text (get_or keys i d) (get_or values i None)) → old ++ values_text (drop i keys) (drop i values) ≡ whole
-    → put ++ values_text (drop (i + 1) keys) (drop (i + 1) values) ≡ whole
-values_more keys values i d old put whole lt lt' e so_far =
-    let value = codes " " ++ value_text (get_or keys i d) (get_or values i None) in
-    let rest = values_text (drop (i + 1) keys) (drop (i + 1) values) in
-    let here : values_text (drop i keys) (drop i values) ≡ value ++ rest = rw (drop_more keys i d lt, drop_more values i None lt') refl in
+-- one more value, of which something is put, as a text or a label
+pub values_more : {X : Type 0} (one : Key → Option ℕ → List X) (all : List Key → List (Option ℕ) → List X)
+    → ((key : Key) (keys : List Key) (value : Option ℕ) (values : List (Option ℕ)) → all (key ∷ keys) (value ∷ values) ≡ one key value ++ all keys values)
+    → (keys : List Key) (values : List (Option ℕ)) (i : ℕ) (d : Key) (old put whole : List X) → i < length keys → i < length values
+    → put ≡ old ++ one (get_or keys i d) (get_or values i None) → old ++ all (drop i keys) (drop i values) ≡ whole
+    → put ++ all (drop (i + 1) keys) (drop (i + 1) values) ≡ whole
+values_more one all step keys values i d old put whole lt lt' e so_far =
+    let value = one (get_or keys i d) (get_or values i None) in
+    let rest = all (drop (i + 1) keys) (drop (i + 1) values) in
+    let here : all (drop i keys) (drop i values) ≡ value ++ rest = rw (drop_more keys i d lt, drop_more values i None lt') (step _ _ _ _) in
     ap (λ xs. xs ++ rest) e ∙ append_assoc old value rest ∙ ap (λ xs. old ++ xs) (sym here) ∙ so_far
 
 no_labels : (keys : List Key) → values_labels keys [] ≡ []

@@ -1,6 +1,7 @@
 // The boards and the standings for the wall: with names, in columns.
 ghost use Rattle.std.specs.Prelude.{◌≡◌, ◌++◌, ◌∷◌, ◌-◌, ◌<◌, [], IfOk, OnOk};
 ghost use Rattle.std.specs.Fmt.{decimal};
+ghost use Rattle.common_texts.specs.KeyTexts.{value_text};
 ghost use Rattle.replies.specs.Replies.{answer_of};
 ghost use Rattle.replies.specs.Statuses.{done};
 ghost use Rattle.replies.specs.StandingsAnswers.{rounds_shown};
@@ -38,24 +39,11 @@ fn board_lines(
     let before = report.rounds_played();
     let mut lines = Vec::new(alloc);
     for (i, board) in boards.iter().enumerate() {
-        let line = line_of_number(alloc, i + 1)?;
-        lines.push(with_board(line, report, before, *board)?)?;
+        let mut line = line_of_number(alloc, i + 1)?;
+        push_board(&mut line, report, before, *board)?;
+        lines.push(line)?;
     }
     Ok(lines)
-}
-
-// A line, and behind it a board with the scores of the rounds before.
-fn with_board(
-    line: TableLine,
-    report: &Report<'_>,
-    before: u8,
-    board: Board,
-) -> Result<TableLine, AllocError>
-    ensures { IfOk result (λ longer. longer ≡ line ++ texts.board_labels report.now before board) }
-{
-    let mut longer = line;
-    push_board(&mut longer, report, before, board)?;
-    Ok(longer)
 }
 
 /// The boards of a round that was paired, with names, the scores before that round, and the results.
@@ -83,26 +71,26 @@ fn played_lines(
 {
     let mut lines = Vec::new(alloc);
     for (i, board) in boards.iter().enumerate() {
-        let line = line_of_number(alloc, i + 1)?;
-        lines.push(with_played(line, report, round, *board)?)?;
+        let mut line = line_of_number(alloc, i + 1)?;
+        push_played(&mut line, report, round, *board)?;
+        lines.push(line)?;
     }
     Ok(lines)
 }
 
-// A line, and behind it a board that was paired, with its result.
-fn with_played(
-    line: TableLine,
+// Puts a board that was paired, with its result.
+fn push_played(
+    line: &mut TableLine,
     report: &Report<'_>,
     round: u8,
     board: Board,
-) -> Result<TableLine, AllocError>
+) -> Result<(), AllocError>
     requires { 0 < round }
-    ensures { IfOk result (λ longer. longer
-        ≡ line ++ (texts.board_labels report.now (round - 1) board ++ texts.result_labels report.now round board)) }
+    ensures { OnOk result (line.new ≡ line.old
+        ++ (texts.board_labels report.now (round - 1) board ++ texts.result_labels report.now round board)) }
 {
-    let mut longer = with_board(line, report, round - 1, board)?;
-    push_result(&mut longer, report, round, board)?;
-    Ok(longer)
+    push_board(line, report, round - 1, board)?;
+    push_result(line, report, round, board)
 }
 
 /// The standings with names: for each player the place, name, score, the values of the keys, and the games if they are
@@ -133,25 +121,11 @@ fn row_lines(
 {
     let mut lines = Vec::new(alloc);
     for (i, row) in rows.iter().enumerate() {
-        let line = line_of_number(alloc, i + 1)?;
-        lines.push(with_row(line, options, report, row)?)?;
+        let mut line = line_of_number(alloc, i + 1)?;
+        push_row(&mut line, options, report, row)?;
+        lines.push(line)?;
     }
     Ok(lines)
-}
-
-// A line, and behind it a row.
-fn with_row(
-    line: TableLine,
-    options: &StandingsOptions,
-    report: &Report<'_>,
-    row: &Row,
-) -> Result<TableLine, AllocError>
-    ensures { IfOk result (λ longer. longer ≡ line ++ (texts.row_labels report.now options.now.keys row.now
-        ++ games_labels report.now row.now.start (rounds_shown options.now report.now))) }
-{
-    let mut longer = line;
-    push_row(&mut longer, options, report, row)?;
-    Ok(longer)
 }
 
 // Lines as a table of so many columns.
@@ -276,6 +250,14 @@ fn push_row(
     push_games(line, report, row.start(), rounds_shown(options, report))
 }
 
+// Puts the value of a key.
+fn push_value(line: &mut TableLine, key: Key, value: Option<u32>) -> Result<(), AllocError>
+    ensures { OnOk result (line.new ≡ line.old ++ right (value_text key value) ∷ []) }
+{
+    let shown = KeyValue { key, value };
+    write!(line, "{shown}")
+}
+
 // Puts the values of some keys, in their order.
 #[tactic(auto, using(crate::proofs::TableLemmas::labels_end))]
 fn push_values(line: &mut TableLine, keys: &[Key], values: &[Option<u32>]) -> Result<(), AllocError>
@@ -285,11 +267,7 @@ fn push_values(line: &mut TableLine, keys: &[Key], values: &[Option<u32>]) -> Re
         if values.len() <= i {
             return Ok(());
         }
-        let value = KeyValue {
-            key: *key,
-            value: values[i],
-        };
-        write!(line, "{value}")?;
+        push_value(line, *key, values[i])?;
     }
     Ok(())
 }
