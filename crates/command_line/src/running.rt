@@ -25,8 +25,8 @@ use round_commands::pair::pair;
 use std::alloc::{AllocError, Global};
 use trf16_report::{Sink, Source};
 
-/// How much memory a run takes in one block at its start, in bytes, and gives back at once: more than a bracket of a few
-/// hundred players takes.
+/// How much memory a run takes in one block at its start, in bytes, and gives back at once: more than a bracket of a
+/// few hundred players takes.
 const WORKING_MEMORY: usize = 1 << 19;
 
 // Takes a block of memory and gives it back untouched. The C library gives the free end of its heap back to the system

@@ -1,5 +1,6 @@
 //! Texts that several answers have: half points as points, the values of the keys that break ties, what a cell says, a
-//! name without control characters, and that the steps of a bracket did not suffice; and `Page`, in which texts are made.
+//! name without control characters, and that the steps of a bracket did not suffice; and `Page`, in which texts are
+//! made.
 #![tactic(auto)]
 
 mod cells;

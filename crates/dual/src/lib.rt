@@ -1,12 +1,13 @@
 //! Weak duality: certificates that no matching is cheap, barriers and witnesses that tell whether players can be paired
 //! out, specified by pairs over numbers.
 //!
-//! A `CertificateTable` holds a certificate: a potential for each player, and priced sets of players. `CertificateTable::floor` checks it and
-//! makes a `Floor` of it: what every matching costs at least, beside what is owed, and what each pair and each player
-//! left over adds that is known of it. Of a certificate that is not feasible no floor is made; of one that gives away
-//! more than it gains there is one, and what is known may pay for it. `CertificateTable::floor_for_any` makes one for matchings
-//! that leave any number over. `tells_incompletable` checks a barrier (after Tutte and Berge), `least_left` says how
-//! many it leaves over, `tells_completable` checks a witness. Whoever finds them need not be trusted.
+//! A `CertificateTable` holds a certificate: a potential for each player, and priced sets of players.
+//! `CertificateTable::floor` checks it and makes a `Floor` of it: what every matching costs at least, beside what is
+//! owed, and what each pair and each player left over adds that is known of it. Of a certificate that is not feasible
+//! no floor is made; of one that gives away more than it gains there is one, and what is known may pay for it.
+//! `CertificateTable::floor_for_any` makes one for matchings that leave any number over. `tells_incompletable` checks a
+//! barrier (after Tutte and Berge), `least_left` says how many it leaves over, `tells_completable` checks a witness.
+//! Whoever finds them need not be trusted.
 //!
 //! Nothing here knows chess: a `MatchingRule` of the caller says, by numbers, who may meet and who may be left over,
 //! and at what cost; a certificate is checked for a `Pool` of players and their rule. Only a floor takes memory, a

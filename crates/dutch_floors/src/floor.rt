@@ -353,9 +353,9 @@ impl<'a> Floors<'a> {
         true
     }
 
-    /// The quality that a first pass has as its target, if all residents have one score: what a beginning with the first S1
-    /// promises up to C.11. Any target may be taken: what is chosen among the candidates that it is not better than is
-    /// what is chosen among all.
+    /// The quality that a first pass has as its target, if all residents have one score: what a beginning with the
+    /// first S1 promises up to C.11. Any target may be taken: what is chosen among the candidates that it is not better
+    /// than is what is chosen among all.
     #[tactic(auto, using(dutch_candidates::proofs::ShapeNumbers::first_length))]
     pub fn target(&self) -> Option<Quality> {
         if !self.flat {

@@ -1,7 +1,7 @@
-// What can tell that all candidates with a given beginning are pruned: they may be passed over. Then a listing may leave
-// them all out. A bound works its answer out in its `Room`, which the caller of the listing lends to each question: so
-// no question makes a list. It may keep there what the next question can use, since the next beginning is often nearly
-// the same.
+// What can tell that all candidates with a given beginning are pruned: they may be passed over. Then a listing may
+// leave them all out. A bound works its answer out in its `Room`, which the caller of the listing lends to each
+// question: so no question makes a list. It may keep there what the next question can use, since the next beginning is
+// often nearly the same.
 ghost use Rattle.std.specs.Prelude.{◌≡◌, ℕ, Bool, true};
 ghost use Rattle.dutch_arrangements.specs.Arrangements.{Arrangement, Frame, candidates};
 ghost use Rattle.dutch_sequence.specs.Exchanged.{IsExchange};
@@ -39,8 +39,8 @@ pub trait Bound {
     fn start(&self, room: &mut Self::Room)
         ensures { Holds self.now room.new };
 
-    /// Yes if it knows that every candidate with this beginning is pruned. A no says nothing. The room is ready then for
-    /// the next question.
+    /// Yes if it knows that every candidate with this beginning is pruned. A no says nothing. The room is ready then
+    /// for the next question.
     fn cannot_win(&self, prefix: &Prefix<'_>, room: &mut Self::Room) -> bool
         requires { Holds self.now room.old }
         ensures pruned { result ≡ true → (a : Arrangement)

@@ -112,7 +112,8 @@ fn draw_listed<L: Arranges, C: Cuts>(
     Ok(drawing.kept.take(lists) || drawing.level.next(cuts, lists, budget)?)
 }
 
-/// What an arrangement is asked: whom it leaves over in its bracket, whether the rule lets it, and whether it is pruned.
+/// What an arrangement is asked: whom it leaves over in its bracket, whether the rule lets it, and whether it is
+/// pruned.
 #[derive(Drop)]
 struct Tests<'q, 'c, R, C> {
     bracket: &'q Bracket,
@@ -120,7 +121,8 @@ struct Tests<'q, 'c, R, C> {
     cuts: &'c mut C,
 }
 
-/// Draws the next arrangement that leaves over whom its bracket may leave. It may skip those that are known to be pruned.
+/// Draws the next arrangement that leaves over whom its bracket may leave. It may skip those that are known to be
+/// pruned.
 fn draw_legal<R: Rule, L: Arranges, C: Cuts>(
     tests: &mut Tests<'_, '_, R, C>,
     drawing: &mut Drawing<L>,
@@ -406,14 +408,14 @@ impl<'a, R: Rule> Candidates<'a, R> {
         with_candidate(step, candidate)
     }
 
-    /// Fills `candidate` with the next one, and may leave out those that the bound knows to be pruned. The bound is asked
-    /// about beginnings of arrangements, which takes no step: about the empty one at each call, and about others while
-    /// a list is filled. And once S1 and S2 are chosen it is asked about exchanges: about all of one number and one
-    /// difference, which is a step if they are left out, and about those that begin alike, which is none. `Found` says
-    /// that `candidate` has one; all that were to come before it are pruned, and those behind it are still to come. `End`
-    /// says that all that were to come are pruned; then none is to come. `Undecided` says that the budget was used up
-    /// first; then a part of what was to come is pruned, and the rest is still to come. After `End` every further call
-    /// answers `End` without a step.
+    /// Fills `candidate` with the next one, and may leave out those that the bound knows to be pruned. The bound is
+    /// asked about beginnings of arrangements, which takes no step: about the empty one at each call, and about others
+    /// while a list is filled. And once S1 and S2 are chosen it is asked about exchanges: about all of one number and
+    /// one difference, which is a step if they are left out, and about those that begin alike, which is none. `Found`
+    /// says that `candidate` has one; all that were to come before it are pruned, and those behind it are still to
+    /// come. `End` says that all that were to come are pruned; then none is to come. `Undecided` says that the budget
+    /// was used up first; then a part of what was to come is pruned, and the rest is still to come. After `End` every
+    /// further call answers `End` without a step.
     pub fn put_next_within<B: Bound>(
         &mut self,
         within: &mut BoundWithRoom<'_, B>,

@@ -67,8 +67,8 @@ impl Cuts for NoCuts {
     }
 }
 
-/// A bound, with the room that it is lent for one question after another. An arrangement is pruned if it is no candidate,
-/// or a pruned one.
+/// A bound, with the room that it is lent for one question after another. An arrangement is pruned if it is no
+/// candidate, or a pruned one.
 #[derive(Drop)]
 pub struct BoundWithRoom<'b, B: Bound> {
     pub bound: &'b B,

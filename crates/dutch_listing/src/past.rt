@@ -1,5 +1,5 @@
-// The next choice past those that are known to be pruned: at each beginning where the search of the choices stands still
-// the cuts are asked, and what they know to be pruned is left.
+// The next choice past those that are known to be pruned: at each beginning where the search of the choices stands
+// still the cuts are asked, and what they know to be pruned is left.
 ghost use Rattle.std.specs.Prelude.{◌≡◌, ◌∷◌, []};
 ghost use Rattle.dutch_arrangements.specs.Arrangements.{Arrangement};
 ghost use Rattle.dutch_arrangements.specs.Past.{IsPassedSet, IsPassedTuple};

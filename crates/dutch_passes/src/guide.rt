@@ -33,8 +33,8 @@ pub trait Guide {
     /// seats.
     ghost knows: { Self → Context → Shape → Option Wish → Type 0 };
 
-    /// Draws the next candidate of a pass that it does not know to be pruned. Those that it passes over are pruned. A no
-    /// says that there is no other.
+    /// Draws the next candidate of a pass that it does not know to be pruned. Those that it passes over are pruned. A
+    /// no says that there is no other.
     fn draw(
         &mut self,
         so_far: PassSoFar<'_, '_>,
@@ -60,7 +60,8 @@ pub trait Guide {
     fn can_weigh(&self, next: bool) -> bool;
 
     /// Weighs the pairs of the bracket, and of the next one, if that is wanted (C.7), so that it knows more of the
-    /// candidates that grant what is wished. It answers what a pass may have as its target. Nothing is promised of a target.
+    /// candidates that grant what is wished. It answers what a pass may have as its target. Nothing is promised of a
+    /// target.
     fn weigh(
         &mut self,
         wish: Option<Wish>,

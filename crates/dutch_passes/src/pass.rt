@@ -12,8 +12,8 @@ use dutch_bracket::shaped::ShapedBracket;
 use dutch_candidates::wish::Wish;
 use dutch_choice::barred::{rules_out, rules_out_with};
 
-/// One pass over the candidates of a shape, in a bracket above all lower seats by rank. With a target it seeks only those
-/// that the target is not better than, and with a wish only those that grant it.
+/// One pass over the candidates of a shape, in a bracket above all lower seats by rank. With a target it seeks only
+/// those that the target is not better than, and with a wish only those that grant it.
 #[derive(Drop)]
 pub struct Pass<'a> {
     pub shaped: ShapedBracket<'a>,

@@ -160,8 +160,8 @@ fn best_near<'a, G: Guide>(
     go_on(pass, search.lister, &mut *search.state, budget)
 }
 
-/// Keeps what a pass with a target chooses: the best of all. It keeps none if there is no target, or if the pass finds none
-/// that can be chosen, which says nothing of the choice.
+/// Keeps what a pass with a target chooses: the best of all. It keeps none if there is no target, or if the pass finds
+/// none that can be chosen, which says nothing of the choice.
 fn best_by_target<'a, G: Guide>(
     pass: &'a Pass<'a>,
     search: &mut PassRoom<'_, '_, '_, '_, G>,

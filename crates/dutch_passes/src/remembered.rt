@@ -146,8 +146,8 @@ impl<'a> LookAhead<'a> {
         })
     }
 
-    /// What the next bracket can be for downfloaters for whom no value is kept. (Apart from its caller, which runs once a
-    /// candidate: most values are kept.)
+    /// What the next bracket can be for downfloaters for whom no value is kept. (Apart from its caller, which runs once
+    /// a candidate: most values are kept.)
     #[inline(never)]
     fn looked_for(&mut self, down: &[u16], budget: &mut Budget) -> Result<NextValue, Stopped>
         requires unknown { is_kept down.now self.old.kept ≡ false }

@@ -1,7 +1,7 @@
 // What a pass over the candidates of a shape may skip (C.04.3 B.8), specified by the candidates that are pruned.
 //
-// A candidate is pruned if it cannot be chosen, if it does not grant what is wished, or if it loses: the target of the pass
-// is better than it, or it is not better than the incumbent. The candidates are listed by the rules of the
+// A candidate is pruned if it cannot be chosen, if it does not grant what is wished, or if it loses: the target of the
+// pass is better than it, or it is not better than the incumbent. The candidates are listed by the rules of the
 // bracket, narrowed to the wish; if a beginning rules the wish out, no candidate with it grants the wish. The floor of
 // a beginning is a quality that no candidate with it is better than: if the floor loses, they all lose. With a wish, a
 // floor that holds only for those that grant it is enough, as floors by weight do.
@@ -99,8 +99,9 @@ impl<'a, 'k> Skipper<'a, 'k> {
         }
     }
 
-    /// Yes if the target is better than every candidate with a beginning that weighs so much at least. The target is better
-    /// than a candidate that weighs more, if that has a higher PSD or no better value of the next bracket (C.6, C.7).
+    /// Yes if the target is better than every candidate with a beginning that weighs so much at least. The target is
+    /// better than a candidate that weighs more, if that has a higher PSD or no better value of the next bracket (C.6,
+    /// C.7).
     fn is_behind_target(&self, prefix: &Prefix<'_>, least: Wide) -> bool
         ensures { result ≡ true
             → OfEach self.now prefix.now (λ a. Weighs self.now least a → IsBehindAim self.now a) }

@@ -1,7 +1,7 @@
 // What a pass by weight has as its target (C.04.3 B.8): the quality of a cheapest matching of the bracket.
 //
-// Whoever finds a matching is not trusted, and nothing is promised of a target: a pass that finds no candidate near it is
-// made again without one.
+// Whoever finds a matching is not trusted, and nothing is promised of a target: a pass that finds no candidate near it
+// is made again without one.
 use crate::both::BothFloors;
 use dutch_arrangements::{LIMIT, Numbers};
 use dutch_bracket::context::Context;
@@ -114,8 +114,8 @@ impl<'a> BothFloors<'a> {
         }
     }
 
-    /// What a pass has as its target: the quality of a matching, if one was found that has as many pairs as the shape; else what
-    /// floors by counts tell.
+    /// What a pass has as its target: the quality of a matching, if one was found that has as many pairs as the shape;
+    /// else what floors by counts tell.
     #[inline(never)]
     pub(crate) fn target_for(&self, found: &Option<Matched>) -> Option<Quality> {
         match found {

@@ -62,7 +62,8 @@ fn guide_for<'a>(
     Ok(Some(guide))
 }
 
-/// The state in which the passes of a bracket begin. (Apart from its caller, as it is large until it stands on the heap.)
+/// The state in which the passes of a bracket begin. (Apart from its caller, as it is large until it stands on the
+/// heap.)
 #[inline(never)]
 fn state_for<'a>(
     pass: &Pass<'a>,
@@ -113,8 +114,8 @@ fn search_in_passes(
     }
 }
 
-/// The finder with floors by counts and by weight. It answers what a pass with a target finds; if that finds nothing, what
-/// a pass without one finds.
+/// The finder with floors by counts and by weight. It answers what a pass with a target finds; if that finds nothing,
+/// what a pass without one finds.
 #[derive(Drop)]
 pub struct WithFloors;
 

@@ -206,8 +206,8 @@ enum Known {
     PassedOver,
 }
 
-/// Whether that is known of a place. It is known to be chosen if it is taken, and known to be passed over if it is below
-/// the limit and not taken.
+/// Whether that is known of a place. It is known to be chosen if it is taken, and known to be passed over if it is
+/// below the limit and not taken.
 fn is_fixed(fixed: &FixedSide<'_>, known: Known, place: usize) -> bool
     requires small { place ≤ 65535 }
     ensures { result ≡ is_fixed fixed.now.taken.now fixed.now.limit known place }

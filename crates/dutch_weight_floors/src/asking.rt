@@ -319,8 +319,8 @@ impl<'a> WeightFloors<'a> {
     }
 
     /// Asks for floors where a walk is stuck: behind the pairs of its beginning, or the first of them, in the
-    /// arrangements of a scope. It takes no more steps than it counts. (Whom it asks, and when, may be changed freely: what
-    /// a floor says is promised by its certificate, and not by the question.)
+    /// arrangements of a scope. It takes no more steps than it counts. (Whom it asks, and when, may be changed freely:
+    /// what a floor says is promised by its certificate, and not by the question.)
     pub fn ask_more(
         &mut self,
         stuck: &FloorRequest<'_>,

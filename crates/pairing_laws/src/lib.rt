@@ -1,6 +1,6 @@
 //! Laws of the pairing of a round (C.04.3), and of what it is made of: what holds of the definitions of `dual`,
-//! `dutch_arrangements`, `dutch_bracket`, `dutch_choice`, `dutch_weighing`, `dutch_weight_floors` and `dutch_rounds`, beyond
-//! what one call promises.
+//! `dutch_arrangements`, `dutch_bracket`, `dutch_choice`, `dutch_weighing`, `dutch_weight_floors` and `dutch_rounds`,
+//! beyond what one call promises.
 //!
 //! Each law is a function with an empty body, or with one call of another law, and its contract is the law. No crate of
 //! the program uses them, so none waits for their proofs. `calls` gives what the calls on a bracket ask for, to whoever

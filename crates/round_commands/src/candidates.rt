@@ -102,8 +102,8 @@ struct ListedBracket<'a> {
     shape: Shape,
 }
 
-// All candidates of a bracket and a shape, on the heap. (Apart from its caller, as a listing is on the stack until it is
-// moved.)
+// All candidates of a bracket and a shape, on the heap. (Apart from its caller, as a listing is on the stack until it
+// is moved.)
 #[inline(never)]
 fn all_candidates<'a, R: Rule>(
     alloc: Global,

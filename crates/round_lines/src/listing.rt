@@ -40,8 +40,8 @@ pub struct RemainingCandidates<'a, 'c, R: Rule> {
     pub candidates: &'c mut Candidates<'a, R>,
 }
 
-/// Puts the lines of the next `count` candidates, or of fewer if no more are left or all steps of the budget are used up
-/// before, and says how they end.
+/// Puts the lines of the next `count` candidates, or of fewer if no more are left or all steps of the budget are used
+/// up before, and says how they end.
 ///
 /// # Errors
 /// Memory was refused.
