@@ -70,11 +70,4 @@ impl Page {
     {
         self.bytes.as_slice()
     }
-
-    /// The text, without what holds it.
-    pub fn into_bytes(self) -> Vec<u8>
-        ensures { result.items ≡ self }
-    {
-        self.bytes
-    }
 }
