@@ -25,13 +25,13 @@ use round_commands::pair::pair;
 use std::alloc::{AllocError, Global};
 use trf16_report::{Sink, Source};
 
-/// How much memory a run takes in one block at its start, in bytes, and gives back at once: more than a bracket of a
-/// few hundred players takes.
+/// How much memory a run takes in one block at its start, in bytes, and gives back at once. The C library then keeps up
+/// to twice as much; behind the third round `pair` takes 424 KiB for 20 players, and 952 for 1,024.
 const WORKING_MEMORY: usize = 1 << 19;
 
 // Takes a block of memory and gives it back untouched. The C library gives the free end of its heap back to the system
 // once that is larger than it has learned to keep, and then takes it anew, page by page, for the next bracket. From a
-// block of this size it learns to keep as much. Nothing else depends on it: if it is refused, the run goes on.
+// block of this size it learns to keep twice as much. Nothing else depends on it: if it is refused, the run goes on.
 #[inline(never)]
 fn widen_heap(alloc: Global) {
     let _: Result<Vec<u8>, AllocError> = Vec::with_capacity(alloc, WORKING_MEMORY);

@@ -1,4 +1,4 @@
--- What a pass draws, what is pruned to it, and what it ends with (C.04.3 B.8).
+-- What a pass draws, what it prunes, and what it ends with (C.04.3 B.8).
 use Rattle.std.specs.Prelude.{◌≡◌, List, ◌∷◌, Option, None, Bool, true}
 use Rattle.std.specs.Option.{MatchOption}
 use Rattle.dutch_arrangements.specs.Prelude.{Arrangement, down, Candidate, IsIn, Listing, Passes}
@@ -38,11 +38,11 @@ Loses so_far a = loses (target_in so_far.pass.now.target) so_far.incumbent.now (
 abbrev pub LosesIfOpen : PassSoFar → Arrangement → Type 0
 LosesIfOpen so_far a = is_open so_far.pass.now.shaped.context.now so_far.pass.now.wish a ≡ true → Loses so_far a
 
--- a candidate is pruned to a pass, beside its incumbent
+-- a candidate is pruned by a pass, beside its incumbent
 abbrev pub is_pruned_by : PassSoFar → Arrangement → Bool
 is_pruned_by so_far = is_pruned so_far.pass.now.shaped.context.now so_far.pass.now.wish (target_in so_far.pass.now.target) so_far.incumbent.now
 
--- a list of candidates goes on as another one does, once some of its beginning is skipped, each of which is pruned to the pass [own]
+-- a list of candidates goes on as another one does, once some of its beginning is skipped, each of which the pass prunes [own]
 abbrev pub PassesPruned : PassSoFar → List Arrangement → List Arrangement → Type 0
 PassesPruned so_far before after = Passes (λ a. is_pruned_by so_far a ≡ true) before after
 
@@ -70,7 +70,7 @@ pub record LooksThrough (pass : Pass) (incumbent : Option Best) (listing : Listi
   pub inside : (lists : Arrangement) → IsIn lists listing.coming → IsIn lists (candidates_here pass.shaped.context.now pass.shaped.shape)
   pub shape_is : listing.shape ≡ pass.shaped.shape
 
--- what the passes end with, whatever is the target: of the candidates that grant what is wished, and that can be chosen, the first that none is
+-- what the passes end with, whatever the target is: of the candidates that grant what is wished, and that can be chosen, the first that none is
 -- better than
 abbrev pub wished_of : Pass → Option Arrangement
 wished_of pass = best_wished pass.shaped.context.now pass.wish pass.shaped.shape

@@ -255,9 +255,9 @@ fn best_within<G: Guide>(
 }
 
 /// Weighs the pairs, and keeps what the passes end with. If weights can tell of the next bracket too (C.7), the first
-/// ones leave it out, and the passes have some times the few steps with them. If these do not suffice, the pairs are
-/// weighed with C.7, and the passes have all steps that are left. (Apart from its caller, as most brackets do not come
-/// to it.)
+/// ones leave it out, and the passes have `TIMES_BY_WEIGHT` times the few steps with them. If these do not suffice, the
+/// pairs are weighed with C.7, and the passes have all steps that are left. (Apart from its caller, as most brackets do
+/// not come to it.)
 #[inline(never)]
 fn best_by_weight<G: Guide>(
     pass: &mut Pass<'_>,
@@ -283,8 +283,8 @@ fn best_by_weight<G: Guide>(
     best_in_passes(pass, search, budget)
 }
 
-/// Keeps what the passes end with. Most brackets need few steps. The others have their pairs weighed; and if some times
-/// the few steps do not suffice then, those of the next bracket too, where C.7 counts. (Nothing here depends on the
+/// Keeps what the passes end with. Most brackets need few steps. The others have their pairs weighed; and if
+/// `TIMES_BY_WEIGHT` times the few steps do not suffice then, those of the next bracket too, where C.7 counts. (Nothing here depends on the
 /// limit: with a higher one the same way goes on.)
 pub fn best_in_time<G: Guide>(
     pass: &mut Pass<'_>,

@@ -5,7 +5,7 @@ use Rattle.dutch_arrangements.specs.Prelude.{Arrangement, IsIn}
 use mathlib.Core.Bool.{Bool-set}
 use Rattle.dutch_bracket.specs.Prelude.{Quality, is_better, next_in, quality_in, candidates_in, quality_here}
 use Rattle.dutch_passes.specs.Prelude.{target_in, beats, wins, incumbent_in}
-use Rattle.dutch_search.specs.Prelude.{HasNoBetterNext, IsBehindAim, IsBehindKept, Weighs, context_of, pass_of}
+use Rattle.dutch_search.specs.Prelude.{HasNoBetterNext, IsBehindTarget, IsBehindIncumbent, Weighs, context_of, pass_of}
 use Rattle.dutch_choice.specs.declared.finder.Best.{Best}
 use Rattle.dutch_bracket.specs.declared.quality.Quality.{Quality as Fields}
 use Rattle.dutch_weight_floors.specs.declared.weight_floor.Bar.{Bar}
@@ -45,7 +45,7 @@ module _ (s : Skipper) (a : Arrangement) (m : IsIn a (candidates_in (pass_of s).
   better_by (Some w) same f bar at' passed reaches = better_here w same f bar at' passed reaches
 
   -- the incumbent is not worse than one that its bar reaches
-  pub behind_incumbent : (bar : Bar) (best : Best) → s.bars.now.incumbent ≡ Some bar → s.so_far.incumbent.now ≡ Some best → Reaches bar (quality_in best.quality) → IsBehindKept s a
+  pub behind_incumbent : (bar : Bar) (best : Best) → s.bars.now.incumbent ≡ Some bar → s.so_far.incumbent.now ≡ Some best → Reaches bar (quality_in best.quality) → IsBehindIncumbent s a
   behind_incumbent bar best bar_is there reaches =
       ∥∥₁_elim s.best (Bool-set _ _) (λ has.
       let here' : HasBar s.weights.now (Some (quality_in best.quality)) (Some bar) =
@@ -54,7 +54,7 @@ module _ (s : Skipper) (a : Arrangement) (m : IsIn a (candidates_in (pass_of s).
       ap (λ (o : Option Best). not (wins it o)) there ∙ ap not (no_better_by s.weights.now refl (quality_in best.quality) bar here' reaches))
 
   -- the target is better than one beyond its bar
-  pub behind_target : (bar : Bar) (target : Fields) → s.bars.now.target ≡ Some bar → (pass_of s).target ≡ Some target → bar.weight < least → Reaches bar (quality_in target) → IsBehindAim s a
+  pub behind_target : (bar : Bar) (target : Fields) → s.bars.now.target ≡ Some bar → (pass_of s).target ≡ Some target → bar.weight < least → Reaches bar (quality_in target) → IsBehindTarget s a
   behind_target bar target bar_is there passed reaches =
       ∥∥₁_elim s.target (Bool-set _ _) (λ has.
       let here' : HasBar s.weights.now (Some (quality_in target)) (Some bar) =

@@ -34,9 +34,9 @@ module _ (skipper : Skipper) where
   HasNoBetterNext other a = KnowsNext skipper.weights.now (quality_here context_of a) other
 
   -- the target is better than a candidate
-  abbrev pub IsBehindAim : Arrangement → Type 0
-  IsBehindAim a = beats (target_in pass_of.target) (quality_here context_of a) ≡ true
+  abbrev pub IsBehindTarget : Arrangement → Type 0
+  IsBehindTarget a = beats (target_in pass_of.target) (quality_here context_of a) ≡ true
 
   -- a candidate is not better than the incumbent
-  abbrev pub IsBehindKept : Arrangement → Type 0
-  IsBehindKept a = not (wins (quality_here context_of a) skipper.so_far.incumbent.now) ≡ true
+  abbrev pub IsBehindIncumbent : Arrangement → Type 0
+  IsBehindIncumbent a = not (wins (quality_here context_of a) skipper.so_far.incumbent.now) ≡ true

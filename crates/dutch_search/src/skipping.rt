@@ -9,7 +9,7 @@ ghost use Rattle.std.specs.Prelude.{◌≡◌, true, false};
 ghost use Rattle.dutch_bracket.specs.Prelude.{quality_here, HasNoBetter, is_better, next_in, quality_in};
 ghost use Rattle.dutch_floors.specs.KnownPairs.{AreKnown};
 ghost use Rattle.dutch_passes.specs.Prelude.{Loses, LosesIfOpen, is_pruned_by};
-ghost use Rattle.dutch_search.specs.Skips.{HasNoBetterNext, IsBehindAim, IsBehindKept, OfEach, OfEachWith, Weighs};
+ghost use Rattle.dutch_search.specs.Skips.{HasNoBetterNext, IsBehindTarget, IsBehindIncumbent, OfEach, OfEachWith, Weighs};
 ghost use Rattle.dutch_search.specs.Skips.{context_of};
 
 use crate::last_beginning::WalkNotes;
@@ -104,7 +104,7 @@ impl<'a, 'k> Skipper<'a, 'k> {
     /// C.7).
     fn is_behind_target(&self, prefix: &Prefix<'_>, least: Wide) -> bool
         ensures { result ≡ true
-            → OfEach self.now prefix.now (λ a. Weighs self.now least a → IsBehindAim self.now a) }
+            → OfEach self.now prefix.now (λ a. Weighs self.now least a → IsBehindTarget self.now a) }
     {
         let Some(bar) = &self.bars.target else {
             return false;
@@ -120,7 +120,7 @@ impl<'a, 'k> Skipper<'a, 'k> {
     /// C.7).
     fn is_behind_incumbent(&self, prefix: &Prefix<'_>, least: Wide) -> bool
         ensures { result ≡ true
-            → OfEach self.now prefix.now (λ a. Weighs self.now least a → IsBehindKept self.now a) }
+            → OfEach self.now prefix.now (λ a. Weighs self.now least a → IsBehindIncumbent self.now a) }
     {
         let Some(bar) = &self.bars.incumbent else {
             return false;
