@@ -3,6 +3,7 @@ use Rattle.std.proofs.Common.{◌≡◌, ℕ, suc, ◌-◌, ◌<◌, ◌≤◌, 
 use Rattle.std.specs.List.Sorted.{IsStrictlyIncreasing}
 use Rattle.dutch_sequence.specs.Prelude.{GoesOn, IsExchange, class_from, subsets, hinted, first_hint, IsIn, IsKnown, IsOfStage, IsOwn, IsSearchState, exchange_difference, exchange_path, exchange_plan, greatest_difference, most_exchanged, out_places, set_of, sets_ahead, sets_from, sets_of_sizes, sets_of_stages, stage_left, Passes, Plan, after, ahead, below, hits, lower, lowest, beyond_all}
 use Rattle.dutch_sequence.specs.declared.exchange.SearchState.{SearchState}
+use Rattle.dutch_sequence.specs.declared.numbers.TheConstants.{LIMIT}
 use Rattle.dutch_sequence.specs.declared.search.Descent.{Descent}
 use Rattle.dutch_sequence.proofs.Asked.{path-of_class}
 use Rattle.dutch_sequence.proofs.LateSets.{late-known, late-own}
@@ -70,7 +71,7 @@ ended-hits pool hint path number no_pool no_hint no_path is_number =
 
 -- where what begins so is left, and nothing is known of what lies beyond it, the sets that are passed over are of the class of the
 -- beginning, and the same sets follow
-module _ (pool : List ℕ) (k : ℕ) (rises : IsStrictlyIncreasing pool) (enough : k ≤ length pool) (state : SearchState) (descent : Descent) (stands : IsSearchState pool k state) (unknown : descent.beyond ≡ Some 0) where
+module _ (pool : List ℕ) (k : ℕ) (rises : IsStrictlyIncreasing pool) (enough : k ≤ length pool) (state : SearchState) (descent : Descent LIMIT) (stands : IsSearchState pool k state) (unknown : descent.beyond ≡ Some 0) where
   abbrev size : ℕ
   size = state.size
 

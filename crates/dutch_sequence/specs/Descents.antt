@@ -2,6 +2,7 @@
 use Rattle.std.specs.Prelude.{◌≡◌, ℕ, ◌+◌, ◌-◌, ◌*◌, ◌<◌, ◌≤◌, List, [], ◌∷◌, ◌++◌, length, true, if◌then◌else◌, Option}
 use Rattle.dutch_sequence.specs.Trials.{Plan, below, ahead, lower, lowest}
 use Rattle.dutch_sequence.specs.declared.search.Descent.{Descent}
+use Rattle.dutch_sequence.specs.declared.numbers.TheConstants.{LIMIT}
 
 -- each number of a path, after a beginning, is below the end of the numbers that its place tries, and fits there
 abbrev pub Walked : Plan → List ℕ → List ℕ → Type 0
@@ -34,9 +35,9 @@ pub record IsPast (plan : Plan) (path later : List ℕ) : Type 0 where
   pub tried : next < plan.stop front
 
 -- how many moves a search can make at most that are no trial: it gives back each place, and stands still at each beginning once
-abbrev pub free_moves : Descent → ℕ
+abbrev pub free_moves : {room : ℕ} → Descent room → ℕ
 free_moves descent = 2 * length descent.path + (if descent.asked then 0 else 1)
 
 -- what lies beyond the trials of a search, those made and those to come, if anything was noted
-abbrev pub beyond_all : Plan → Descent → Option ℕ
+abbrev pub beyond_all : Plan → Descent LIMIT → Option ℕ
 beyond_all plan descent = lower descent.beyond (lowest (ahead plan descent.path descent.number))

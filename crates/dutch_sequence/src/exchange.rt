@@ -40,7 +40,7 @@ use crate::generator::Generator;
 use crate::halves::first_of_half;
 use crate::numbers::{LIMIT, Numbers, fill};
 use crate::path::Places;
-use crate::search::{Asks, Descent, Hinted, advance, first_hint, leave, put_behind};
+use crate::search::{Asks, Descent, Hinted, advance, first_hint, leave};
 use crate::stage::{ExchangeStage, greatest_of, least_of};
 use crate::steps::{Budget, Drawn, Progress, Stopped};
 use crate::sums::{Sides, total_of, value_at};
@@ -76,8 +76,8 @@ fn following_of(difference: usize, greatest: usize, beyond: Option<usize>) -> Op
 struct SearchState {
     size: usize,
     difference: usize,
-    hint: Places,
-    descent: Descent,
+    hint: Places<LIMIT>,
+    descent: Descent<LIMIT>,
 }
 
 impl SearchState {
@@ -99,7 +99,7 @@ impl SearchState {
 }
 
 /// The places of the numbers that a set has moved out, from the highest.
-fn out_places(sides: &Sides<'_>, set: &[u16]) -> Places
+fn out_places(sides: &Sides<'_>, set: &[u16]) -> Places<LIMIT>
     ensures places { result.items ≡ out_places sides.now.pool.now sides.now.k set.now }
     ensures within { AllByRecursion (λ place. place < sides.now.k) result.items }
     ensures fits { length result.items ≤ sides.now.k }
@@ -114,7 +114,7 @@ fn out_places(sides: &Sides<'_>, set: &[u16]) -> Places
 }
 
 /// The places of the numbers that a set has moved in, from the lowest.
-fn in_places(sides: &Sides<'_>, set: &[u16]) -> Places
+fn in_places(sides: &Sides<'_>, set: &[u16]) -> Places<LIMIT>
     ensures places { result.items ≡ in_places sides.now.pool.now sides.now.k set.now }
     ensures within { AllByRecursion (λ place. place < length sides.now.pool.now - sides.now.k) result.items }
     ensures fits { length result.items ≤ length sides.now.pool.now - sides.now.k }
@@ -142,7 +142,8 @@ fn enter_at(sides: &Sides<'_>, set: &[u16], state: &mut SearchState)
     state.size = state.hint.len();
     let out = total_of(sides, Side::Out, &state.hint);
     state.difference = total_of(sides, Side::In, &ins).saturating_sub(out);
-    put_behind(&mut state.hint, &ins);
+    // there is room
+    let _all = state.hint.try_extend_from_slice(&ins);
     state.descent.restart(first_hint(&state.hint));
     state.descent.beyond = Some(state.difference + 1);
 }

@@ -1,7 +1,8 @@
 // Exchanges of moved-down players, article D.3: sets of places by their scores and numbers, specified by a sorted list
 // of subsets.
 ghost use Rattle.dutch_sequence.specs.declared.numbers.TheConstants.{LIMIT};
-ghost use Rattle.std.specs.Prelude.{◌≡◌, ◌+◌, ◌*◌, ◌<◌, ◌≤◌, ℕ, [], ◌∷◌, ◌-◌, length, map, slice_index};
+ghost use Rattle.dutch_sequence.specs.declared.path.TheConstants.{PLACES};
+ghost use Rattle.std.specs.Prelude.{◌≡◌, ◌+◌, ◌*◌, ◌<◌, ◌≤◌, ℕ, [], ◌∷◌, ◌++◌, ◌-◌, length, map, slice_index};
 ghost use Rattle.std.specs.List.{AllByRecursion};
 ghost use Rattle.dutch_sequence.specs.Limbo.{limbo_exchanges, IsNonAscending};
 ghost use Rattle.dutch_sequence.specs.LimboSearch.{leads, mirrors, front_with, numbers_of, places_of, leader, leaders};
@@ -11,8 +12,8 @@ ghost use Rattle.dutch_sequence.specs.Keys.{IsIn};
 use crate::generator::Generator;
 use crate::halves::{end_of_half, first_of_half};
 use crate::numbers::{LIMIT, Numbers, fill};
-use crate::path::{Path, Places};
-use crate::search::{Descent, Hinted, Tree, climb_on, first_hint, put_behind};
+use crate::path::{PLACES, Path, Places};
+use crate::search::{Descent, Hinted, Tree, climb_on, first_hint};
 use crate::steps::{Budget, Drawn};
 use arrayvec::ArrayVec;
 use std::marker::Model;
@@ -72,7 +73,7 @@ fn put_numbers(places: &[u16], numbers: &mut Numbers)
 }
 
 /// The places of numbers, which count from 1.
-fn places_of(numbers: &[u16]) -> Places
+fn places_of(numbers: &[u16]) -> Places<PLACES>
     requires few { length numbers.now ≤ LIMIT }
     ensures { result.items ≡ places_of numbers.now }
 {
@@ -98,7 +99,7 @@ fn leader(scores: &[u16], first: usize, place: usize) -> usize
 }
 
 /// The first set with the scores of a set of places.
-fn leaders(scores: &[u16], places: &[u16]) -> Places
+fn leaders(scores: &[u16], places: &[u16]) -> Places<PLACES>
     requires within { AllByRecursion (λ place. place < length scores.now) places.now }
     requires few { length places.now ≤ LIMIT }
     requires narrow { length scores.now ≤ LIMIT }
@@ -114,6 +115,16 @@ fn leaders(scores: &[u16], places: &[u16]) -> Places
     path
 }
 
+/// Puts places behind others.
+fn put_behind(front: &mut Places<PLACES>, places: &[u16])
+    requires room { length front.old.items + length places.now ≤ PLACES }
+    ensures { front.new.items ≡ front.old.items ++ places.now }
+{
+    for place in places {
+        front.push(*place);
+    }
+}
+
 /// Moved-down players by their scores, of whom sets of `k` are wanted.
 #[derive(Drop)]
 struct Ranked<'a> {
@@ -123,7 +134,7 @@ struct Ranked<'a> {
     ghost narrow: { length scores.now ≤ LIMIT },
 }
 
-impl<'a> Tree for Ranked<'a> {
+impl<'a> Tree<PLACES> for Ranked<'a> {
     ghost use Rattle.dutch_sequence.specs.Halves.{half_stop};
     ghost use Rattle.dutch_sequence.specs.LimboSearch.{limbo_plan};
     ghost use Rattle.std.proofs.Common.{arith};
@@ -136,6 +147,8 @@ impl<'a> Tree for Ranked<'a> {
     ghost few = { λ t. Prim.grind arith };
 
     ghost narrow = { λ t. Prim.grind arith };
+
+    ghost small = { λ t. Prim.grind arith };
 
     fn places(&self) -> usize {
         self.k + self.k
@@ -155,7 +168,7 @@ impl<'a> Tree for Ranked<'a> {
     }
 
     #[tactic(auto, unfolding(crate::specs::Halves::half_stop))]
-    fn admits(&self, path: &Path, place: u16) -> bool {
+    fn admits(&self, path: &Path<PLACES>, place: u16) -> bool {
         let path = path.as_slice();
         if path.len() < self.k {
             place_leads(self.scores, self.k, path, place as usize)
@@ -172,8 +185,8 @@ impl<'a> Tree for Ranked<'a> {
 pub struct LimboExchanges {
     scores: Numbers,
     k: usize,
-    hint: Places,
-    descent: Descent,
+    hint: Places<PLACES>,
+    descent: Descent<PLACES>,
 }
 
 impl Model for LimboExchanges {

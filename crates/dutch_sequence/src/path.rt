@@ -12,14 +12,15 @@ use crate::numbers::LIMIT;
 use arrayvec::ArrayVec;
 use std::marker::Model;
 
-/// The most places of a search: an exchange or a set of moved-down players fills two for each number.
+/// The most places of a search: a set of moved-down players fills two for each number. All other searches fill no more
+/// than `LIMIT`, since an exchange moves as many numbers in as out.
 pub const PLACES: usize = 2 * LIMIT;
 
 /// The bits of a word.
 const WORD: usize = 64;
 
-/// The numbers at places, one after another.
-pub type Places = ArrayVec<u16, PLACES>;
+/// The numbers at places, one after another, with room for so many.
+pub type Places<const ROOM: usize> = ArrayVec<u16, ROOM>;
 
 /// A mark for each number below `PLACES`.
 type Marks = [u64; PLACES / WORD];
@@ -45,14 +46,14 @@ fn flip(marks: &mut Marks, number: usize)
     }
 }
 
-/// The numbers at the places of a search that are filled, one after another.
+/// The numbers at the places of a search that are filled, one after another, with room for so many.
 #[derive(Drop)]
-pub struct Path {
-    places: Places,
+pub struct Path<const ROOM: usize> {
+    places: Places<ROOM>,
     marks: Marks,
 }
 
-impl Model for Path {
+impl<const ROOM: usize> Model for Path<ROOM> {
     ghost use Rattle.std.specs.Prelude.{◌≡◌, ◌<◌, ℕ, List};
     ghost use Rattle.dutch_sequence.specs.Marks.{has_mark, stands_oddly};
     ghost use Rattle.dutch_sequence.specs.declared.path.TheConstants.{PLACES};
@@ -64,9 +65,9 @@ impl Model for Path {
     ghost invariant = { λ t. (i : ℕ) → i < PLACES → has_mark t.marks i ≡ stands_oddly i t.places.items };
 }
 
-impl Path {
+impl<const ROOM: usize> Path<ROOM> {
     /// One that fills no place.
-    pub fn new() -> Path
+    pub fn new() -> Path<ROOM>
         ensures { result ≡ [] }
     {
         Path {
@@ -85,7 +86,7 @@ impl Path {
 
     /// Puts a number at the next place.
     pub fn push(&mut self, number: u16)
-        requires room { length self.old < PLACES }
+        requires room { length self.old < ROOM }
         ensures { self.new ≡ self.old ++ number ∷ [] }
     {
         self.places.push(number);

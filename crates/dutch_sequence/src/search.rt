@@ -21,8 +21,8 @@ ghost use Rattle.dutch_sequence.specs.Descents.{Stands, IsOpen, IsPast, IsSpent,
 use crate::path::{Path, Places};
 use crate::steps::{Budget, Drawn, Progress, Stopped};
 
-/// What a search fills, and which numbers it tries where.
-pub trait Tree {
+/// What a search fills, and which numbers it tries where. Its path has room for so many places.
+pub trait Tree<const ROOM: usize> {
     ghost plan: { Self → Plan };
 
     /// How many places there are.
@@ -40,7 +40,7 @@ pub trait Tree {
         ensures { result ≡ (plan self.now).stop path.now };
 
     /// Yes if the number may stand next after the beginning.
-    fn admits(&self, path: &Path, number: u16) -> bool
+    fn admits(&self, path: &Path<ROOM>, number: u16) -> bool
         requires opened { IsOpen (plan self.now) path.now }
         requires tried { number < (plan self.now).stop path.now }
         ensures { result ≡ (plan self.now).fits path.now number };
@@ -55,20 +55,13 @@ pub trait Tree {
     ghost within: { (tree : Self) (path : _) → (plan tree).stop path ≤ (plan tree).width };
 
     /// A path has room for all places.
-    ghost few: { (tree : Self) → (plan tree).places ≤ PLACES };
+    ghost few: { (tree : Self) → (plan tree).places ≤ ROOM };
 
-    /// And for each number that is tried.
+    /// And a mark for each number that is tried.
     ghost narrow: { (tree : Self) → (plan tree).width ≤ PLACES };
-}
 
-/// Puts places behind others.
-pub fn put_behind(front: &mut Places, places: &[u16])
-    requires room { length front.old.items + length places.now ≤ PLACES }
-    ensures { front.new.items ≡ front.old.items ++ places.now }
-{
-    for place in places {
-        front.push(*place);
-    }
+    /// No path has more room than the longest.
+    ghost small: { (tree : Self) → ROOM ≤ PLACES };
 }
 
 /// The number that follows a path in a longer one that begins with it.
@@ -96,12 +89,12 @@ pub fn first_hint(hint: &[u16]) -> usize
 /// A search that begins at a path which is known: after a beginning of that path it starts with the path's own next
 /// number.
 #[derive(Drop)]
-pub struct Hinted<'a, T> {
+pub struct Hinted<'a, T, const ROOM: usize> {
     pub tree: T,
-    pub hint: &'a Places,
+    pub hint: &'a Places<ROOM>,
 }
 
-impl<'a, T: Tree> Tree for Hinted<'a, T> {
+impl<'a, T: Tree<ROOM>, const ROOM: usize> Tree<ROOM> for Hinted<'a, T, ROOM> {
     ghost use Rattle.dutch_sequence.specs.Hints.{hinted};
 
     ghost plan = { λ t. hinted t.hint.now.items (T.plan t.tree) };
@@ -111,6 +104,8 @@ impl<'a, T: Tree> Tree for Hinted<'a, T> {
     ghost few = { λ t. T.Tree.few t.tree };
 
     ghost narrow = { λ t. T.Tree.narrow t.tree };
+
+    ghost small = { λ t. T.Tree.small t.tree };
 
     fn places(&self) -> usize {
         self.tree.places()
@@ -127,7 +122,7 @@ impl<'a, T: Tree> Tree for Hinted<'a, T> {
         self.tree.stop(path)
     }
 
-    fn admits(&self, path: &Path, number: u16) -> bool {
+    fn admits(&self, path: &Path<ROOM>, number: u16) -> bool {
         self.tree.admits(path, number)
     }
 
@@ -141,17 +136,17 @@ impl<'a, T: Tree> Tree for Hinted<'a, T> {
 /// is no less than `beyond`, if anything does; where some were left without a trial, that is 0, so that nothing is
 /// known.
 #[derive(Drop)]
-pub struct Descent {
-    pub path: Path,
+pub struct Descent<const ROOM: usize> {
+    pub path: Path<ROOM>,
     pub number: usize,
     pub beyond: Option<usize>,
     /// The caller was asked about this path.
     pub asked: bool,
 }
 
-impl Descent {
+impl<const ROOM: usize> Descent<ROOM> {
     /// A descent that has filled no place.
-    pub fn new(number: usize) -> Descent
+    pub fn new(number: usize) -> Descent<ROOM>
         ensures path { result.path ≡ [] }
         ensures number { result.number ≡ number }
         ensures beyond { result.beyond ≡ None }
@@ -180,7 +175,7 @@ impl Descent {
 }
 
 /// The first number to try after a path; 0 if the path is whole.
-fn first_number<T: Tree>(tree: &T, path: &[u16]) -> usize
+fn first_number<T: Tree<ROOM>, const ROOM: usize>(tree: &T, path: &[u16]) -> usize
     requires { Stands (T.plan tree.now) path.now }
     ensures { result ≡ entry (T.plan tree.now) ((T.plan tree.now).places - length path.now) path.now }
 {
@@ -203,7 +198,7 @@ fn lower_of(one: Option<usize>, other: Option<usize>) -> Option<usize>
 }
 
 /// The end of the numbers to try after a path; 1 if the path is whole.
-pub fn end_number<T: Tree>(tree: &T, path: &[u16]) -> usize
+pub fn end_number<T: Tree<ROOM>, const ROOM: usize>(tree: &T, path: &[u16]) -> usize
     requires { Stands (T.plan tree.now) path.now }
     ensures { IsSpent (T.plan tree.now) path.now result }
 {
@@ -215,7 +210,7 @@ pub fn end_number<T: Tree>(tree: &T, path: &[u16]) -> usize
 }
 
 /// Leaves all that is still to come below the path. What lies beyond it is not known then.
-pub fn leave<T: Tree>(tree: &T, descent: &mut Descent)
+pub fn leave<T: Tree<ROOM>, const ROOM: usize>(tree: &T, descent: &mut Descent<ROOM>)
     requires { Stands (T.plan tree.now) descent.old.path }
     ensures path { descent.new.path ≡ descent.old.path }
     ensures passes { Passes (GoesOn descent.old.path)
@@ -240,7 +235,11 @@ pub enum Asks {
 }
 
 /// Comes to a beginning about which the caller was not asked yet, and below which something is left.
-fn comes_to_ask<T: Tree>(tree: &T, asks: Asks, descent: &mut Descent) -> bool
+fn comes_to_ask<T: Tree<ROOM>, const ROOM: usize>(
+    tree: &T,
+    asks: Asks,
+    descent: &mut Descent<ROOM>,
+) -> bool
     requires { Stands (T.plan tree.now) descent.old.path }
     ensures path { descent.new.path ≡ descent.old.path }
     ensures number { descent.new.number ≡ descent.old.number }
@@ -258,7 +257,7 @@ fn comes_to_ask<T: Tree>(tree: &T, asks: Asks, descent: &mut Descent) -> bool
 }
 
 /// Makes one trial: takes the number if it fits, and otherwise goes on to the next one.
-fn try_number<T: Tree>(tree: &T, descent: &mut Descent)
+fn try_number<T: Tree<ROOM>, const ROOM: usize>(tree: &T, descent: &mut Descent<ROOM>)
     requires opened { IsOpen (T.plan tree.now) descent.old.path }
     requires tried { descent.old.number < (T.plan tree.now).stop descent.old.path }
     ensures stands { Stands (T.plan tree.now) descent.new.path }
@@ -282,7 +281,7 @@ fn try_number<T: Tree>(tree: &T, descent: &mut Descent)
 
 /// Takes the last number from a path below which nothing is left, and goes on to the next one; false if the path is
 /// empty.
-fn go_back<T: Tree>(tree: &T, descent: &mut Descent) -> bool
+fn go_back<T: Tree<ROOM>, const ROOM: usize>(tree: &T, descent: &mut Descent<ROOM>) -> bool
     requires stood { Stands (T.plan tree.now) descent.old.path }
     requires spent { IsSpent (T.plan tree.now) descent.old.path descent.old.number }
     ensures stands { Stands (T.plan tree.now) descent.new.path }
@@ -305,10 +304,10 @@ fn go_back<T: Tree>(tree: &T, descent: &mut Descent) -> bool
 
 /// Goes on to the next beginning about which the caller is to be asked, if it wants to be, or to the next whole path.
 /// The descent then has it, unless the budget or the search ends before it.
-pub fn advance<T: Tree>(
+pub fn advance<T: Tree<ROOM>, const ROOM: usize>(
     tree: &T,
     asks: Asks,
-    descent: &mut Descent,
+    descent: &mut Descent<ROOM>,
     budget: &mut Budget,
 ) -> Result<Progress, Stopped>
     requires { Stands (T.plan tree.now) descent.old.path }
@@ -355,7 +354,11 @@ pub fn advance<T: Tree>(
 
 /// Goes on to the next whole path, which the descent then has, unless the budget or the search ends before it. Nothing
 /// is left out.
-pub fn climb_on<T: Tree>(tree: &T, descent: &mut Descent, budget: &mut Budget) -> Drawn
+pub fn climb_on<T: Tree<ROOM>, const ROOM: usize>(
+    tree: &T,
+    descent: &mut Descent<ROOM>,
+    budget: &mut Budget,
+) -> Drawn
     requires { Stands (T.plan tree.now) descent.old.path }
     ensures stands { Stands (T.plan tree.now) descent.new.path }
     ensures answer { MatchDrawn result

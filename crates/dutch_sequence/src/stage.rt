@@ -107,7 +107,7 @@ fn range_of(stage: &ExchangeStage<'_>, path: &[u16], place: usize) -> Difference
     }
 }
 
-impl<'a> Tree for ExchangeStage<'a> {
+impl<'a> Tree<LIMIT> for ExchangeStage<'a> {
     ghost use Rattle.dutch_sequence.specs.Halves.{half_stop};
     ghost use Rattle.dutch_sequence.specs.Stages.{exchange_plan};
     ghost use Rattle.std.proofs.Common.{arith};
@@ -120,6 +120,8 @@ impl<'a> Tree for ExchangeStage<'a> {
     ghost few = { λ t. Prim.grind arith };
 
     ghost narrow = { λ t. Prim.grind arith };
+
+    ghost small = { λ t. Prim.grind arith };
 
     fn places(&self) -> usize {
         self.size + self.size
@@ -134,7 +136,7 @@ impl<'a> Tree for ExchangeStage<'a> {
     }
 
     #[tactic(auto, unfolding(crate::specs::Stages::within_reach))]
-    fn admits(&self, path: &Path, place: u16) -> bool {
+    fn admits(&self, path: &Path<LIMIT>, place: u16) -> bool {
         let range = range_of(self, path.as_slice(), place as usize);
         range.least <= self.difference && self.difference <= range.greatest
     }

@@ -60,7 +60,7 @@ fn place_in(pool: &[u16], number: u16) -> usize
 }
 
 /// Fills a list with the places of numbers in a pool.
-fn put_places(pool: &[u16], numbers: &[u16], places: &mut Places)
+fn put_places(pool: &[u16], numbers: &[u16], places: &mut Places<LIMIT>)
     requires small { length pool.now ≤ LIMIT }
     requires few { length numbers.now ≤ LIMIT }
     ensures { places.new.items ≡ places_in pool.now numbers.now }
@@ -91,7 +91,7 @@ struct Opponents<'a, R> {
     ghost narrow: { length pool.now.items ≤ LIMIT },
 }
 
-impl<'a, R: Rule> Tree for Opponents<'a, R> {
+impl<'a, R: Rule> Tree<LIMIT> for Opponents<'a, R> {
     ghost use Rattle.std.proofs.Common.{arith, rules};
 
     ghost plan = { λ t. transposition_plan (R.meets t.rule.now) t.first.now.items t.pool.now.items };
@@ -101,6 +101,8 @@ impl<'a, R: Rule> Tree for Opponents<'a, R> {
     ghost few = { λ t. Prim.grind arith };
 
     ghost narrow = { λ t. Prim.grind arith };
+
+    ghost small = { λ t. Prim.grind arith };
 
     fn places(&self) -> usize {
         self.first.len()
@@ -119,7 +121,7 @@ impl<'a, R: Rule> Tree for Opponents<'a, R> {
     }
 
     #[tactic(auto, using(crate::proofs::TupleSearch::open_once))]
-    fn admits(&self, path: &Path, number: u16) -> bool {
+    fn admits(&self, path: &Path<LIMIT>, number: u16) -> bool {
         !path.has(number)
             && self
                 .rule
@@ -135,8 +137,8 @@ pub struct Transpositions<'a, R: Rule> {
     first: Numbers,
     pool: Numbers,
     rule: &'a R,
-    hint: Places,
-    descent: Descent,
+    hint: Places<LIMIT>,
+    descent: Descent<LIMIT>,
 }
 
 impl<'a, R: Rule> Model for Transpositions<'a, R> {

@@ -1,5 +1,5 @@
-use Rattle.std.proofs.Common.{◌∙◌, ◌<◌, sym, ap, arith, length, rules}
-use Rattle.dutch_sequence.specs.Prelude.{ahead, hits, trials, lower, lowest}
+use Rattle.std.proofs.Common.{◌∙◌, ◌<◌, sym, ap, subst, arith, length, rules}
+use Rattle.dutch_sequence.specs.Prelude.{Stands, ahead, hits, trials, lower, lowest}
 use Rattle.dutch_sequence.proofs.Moves.{ahead-same, beyond-same, ahead-whole, trials-positive, spent-place, spent-whole}
 use Rattle.dutch_sequence.proofs.search.advance.Goals as goal
 use Rattle.dutch_sequence.proofs.search.advance.Goals.{then-len-places+else-descent-eq0, else-len-places+else-descent-stop}
@@ -36,12 +36,17 @@ returns-then-budget-clause-answer g c =
     let opened : length asked.path < plan.places = omega (arith, ap length c.comes_to_ask.ensures.path, c.loop-asks.invariant.stands.0) in
     (ap hits (ahead-same plan _ _ _ _ c.comes_to_ask.ensures.path c.comes_to_ask.ensures.number) ∙ c.loop-asks.invariant.same, search rules, trials-positive plan asked.path opened asked.number (search rules))
 
-pub go_back-requires-clause-spent : goal.go_back-requires-clause-spent
-go_back-requires-clause-spent g c =
+pub go_back-requires : goal.go_back-requires
+go_back-requires g c =
     let plan = g.T.Tree.plan c.args.tree.now in
-    let asked = c.comes_to_ask.new.descent in
-    elim c.if-len-places.branch [
-      | then-len-places+else-descent-eq0 w ↦ spent-whole plan asked.path asked.number (search rules) (omega arith)
-      | else-len-places+else-descent-stop w ↦
-          spent-place plan asked.path asked.number (omega (arith, ap length c.comes_to_ask.ensures.path, c.loop-asks.invariant.stands.0)) (search rules)
-    ]
+    let asked = c.comes_to_ask.new.descent in (
+      omega (arith, g.met.T.Tree.small c.args.tree.now),
+      (
+        subst (Stands plan) (sym c.comes_to_ask.ensures.path) c.loop-asks.invariant.stands,
+        elim c.if-len-places.branch [
+          | then-len-places+else-descent-eq0 w ↦ spent-whole plan asked.path asked.number (search rules) (omega arith)
+          | else-len-places+else-descent-stop w ↦
+              spent-place plan asked.path asked.number (omega (arith, ap length c.comes_to_ask.ensures.path, c.loop-asks.invariant.stands.0)) (search rules)
+        ],
+      ),
+    )

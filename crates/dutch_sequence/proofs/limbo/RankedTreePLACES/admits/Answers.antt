@@ -3,7 +3,7 @@ use Rattle.std.specs.List.{AllByRecursion}
 use Rattle.dutch_sequence.specs.Prelude.{limbo_plan}
 use Rattle.dutch_sequence.proofs.HalfWalks.{half_stop-one}
 use Rattle.dutch_sequence.proofs.Moves.{Walked-below}
-use Rattle.dutch_sequence.proofs.limbo.RankedTree.admits.Goals as goal
+use Rattle.dutch_sequence.proofs.limbo.RankedTreePLACES.admits.Goals as goal
 
 pub place_mirrors-requires-clause-within : goal.place_mirrors-requires-clause-within
 place_mirrors-requires-clause-within c =
