@@ -5,5 +5,6 @@ pub mod CursorTexts
 pub mod CursorReads
 pub mod Passing
 pub mod Blocks
+pub mod Turning
 pub mod FormArrangements
 pub mod FormInsertions

@@ -22,7 +22,7 @@ ghost use Rattle.dutch_sequence.specs.declared.steps.Step.TheVariants.{Found, En
 use crate::bound::Bound;
 use crate::choices::{Levels, no_levels};
 use crate::cuts::{BoundWithRoom, Cuts, NoCuts};
-use crate::levels::Arranges;
+use crate::levels::{Arranges, Stand};
 use dutch_arrangements::{
     Arrangement, Bracket, Candidate, Cursor, FittingShape, LastArrangement, Prefix, Shape,
 };
@@ -167,11 +167,12 @@ fn start_drawing<'a, R: Rule>(
     requires given { Of (λ cursor. IsIn cursor (arrangements fitting.now.bracket.now fitting.now.shape))
         (option_copied own) }
     ensures kept { drawing.new.kept ≡ None }
-    ensures level { drawing.new.level
+    ensures level { drawing.new.level.coming
         ≡ in_bracket (R.meets rule.now) fitting.now.bracket.now fitting.now.shape (option_copied own.entry) }
 {
     drawing.kept.clear();
-    drawing.level.block.has_begun = false;
+    drawing.level.put_cursor(own);
+    drawing.level.block.stand = Stand::AtStart;
     drawing.level.blocks.start(fitting, own, rule);
 }
 
@@ -215,7 +216,7 @@ impl<'a, R: Rule> Model for Candidates<'a, R> {
       shape = l.fitting.shape;
       rule = l.rule.now;
       coming = still_coming l.ended (filter (may_leave (R.may_be_left l.rule.now) l.fitting.bracket.now)
-          (listed l.drawing.kept ++ l.drawing.level));
+          (listed l.drawing.kept ++ l.drawing.level.coming));
       latest = l.latest;
       ended = l.ended;
     } };
@@ -223,10 +224,10 @@ impl<'a, R: Rule> Model for Candidates<'a, R> {
     ghost invariant = { λ l.
         (l.too_many_left ≡ leaves_too_many l.fitting.bracket.now l.fitting.shape)
         × (l.too_many_left ≡ true → filter (may_leave (R.may_be_left l.rule.now) l.fitting.bracket.now)
-        (listed l.drawing.kept ++ l.drawing.level) ≡ [])
+        (listed l.drawing.kept ++ l.drawing.level.coming) ≡ [])
         × AreCandidates (R.meets l.rule.now) (R.may_be_left l.rule.now) l.fitting.bracket.now l.fitting.shape
         (still_coming l.ended (filter (may_leave (R.may_be_left l.rule.now) l.fitting.bracket.now)
-        (listed l.drawing.kept ++ l.drawing.level))) };
+        (listed l.drawing.kept ++ l.drawing.level.coming))) };
 }
 
 impl<'a, R: Rule> Candidates<'a, R> {

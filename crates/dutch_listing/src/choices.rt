@@ -3,20 +3,22 @@
 //
 // Each level begins anew in place, for the choice that the level above it has made: it copies that choice into lists of
 // its own, so that no block makes a list. Behind a cursor only the first choice of each level can be the cursor's own.
-// In that choice the level below begins behind the cursor too; in all later ones it begins at its first choice.
-ghost use Rattle.std.specs.Prelude.{◌≡◌, ◌+◌, ◌≤◌, ℕ, List, None, [], ◌∷◌, is_some, length, option_copied, true};
+// In that choice the level below begins behind the cursor too; in all later ones it begins at its first choice. The
+// cursor waits in the innermost level, and is taken from there as soon as a first choice is another one.
+ghost use Rattle.std.specs.Prelude.{◌≡◌, ◌+◌, ◌≤◌, ℕ, List, None, [], ◌∷◌, filter, if◌then◌else◌, is_some, length, option_copied, true};
 ghost use Rattle.std.specs.List.{AllByRecursion};
 ghost use Rattle.std.specs.List.Sorted.{IsStrictlyIncreasing};
 ghost use Rattle.dutch_arrangements.specs.Arrangements.{Arrangement, arrangements};
-ghost use Rattle.dutch_sequence.specs.Choices.{left_of, joined};
+ghost use Rattle.dutch_sequence.specs.Choices.{all_meet, left_of, joined, tuples};
 ghost use Rattle.dutch_sequence.specs.Keys.{IsIn};
-ghost use Rattle.dutch_arrangements.specs.Levels.{HasS1r, HasS2, HasS2r, Of, if_own, in_bracket, in_s1, in_s1r, in_s2};
+ghost use Rattle.dutch_sequence.specs.Transposition.{all_tuples};
+ghost use Rattle.dutch_arrangements.specs.Levels.{HasS1r, HasS2, HasS2r, Of, choices_from, if_own, in_bracket, in_s1, in_s1r, in_s2, s1_blocks, s1r_blocks, s2_blocks};
 ghost use Rattle.dutch_arrangements.specs.Levels.{without_own};
 ghost use Rattle.dutch_arrangements.specs.Past.{IsPassedTuple};
 ghost use Rattle.dutch_sequence.specs.Steps.{MatchDrawn, Passes, Spends};
 
 use crate::cuts::Cuts;
-use crate::levels::{Arranges, Blocks, Level};
+use crate::levels::{Arranges, Blocks, Level, Stand};
 use crate::past::{Chooser, Chosen, choose_next, choose_set, choose_tuple};
 use dutch_arrangements::{Arrangement, Filling, FittingShape, LastArrangement, Prefix};
 use dutch_sequence::numbers::{is_same, put_left_of, refill};
@@ -41,7 +43,8 @@ pub struct ByS2r<'a, R: Rule> {
 #[derive(Drop)]
 struct Others<'a, R: Rule> {
     s2r: Chooser<Transpositions<'a, R>>,
-    // the arrangement behind which the lists begin, until the first one has come
+    // the arrangement behind which the lists begin, until the first one has come; before they begin, the cursor of all
+    // levels waits here
     resume: LastArrangement,
 }
 
@@ -56,20 +59,23 @@ struct InS1r<'s> {
 }
 
 impl<'a, R: Rule> Model for ByS2r<'a, R> {
-    ghost use Rattle.std.specs.Prelude.{List, map, option_copied};
-    ghost use Rattle.dutch_arrangements.specs.Arrangements.{Arrangement};
+    ghost use Rattle.std.specs.Prelude.{map};
     ghost use Rattle.dutch_arrangements.specs.Levels.{arranged, without_own};
+    ghost use Rattle.dutch_listing.specs.Standing.{Standing};
 
-    ghost Value = { List Arrangement };
+    ghost Value = { Standing };
 
-    ghost view = { λ l. map (arranged l.s1.items l.s2.items l.s1r.items)
-        (without_own l.others.resume l.others.s2r.choices.coming) };
+    ghost view = { λ l. record {
+      coming = map (arranged l.s1.items l.s2.items l.s1r.items)
+          (without_own l.others.resume l.others.s2r.choices.coming);
+      own = l.others.resume;
+    } };
 }
 
 impl<'a, R: Rule> ByS2r<'a, R> {
     /// A place for such arrangements, in which there are none.
     fn ended(rule: &'a R) -> ByS2r<'a, R>
-        ensures { result ≡ [] }
+        ensures { result.coming ≡ [] }
     {
         ByS2r {
             s1: Numbers::new(),
@@ -86,26 +92,39 @@ impl<'a, R: Rule> ByS2r<'a, R> {
         }
     }
 
-    /// Begins anew.
+    /// Begins anew, behind the cursor that waits here.
     #[tactic(auto, unfolding(dutch_arrangements::specs::Levels::in_s1r))]
-    fn start(&mut self, from: &InS1r<'_>, own: Option<&Arrangement>, rule: &'a R)
-        requires same { Of (λ cursor. cursor.s1r ≡ from.now.s1r.now.items) (option_copied own) }
-        requires given { Of (HasS2r from.now.remainder.now.items) (option_copied own) }
-        ensures { self.new ≡ in_s1r (R.meets rule.now) from.now.s1.now.items from.now.s2.now.items
-            from.now.remainder.now.items (option_copied own.entry) from.now.s1r.now.items }
+    fn start(&mut self, from: &InS1r<'_>, rule: &'a R)
+        requires same { Of (λ cursor. cursor.s1r ≡ from.now.s1r.now.items) self.old.own }
+        requires given { Of (HasS2r from.now.remainder.now.items) self.old.own }
+        ensures { self.new.coming ≡ in_s1r (R.meets rule.now) from.now.s1.now.items from.now.s2.now.items
+            from.now.remainder.now.items self.old.own from.now.s1r.now.items }
     {
         refill(&mut self.s1, from.s1);
         refill(&mut self.s2, from.s2);
         refill(&mut self.s1r, from.s1r);
         put_left_of(from.remainder, from.s1r, &mut self.pool);
-        self.others.resume.put(own);
         let meeting = Meeting {
             first: from.s1r,
             pool: &self.pool,
         };
-        match own {
-            Some(own) => self.others.s2r.choices.start_from(&meeting, rule, &own.s2r),
-            None => self.others.s2r.choices.start(&meeting, rule),
+        self.others.start(&meeting, rule);
+    }
+}
+
+impl<'a, R: Rule> Others<'a, R> {
+    /// Begins anew, behind the cursor that waits here.
+    fn start(&mut self, meeting: &Meeting<'_>, rule: &'a R)
+        requires given { Of (λ own. IsIn own.s2r (tuples meeting.now.pool.now (length meeting.now.first.now)))
+            self.old.resume }
+        ensures resume { self.new.resume ≡ self.old.resume }
+        ensures coming { self.new.s2r.choices.coming ≡ filter (all_meet (R.meets rule.now) meeting.now.first.now)
+            (choices_from (λ a. a.s2r) self.old.resume
+            (all_tuples meeting.now.pool.now (length meeting.now.first.now))) }
+    {
+        match self.resume.get() {
+            Some(own) => self.s2r.choices.start_from(meeting, rule, &own.s2r),
+            None => self.s2r.choices.start(meeting, rule),
         }
     }
 }
@@ -153,7 +172,9 @@ fn choose_other<R: Rule, C: Cuts>(
 }
 
 impl<'a, R: Rule> Arranges for ByS2r<'a, R> {
-    ghost coming = { λ l. l };
+    ghost coming = { λ l. l.coming };
+
+    ghost own = { λ l. l.own };
 
     fn next<C: Cuts>(
         &mut self,
@@ -180,6 +201,23 @@ impl<'a, R: Rule> Arranges for ByS2r<'a, R> {
         refill(&mut lists.s2r, &self.others.s2r.latest);
         Ok(true)
     }
+
+    fn cursor(&self) -> Option<&Arrangement> {
+        self.others.resume.get()
+    }
+
+    fn put_cursor(&mut self, cursor: Option<&Arrangement>) {
+        self.others.resume.put(cursor);
+    }
+}
+
+/// Leaves the cursor that waits in a level there only if a choice is its own.
+fn keep_cursor<L: Arranges>(level: &mut L, is_own: bool)
+    ensures { L.own level.new ≡ (if is_own then L.own level.old else None) }
+{
+    if !is_own {
+        level.put_cursor(None);
+    }
 }
 
 /// Arrangements with the same S1 and S2: a block for each S1R, by article D.2.
@@ -191,8 +229,6 @@ pub struct ByS1r<'a, R: Rule> {
     // the S1R of the block is the one that came last
     s1r: Chooser<Exchanges>,
     rule: &'a R,
-    // the arrangement behind which the blocks begin, until the first one has come
-    resume: LastArrangement,
 }
 
 /// An S1 and an S2 out of the residents, from which a level begins; the remainder makes `k` pairs.
@@ -207,24 +243,26 @@ struct InS2<'s> {
 }
 
 impl<'a, R: Rule> Model for ByS1r<'a, R> {
-    ghost use Rattle.std.specs.Prelude.{List, option_copied};
     ghost use Rattle.std.specs.List.Sorted.{IsStrictlyIncreasing};
-    ghost use Rattle.dutch_arrangements.specs.Arrangements.{Arrangement};
-    ghost use Rattle.dutch_arrangements.specs.Levels.{HasS2r, Of, s1r_blocks};
+    ghost use Rattle.dutch_listing.specs.Standing.{S1rChoices};
 
-    ghost Value = { List (List Arrangement) };
+    ghost Value = { S1rChoices R };
 
-    ghost view = { λ l. s1r_blocks (R.meets l.rule.now) l.s1.items l.s2.items l.remainder.items
-        l.resume l.s1r.choices.coming };
+    ghost view = { λ l. record {
+      rule = l.rule.now;
+      s1 = l.s1.items;
+      s2 = l.s2.items;
+      remainder = l.remainder.items;
+      coming = l.s1r.choices.coming;
+    } };
 
-    ghost invariant = { λ l. IsStrictlyIncreasing l.remainder.items
-        × Of (HasS2r l.remainder.items) l.resume };
+    ghost invariant = { λ l. IsStrictlyIncreasing l.remainder.items };
 }
 
 impl<'a, R: Rule> ByS1r<'a, R> {
     /// A place for such blocks, in which there are none.
     fn ended(rule: &'a R) -> ByS1r<'a, R>
-        ensures { result ≡ [] }
+        ensures { result.coming ≡ [] }
     {
         ByS1r {
             s1: Numbers::new(),
@@ -235,23 +273,24 @@ impl<'a, R: Rule> ByS1r<'a, R> {
                 latest: Numbers::new(),
             },
             rule,
-            resume: LastArrangement::none(),
         }
     }
 
-    /// Begins anew.
+    /// Begins anew: all blocks, or those behind a cursor.
     #[tactic(auto, unfolding(dutch_arrangements::specs::Levels::in_s2))]
     fn start(&mut self, from: &InS2<'_>, own: Option<&Arrangement>, rule: &'a R)
         requires given { Of (HasS1r from.now.k (left_of from.now.residents.now.items from.now.s2.now.items))
             (option_copied own) }
-        ensures { joined self.new ≡ in_s2 (R.meets rule.now) from.now.k from.now.s1.now.items
+        ensures blocks { let l = self.new in
+            joined (s1r_blocks (R.meets l.rule) l.s1 l.s2 l.remainder (option_copied own.entry) l.coming)
+            ≡ in_s2 (R.meets rule.now) from.now.k from.now.s1.now.items
             from.now.residents.now.items (option_copied own.entry) from.now.s2.now.items }
+        ensures given { Of (HasS2r self.new.remainder) (option_copied own.entry) }
     {
         refill(&mut self.s1, from.s1);
         refill(&mut self.s2, from.s2);
         put_left_of(from.residents, from.s2, &mut self.remainder);
         self.rule = rule;
-        self.resume.put(own);
         let sides = Sides {
             pool: &self.remainder,
             k: from.k,
@@ -263,22 +302,22 @@ impl<'a, R: Rule> ByS1r<'a, R> {
     }
 }
 
-/// The arrangement behind which blocks begin, if an S1R is its own.
-fn own_by_s1r<'r>(resume: &'r LastArrangement, s1r: &Numbers) -> Option<&'r Arrangement>
-    ensures { option_copied result ≡ if_own (λ a. a.s1r) resume.now s1r.now.items }
+/// Yes if an S1R is that of the cursor behind which blocks begin.
+fn is_own_s1r(own: Option<&Arrangement>, s1r: &Numbers) -> bool
+    ensures { result ≡ is_some (if_own (λ a. a.s1r) (option_copied own.entry) s1r.now.items) }
 {
-    let own = resume.get()?;
-    if is_same(s1r, &own.s1r) {
-        Some(own)
-    } else {
-        None
+    match own {
+        Some(own) => is_same(s1r, &own.s1r),
+        None => false,
     }
 }
 
 impl<'a, R: Rule> Blocks for ByS1r<'a, R> {
     type Block = ByS2r<'a, R>;
 
-    ghost blocks = { λ l. l };
+    ghost blocks = { λ l own. s1r_blocks (R.meets l.rule) l.s1 l.s2 l.remainder own l.coming };
+
+    ghost HasOwn = { λ l. HasS2r l.remainder };
 
     fn next_block<C: Cuts>(
         &mut self,
@@ -294,7 +333,7 @@ impl<'a, R: Rule> Blocks for ByS1r<'a, R> {
                 s1r: &[],
                 s2r: &[],
             },
-            very_next: self.resume.is_held(),
+            very_next: block.cursor().is_some(),
         };
         if cuts.cuts_at_first(&chosen.lists) {
             return Ok(false);
@@ -302,15 +341,15 @@ impl<'a, R: Rule> Blocks for ByS1r<'a, R> {
         if !choose_set(&mut self.s1r, &chosen, cuts, budget)? {
             return Ok(false);
         }
-        let own = own_by_s1r(&self.resume, &self.s1r.latest);
+        let is_own = is_own_s1r(block.cursor(), &self.s1r.latest);
+        keep_cursor(block, is_own);
         let from = InS1r {
             s1: &self.s1,
             s2: &self.s2,
             remainder: &self.remainder,
             s1r: &self.s1r.latest,
         };
-        block.start(&from, own, self.rule);
-        self.resume.clear();
+        block.start(&from, self.rule);
         Ok(true)
     }
 }
@@ -324,8 +363,6 @@ pub struct ByS2<'a, R: Rule> {
     // the S2 of the block is the one that came last
     s2: Chooser<Transpositions<'a, R>>,
     rule: &'a R,
-    // the arrangement behind which the blocks begin, until the first one has come
-    resume: LastArrangement,
 }
 
 /// An S1 and the residents, from which a level begins; the remainder makes `k` pairs.
@@ -339,28 +376,31 @@ struct InS1<'s> {
 }
 
 impl<'a, R: Rule> Model for ByS2<'a, R> {
-    ghost use Rattle.std.specs.Prelude.{◌≤◌, List, length, option_copied};
+    ghost use Rattle.std.specs.Prelude.{◌≤◌, length};
     ghost use Rattle.std.specs.List.{AllByRecursion};
     ghost use Rattle.std.specs.List.Sorted.{IsStrictlyIncreasing};
-    ghost use Rattle.dutch_arrangements.specs.Arrangements.{Arrangement};
     ghost use Rattle.dutch_sequence.specs.Choices.{left_of};
-    ghost use Rattle.dutch_arrangements.specs.Levels.{HasS1r, Of, s2_blocks};
+    ghost use Rattle.dutch_listing.specs.Standing.{S2Choices};
 
-    ghost Value = { List (List Arrangement) };
+    ghost Value = { S2Choices R };
 
-    ghost view = { λ l. s2_blocks (R.meets l.rule.now) l.k l.s1.items l.residents.items
-        l.resume l.s2.choices.coming };
+    ghost view = { λ l. record {
+      rule = l.rule.now;
+      k = l.k;
+      s1 = l.s1.items;
+      residents = l.residents.items;
+      coming = l.s2.choices.coming;
+    } };
 
     ghost invariant = { λ l.
         IsStrictlyIncreasing l.residents.items
-        × AllByRecursion (λ s2. l.k ≤ length (left_of l.residents.items s2)) l.s2.choices.coming
-        × Of (λ own. HasS1r l.k (left_of l.residents.items own.s2) own) l.resume };
+        × AllByRecursion (λ s2. l.k ≤ length (left_of l.residents.items s2)) l.s2.choices.coming };
 }
 
 impl<'a, R: Rule> ByS2<'a, R> {
     /// A place for such blocks, in which there are none.
     fn ended(rule: &'a R) -> ByS2<'a, R>
-        ensures { result ≡ [] }
+        ensures { result.coming ≡ [] }
     {
         ByS2 {
             k: 0,
@@ -371,23 +411,25 @@ impl<'a, R: Rule> ByS2<'a, R> {
                 latest: Numbers::new(),
             },
             rule,
-            resume: LastArrangement::none(),
         }
     }
 
-    /// Begins anew.
+    /// Begins anew: all blocks, or those behind a cursor.
     #[tactic(auto, unfolding(dutch_arrangements::specs::Levels::in_s1))]
     fn start(&mut self, from: &InS1<'_>, own: Option<&Arrangement>, rule: &'a R)
         requires same { Of (λ cursor. cursor.s1 ≡ from.now.s1.now.items) (option_copied own) }
         requires given { Of (HasS2 from.now.k from.now.residents.now.items) (option_copied own) }
-        ensures { joined self.new ≡ in_s1 (R.meets rule.now) from.now.k from.now.residents.now.items
+        ensures blocks { let l = self.new in
+            joined (s2_blocks (R.meets l.rule) l.k l.s1 l.residents (option_copied own.entry) l.coming)
+            ≡ in_s1 (R.meets rule.now) from.now.k from.now.residents.now.items
             (option_copied own.entry) from.now.s1.now.items }
+        ensures given { let l = self.new in
+            Of (λ own. HasS1r l.k (left_of l.residents own.s2) own) (option_copied own.entry) }
     {
         self.k = from.k;
         refill(&mut self.s1, from.s1);
         refill(&mut self.residents, from.residents);
         self.rule = rule;
-        self.resume.put(own);
         let meeting = Meeting {
             first: from.s1,
             pool: from.residents,
@@ -399,22 +441,22 @@ impl<'a, R: Rule> ByS2<'a, R> {
     }
 }
 
-/// The arrangement behind which blocks begin, if an S2 is its own.
-fn own_by_s2<'r>(resume: &'r LastArrangement, s2: &Numbers) -> Option<&'r Arrangement>
-    ensures { option_copied result ≡ if_own (λ a. a.s2) resume.now s2.now.items }
+/// Yes if an S2 is that of the cursor behind which blocks begin.
+fn is_own_s2(own: Option<&Arrangement>, s2: &Numbers) -> bool
+    ensures { result ≡ is_some (if_own (λ a. a.s2) (option_copied own.entry) s2.now.items) }
 {
-    let own = resume.get()?;
-    if is_same(s2, &own.s2) {
-        Some(own)
-    } else {
-        None
+    match own {
+        Some(own) => is_same(s2, &own.s2),
+        None => false,
     }
 }
 
 impl<'a, R: Rule> Blocks for ByS2<'a, R> {
     type Block = Level<ByS1r<'a, R>>;
 
-    ghost blocks = { λ l. l };
+    ghost blocks = { λ l own. s2_blocks (R.meets l.rule) l.k l.s1 l.residents own l.coming };
+
+    ghost HasOwn = { λ l own. HasS1r l.k (left_of l.residents own.s2) own };
 
     fn next_block<C: Cuts>(
         &mut self,
@@ -430,21 +472,23 @@ impl<'a, R: Rule> Blocks for ByS2<'a, R> {
                 s1r: &[],
                 s2r: &[],
             },
-            very_next: self.resume.is_held(),
+            very_next: block.cursor().is_some(),
         };
         if !choose_tuple(&mut self.s2, &chosen, cuts, budget)? {
             return Ok(false);
         }
-        let own = own_by_s2(&self.resume, &self.s2.latest);
+        let is_own = is_own_s2(block.cursor(), &self.s2.latest);
+        keep_cursor(block, is_own);
         let from = InS2 {
             k: self.k,
             s1: &self.s1,
             residents: &self.residents,
             s2: &self.s2.latest,
         };
-        block.block.has_begun = false;
-        block.blocks.start(&from, own, self.rule);
-        self.resume.clear();
+        block.block.stand = Stand::AtStart;
+        block
+            .blocks
+            .start(&from, block.block.level.cursor(), self.rule);
         Ok(true)
     }
 }
@@ -458,31 +502,32 @@ pub struct ByS1<'a, R: Rule> {
     s1: Numbers,
     sets: LimboExchanges,
     rule: &'a R,
-    // the arrangement behind which the blocks begin, until the first one has come
-    resume: LastArrangement,
 }
 
 impl<'a, R: Rule> Model for ByS1<'a, R> {
-    ghost use Rattle.std.specs.Prelude.{◌+◌, ◌≤◌, List, length, option_copied};
+    ghost use Rattle.std.specs.Prelude.{◌+◌, ◌≤◌, length};
     ghost use Rattle.std.specs.List.{AllByRecursion};
     ghost use Rattle.std.specs.List.Sorted.{IsStrictlyIncreasing};
-    ghost use Rattle.dutch_arrangements.specs.Arrangements.{Arrangement};
-    ghost use Rattle.dutch_arrangements.specs.Levels.{HasS2, Of, s1_blocks};
+    ghost use Rattle.dutch_listing.specs.Standing.{S1Choices};
 
-    ghost Value = { List (List Arrangement) };
+    ghost Value = { S1Choices R };
 
-    ghost view = { λ l. s1_blocks (R.meets l.rule.now) l.k l.residents.items l.resume l.sets.coming };
+    ghost view = { λ l. record {
+      rule = l.rule.now;
+      k = l.k;
+      residents = l.residents.items;
+      coming = l.sets.coming;
+    } };
 
     ghost invariant = { λ l.
         IsStrictlyIncreasing l.residents.items
-        × AllByRecursion (λ s1. length s1 + l.k ≤ length l.residents.items) l.sets.coming
-        × Of (HasS2 l.k l.residents.items) l.resume };
+        × AllByRecursion (λ s1. length s1 + l.k ≤ length l.residents.items) l.sets.coming };
 }
 
 impl<'a, R: Rule> ByS1<'a, R> {
     /// A place for such blocks, in which there are none.
     fn ended(rule: &'a R) -> ByS1<'a, R>
-        ensures { result ≡ [] }
+        ensures { result.coming ≡ [] }
     {
         ByS1 {
             k: 0,
@@ -490,7 +535,6 @@ impl<'a, R: Rule> ByS1<'a, R> {
             s1: Numbers::new(),
             sets: LimboExchanges::ended(),
             rule,
-            resume: LastArrangement::none(),
         }
     }
 
@@ -499,14 +543,15 @@ impl<'a, R: Rule> ByS1<'a, R> {
     pub fn start(&mut self, from: &FittingShape<'_>, own: Option<&Arrangement>, rule: &'a R)
         requires given { Of (λ cursor. IsIn cursor (arrangements from.now.bracket.now from.now.shape))
             (option_copied own) }
-        ensures { joined self.new
+        ensures blocks { let l = self.new in
+            joined (s1_blocks (R.meets l.rule) l.k l.residents (option_copied own.entry) l.coming)
             ≡ in_bracket (R.meets rule.now) from.now.bracket.now from.now.shape (option_copied own.entry) }
+        ensures given { Of (HasS2 self.new.k self.new.residents) (option_copied own.entry) }
     {
         let scores = &from.bracket.scores()[..from.bracket.mdps()];
         self.k = from.shape.pairs - from.shape.mdps;
         from.bracket.put_residents(&mut self.residents);
         self.rule = rule;
-        self.resume.put(own);
         match own {
             Some(own) => self.sets.start_from(scores, from.shape.mdps, &own.s1),
             None => self.sets.start(scores, from.shape.mdps),
@@ -514,22 +559,22 @@ impl<'a, R: Rule> ByS1<'a, R> {
     }
 }
 
-/// The arrangement behind which blocks begin, if an S1 is its own.
-fn own_by_s1<'r>(resume: &'r LastArrangement, s1: &Numbers) -> Option<&'r Arrangement>
-    ensures { option_copied result ≡ if_own (λ a. a.s1) resume.now s1.now.items }
+/// Yes if an S1 is that of the cursor behind which blocks begin.
+fn is_own_s1(own: Option<&Arrangement>, s1: &Numbers) -> bool
+    ensures { result ≡ is_some (if_own (λ a. a.s1) (option_copied own.entry) s1.now.items) }
 {
-    let own = resume.get()?;
-    if is_same(s1, &own.s1) {
-        Some(own)
-    } else {
-        None
+    match own {
+        Some(own) => is_same(s1, &own.s1),
+        None => false,
     }
 }
 
 impl<'a, R: Rule> Blocks for ByS1<'a, R> {
     type Block = Level<ByS2<'a, R>>;
 
-    ghost blocks = { λ l. l };
+    ghost blocks = { λ l own. s1_blocks (R.meets l.rule) l.k l.residents own l.coming };
+
+    ghost HasOwn = { λ l. HasS2 l.k l.residents };
 
     fn next_block<C: Cuts>(
         &mut self,
@@ -540,15 +585,17 @@ impl<'a, R: Rule> Blocks for ByS1<'a, R> {
         if !self.sets.put_next(&mut self.s1, budget)? {
             return Ok(false);
         }
-        let own = own_by_s1(&self.resume, &self.s1);
+        let is_own = is_own_s1(block.cursor(), &self.s1);
+        keep_cursor(block, is_own);
         let from = InS1 {
             k: self.k,
             residents: &self.residents,
             s1: &self.s1,
         };
-        block.block.has_begun = false;
-        block.blocks.start(&from, own, self.rule);
-        self.resume.clear();
+        block.block.stand = Stand::AtStart;
+        block
+            .blocks
+            .start(&from, block.block.level.cursor(), self.rule);
         Ok(true)
     }
 }
@@ -558,7 +605,7 @@ pub type Levels<'a, R> = Level<ByS1<'a, R>>;
 
 /// Levels in which there are no arrangements.
 pub fn no_levels<'a, R: Rule>(rule: &'a R) -> Levels<'a, R>
-    ensures { result ≡ [] }
+    ensures { result.coming ≡ [] }
 {
     let of_s2 = Level::new(ByS1r::ended(rule), ByS2r::ended(rule));
     let of_s1 = Level::new(ByS2::ended(rule), of_s2);

@@ -30,9 +30,6 @@ invariant_of-self g c =
       c.put_residents.ensures.ascends,
       subst (AllByRecursion (λ (s1 : List ℕ). length s1 + k ≤ room)) (sym c.start_from.ensures.coming)
           (from_on-all (λ s1. length s1 + k ≤ room) c.deref.result.now sets (sets-fit (take c.mdps.result c.scores.result.now) shape.mdps k room enough)),
-      subst (Of (HasS2 k c.put_residents.new.residents.items)) (sym c.put.ensures)
-          (subst (λ residents. Of (HasS2 k residents) (option_copied c.args.own)) (sym c.put_residents.ensures.items)
-          (cursor-s2 frame shape (g.R.Rule.meets c.args.rule.now) (option_copied c.args.own) c.requires.given)),
     )
 
 pub invariant_of-self-in-None : goal.invariant_of-self-in-None
@@ -46,14 +43,11 @@ invariant_of-self-in-None g c =
       c.put_residents.ensures.ascends,
       subst (AllByRecursion (λ (s1 : List ℕ). length s1 + k ≤ room)) (sym c.start.ensures.coming)
           (sets-fit (take c.mdps.result c.scores.result.now) shape.mdps k room enough),
-      subst (Of (HasS2 k c.put_residents.new.residents.items)) (sym c.put.ensures)
-          (subst (λ residents. Of (HasS2 k residents) (option_copied c.args.own)) (sym c.put_residents.ensures.items)
-          (cursor-s2 frame shape (g.R.Rule.meets c.args.rule.now) (option_copied c.args.own) c.requires.given)),
     )
 
-pub returns-in-Some : goal.returns-in-Some
+pub returns-in-Some-clause-blocks : goal.returns-in-Some-clause-blocks
 unfolding in_bracket
-returns-in-Some g c =
+returns-in-Some-clause-blocks g c =
     let frame = c.args.from.now.bracket.now in
     let shape = c.args.from.now.shape in
     let k = shape.pairs - shape.mdps in
@@ -68,13 +62,12 @@ returns-in-Some g c =
     c.start_from.ensures.coming
     ∙ ap (λ s1. from_on s1 (limbo_exchanges (take c.mdps.result c.scores.result.now) shape.mdps)) (c.deref.ensures.0 ∙ at_s1)
     ∙ ap (λ scores. from_on own.s1 (limbo_exchanges scores shape.mdps)) (sym scores) in
-    ap (λ own. joined (s1_blocks meets k c.put_residents.new.residents.items own c.start_from.new.self.coming)) c.put.ensures
-    ∙ ap (λ residents. joined (s1_blocks meets k residents at c.start_from.new.self.coming)) c.put_residents.ensures.items
+    ap (λ residents. joined (s1_blocks meets k residents at c.start_from.new.self.coming)) c.put_residents.ensures.items
     ∙ ap (λ sets. joined (s1_blocks meets k (residents_of frame) at sets)) (sets ∙ ap (λ other. choices_from (λ a. a.s1) other all) (sym (ap (λ lent. option_copied lent) c.in-Some.is)))
 
-pub returns-in-None : goal.returns-in-None
+pub returns-in-None-clause-blocks : goal.returns-in-None-clause-blocks
 unfolding in_bracket
-returns-in-None g c =
+returns-in-None-clause-blocks g c =
     let frame = c.args.from.now.bracket.now in
     let shape = c.args.from.now.shape in
     let k = shape.pairs - shape.mdps in
@@ -84,6 +77,19 @@ returns-in-None g c =
     let scores : take frame.mdps frame.scores ≡ take c.mdps.result c.scores.result.now =
     ap (λ n. take n frame.scores) (sym c.mdps.ensures) ∙ ap (take c.mdps.result) (sym c.scores.ensures.scores) in
     let sets : c.start.new.self.coming ≡ all = c.start.ensures.coming ∙ ap (λ scores. limbo_exchanges scores shape.mdps) (sym scores) in
-    ap (λ own. joined (s1_blocks meets k c.put_residents.new.residents.items own c.start.new.self.coming)) c.put.ensures
-    ∙ ap (λ residents. joined (s1_blocks meets k residents at c.start.new.self.coming)) c.put_residents.ensures.items
+    ap (λ residents. joined (s1_blocks meets k residents at c.start.new.self.coming)) c.put_residents.ensures.items
     ∙ ap (λ sets. joined (s1_blocks meets k (residents_of frame) at sets)) (sets ∙ ap (λ other. choices_from (λ a. a.s1) other all) (sym (ap (λ lent. option_copied lent) c.in-None.is)))
+
+pub returns-in-Some-clause-given : goal.returns-in-Some-clause-given
+returns-in-Some-clause-given g c =
+    let frame = c.args.from.now.bracket.now in
+    let shape = c.args.from.now.shape in
+    subst (λ residents. Of (HasS2 (shape.pairs - shape.mdps) residents) (option_copied c.args.own)) (sym c.put_residents.ensures.items)
+    (cursor-s2 frame shape (g.R.Rule.meets c.args.rule.now) (option_copied c.args.own) c.requires.given)
+
+pub returns-in-None-clause-given : goal.returns-in-None-clause-given
+returns-in-None-clause-given g c =
+    let frame = c.args.from.now.bracket.now in
+    let shape = c.args.from.now.shape in
+    subst (λ residents. Of (HasS2 (shape.pairs - shape.mdps) residents) (option_copied c.args.own)) (sym c.put_residents.ensures.items)
+    (cursor-s2 frame shape (g.R.Rule.meets c.args.rule.now) (option_copied c.args.own) c.requires.given)

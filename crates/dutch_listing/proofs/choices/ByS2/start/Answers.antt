@@ -1,4 +1,4 @@
-use Rattle.std.proofs.Common.{sym, subst, length, ◌≤◌, option_copied, ◌≡◌, ◌∙◌, ap, filter, ℕ, Bool, List, Option}
+use Rattle.std.proofs.Common.{refl, sym, subst, length, ◌≤◌, option_copied, ◌≡◌, ◌∙◌, ap, filter, ℕ, Bool, List, Option}
 use Rattle.std.specs.List.{AllByRecursion}
 use Rattle.std.specs.List.Sorted.{IsStrictlyIncreasing}
 use Rattle.dutch_arrangements.specs.Prelude.{Arrangement, left_of, HasS1r, HasS2, Of, choices_from, in_s1, joined, s2_blocks, all_meet, from_on, all_tuples}
@@ -28,9 +28,6 @@ invariant_of-self g c =
       subst (λ numbers. AllByRecursion (λ s2. c.args.from.now.k ≤ length (left_of numbers s2)) c.start_from.new.self.coming) (sym c.refill-2.ensures)
           (subst (AllByRecursion (λ s2. c.args.from.now.k ≤ length (left_of residents s2))) (sym (c.start_from.ensures.coming ∙ same_lists meets _ _ _ _ c.deref-in-Some.result.now c.deref.ensures.0 c.deref-2.ensures.0))
           (opponents-leave-from meets c.args.from.now.s1.now.items residents c.deref-in-Some.result.now c.args.from.now.k c.args.from.now.ascends c.args.from.now.enough)),
-      subst (Of (λ own. HasS1r c.args.from.now.k (left_of c.refill-2.new.list.items own.s2) own)) (sym c.put.ensures)
-          (subst (λ numbers. Of (λ own. HasS1r c.args.from.now.k (left_of numbers own.s2) own) (option_copied c.args.own)) (sym c.refill-2.ensures)
-          (of-both (HasS2 c.args.from.now.k residents) (λ own. HasS1r c.args.from.now.k (left_of residents own.s2) own) (option_copied c.args.own) (λ own has. has.1) c.requires.given)),
     )
 
 pub invariant_of-self-in-None : goal.invariant_of-self-in-None
@@ -41,26 +38,35 @@ invariant_of-self-in-None g c =
       subst (λ numbers. AllByRecursion (λ s2. c.args.from.now.k ≤ length (left_of numbers s2)) c.start.new.self.coming) (sym c.refill-2.ensures)
           (subst (AllByRecursion (λ s2. c.args.from.now.k ≤ length (left_of residents s2))) (sym (c.start.ensures.coming ∙ all_lists meets _ _ _ _ c.deref.ensures.0 c.deref-2.ensures.0))
           (opponents-leave meets c.args.from.now.s1.now.items residents c.args.from.now.k c.args.from.now.ascends c.args.from.now.enough)),
-      subst (Of (λ own. HasS1r c.args.from.now.k (left_of c.refill-2.new.list.items own.s2) own)) (sym c.put.ensures)
-          (subst (λ numbers. Of (λ own. HasS1r c.args.from.now.k (left_of numbers own.s2) own) (option_copied c.args.own)) (sym c.refill-2.ensures)
-          (of-both (HasS2 c.args.from.now.k residents) (λ own. HasS1r c.args.from.now.k (left_of residents own.s2) own) (option_copied c.args.own) (λ own has. has.1) c.requires.given)),
     )
 
-pub returns-in-Some : goal.returns-in-Some
+pub returns-in-Some-clause-blocks : goal.returns-in-Some-clause-blocks
 unfolding in_s1
-returns-in-Some g c =
+returns-in-Some-clause-blocks g c =
     let all = all_tuples c.args.from.now.residents.now.items (length c.args.from.now.s1.now.items) in
     let meets = all_meet (g.R.Rule.meets c.args.rule.now) c.args.from.now.s1.now.items in
     let at_s2 = ap (λ (a : Arrangement). a.s2) c.own.view_is in
-    filled _ _ _ _ _ _ _ _ _ _ c.refill.ensures c.refill-2.ensures c.put.ensures
+    filled _ _ _ _ _ _ _ _ _ _ c.refill.ensures c.refill-2.ensures refl
     (c.start_from.ensures.coming ∙ same_lists (g.R.Rule.meets c.args.rule.now) _ _ _ _ c.deref-in-Some.result.now c.deref.ensures.0 c.deref-2.ensures.0
     ∙ ap (λ tuple. filter meets (from_on tuple all)) (c.deref-in-Some.ensures.0 ∙ at_s2)
     ∙ ap (λ other. filter meets (choices_from (λ a. a.s2) other all)) (sym (ap (λ lent. option_copied lent) c.in-Some.is)))
 
-pub returns-in-None : goal.returns-in-None
+pub returns-in-None-clause-blocks : goal.returns-in-None-clause-blocks
 unfolding in_s1
-returns-in-None g c =
+returns-in-None-clause-blocks g c =
     let all = all_tuples c.args.from.now.residents.now.items (length c.args.from.now.s1.now.items) in
-    filled _ _ _ _ _ _ _ _ _ _ c.refill.ensures c.refill-2.ensures c.put.ensures
+    filled _ _ _ _ _ _ _ _ _ _ c.refill.ensures c.refill-2.ensures refl
     (c.start.ensures.coming ∙ all_lists (g.R.Rule.meets c.args.rule.now) _ _ _ _ c.deref.ensures.0 c.deref-2.ensures.0
     ∙ ap (λ other. filter (all_meet (g.R.Rule.meets c.args.rule.now) c.args.from.now.s1.now.items) (choices_from (λ a. a.s2) other all)) (sym (ap (λ lent. option_copied lent) c.in-None.is)))
+
+pub returns-in-Some-clause-given : goal.returns-in-Some-clause-given
+returns-in-Some-clause-given g c =
+    let residents = c.args.from.now.residents.now.items in
+    subst (λ numbers. Of (λ own. HasS1r c.args.from.now.k (left_of numbers own.s2) own) (option_copied c.args.own)) (sym c.refill-2.ensures)
+    (of-both (HasS2 c.args.from.now.k residents) (λ own. HasS1r c.args.from.now.k (left_of residents own.s2) own) (option_copied c.args.own) (λ own has. has.1) c.requires.given)
+
+pub returns-in-None-clause-given : goal.returns-in-None-clause-given
+returns-in-None-clause-given g c =
+    let residents = c.args.from.now.residents.now.items in
+    subst (λ numbers. Of (λ own. HasS1r c.args.from.now.k (left_of numbers own.s2) own) (option_copied c.args.own)) (sym c.refill-2.ensures)
+    (of-both (HasS2 c.args.from.now.k residents) (λ own. HasS1r c.args.from.now.k (left_of residents own.s2) own) (option_copied c.args.own) (λ own has. has.1) c.requires.given)
