@@ -4,10 +4,11 @@ use Rattle.dutch_arrangements.specs.Arrangements.{Arrangement}
 use Rattle.dutch_listing.specs.declared.levels.Stand.{Stand}
 use Rattle.dutch_listing.specs.declared.levels.Stand.TheVariants.{AtStart, InBlock, Between}
 
--- what a level has still to give, and the cursor that waits in it
+-- what a level has still to give, the cursor that waits in it, and the arrangement that it drew last
 pub record Standing : Type 0 where
   pub coming : List Arrangement
   pub own : Option Arrangement
+  pub latest : Arrangement
 
 -- what is left of the block in which a level stands
 abbrev pub in_block : {X : Type 0} → Stand → List X → List X

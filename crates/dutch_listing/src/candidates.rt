@@ -2,8 +2,8 @@
 // come.
 //
 // Four levels list the arrangements whose pairs may meet. What is left to do here is the last question, whether those
-// whom an arrangement leaves over may be left over. An arrangement that was found is kept until that question is
-// answered.
+// whom an arrangement leaves over may be left over. An arrangement that was found is drawn once more if that question
+// was not answered.
 //
 // The levels fill a candidate that the caller lends (`put_next`, `put_next_within`), and a copy is kept as the cursor.
 // `next` and `next_within` make the candidate that they answer. A listing begins anew for another shape (`restart`),
@@ -14,7 +14,7 @@ ghost use Rattle.dutch_arrangements.specs.Arrangements.{Fits, arrangements, cand
 ghost use Rattle.dutch_sequence.specs.Choices.{is_member};
 ghost use Rattle.dutch_sequence.specs.Keys.{IsIn};
 ghost use Rattle.dutch_arrangements.specs.Levels.{Of, in_bracket, may_leave};
-ghost use Rattle.dutch_arrangements.specs.Listings.{AreCandidates, candidates_from, leaves_too_many, listed};
+ghost use Rattle.dutch_arrangements.specs.Listings.{AreCandidates, candidates_from, leaves_too_many, listed, only_if};
 ghost use Rattle.dutch_arrangements.specs.Listings.{EndsAtOnce, TellsEnd, Gives, Ends, Stops, GivesPast, EndsPast, StopsPast};
 ghost use Rattle.dutch_sequence.specs.Steps.{MatchDrawn, MatchStep, Passes, Spends};
 ghost use Rattle.dutch_sequence.specs.declared.steps.Step.TheVariants.{Found, End, Undecided};
@@ -52,10 +52,10 @@ fn put_left_over(bracket: &Bracket, lists: &Arrangement, left: &mut Numbers)
     }
 }
 
-/// Where arrangements are drawn: from a level, but first the one that was drawn before and is still to be asked about.
+/// Where arrangements are drawn: from a level, but first the one that was drawn last, if it is still to be asked about.
 #[derive(Drop)]
 struct Drawing<L> {
-    kept: LastArrangement,
+    is_kept: bool,
     level: L,
 }
 
@@ -99,17 +99,22 @@ fn draw_listed<L: Arranges, C: Cuts>(
     budget: &mut Budget,
 ) -> Drawn
     ensures answer { let Pruned = C.Pruned cuts.old in
-        let before = listed drawing.old.kept ++ L.coming drawing.old.level in
+        let before = listed (only_if drawing.old.is_kept (L.latest drawing.old.level)) ++ L.coming drawing.old.level in
         MatchDrawn result
-        (Passes Pruned before (lists.new ∷ L.coming drawing.new.level))
+        (Passes Pruned before (lists.new ∷ L.coming drawing.new.level) × (L.latest drawing.new.level ≡ lists.new))
         (Passes Pruned before [])
         (Passes Pruned before (L.coming drawing.new.level)
         × (budget.new.used ≡ budget.new.limit)) }
-    ensures taken { drawing.new.kept ≡ None }
+    ensures taken { drawing.new.is_kept ≡ false }
     ensures keeps { (a : Arrangement) → C.Pruned cuts.new a → C.Pruned cuts.old a }
     ensures spends { Spends budget.old budget.new }
 {
-    Ok(drawing.kept.take(lists) || drawing.level.next(cuts, lists, budget)?)
+    if drawing.is_kept {
+        drawing.is_kept = false;
+        drawing.level.put_again(lists);
+        return Ok(true);
+    }
+    drawing.level.next(cuts, lists, budget)
 }
 
 /// What an arrangement is asked: whom it leaves over in its bracket, whether the rule lets it, and whether it is
@@ -131,8 +136,10 @@ fn draw_legal<R: Rule, L: Arranges, C: Cuts>(
 ) -> Drawn
     ensures answer { let frame = tests.old.bracket.now in
         let may = may_leave (R.may_be_left tests.old.rule.now) frame in
-        let before = filter may (listed drawing.old.kept ++ L.coming drawing.old.level) in
-        let after = filter may (listed drawing.new.kept ++ L.coming drawing.new.level) in
+        let before = filter may
+        (listed (only_if drawing.old.is_kept (L.latest drawing.old.level)) ++ L.coming drawing.old.level) in
+        let after = filter may
+        (listed (only_if drawing.new.is_kept (L.latest drawing.new.level)) ++ L.coming drawing.new.level) in
         let Pruned = C.Pruned tests.old.cuts.now in
         MatchDrawn result
         (Passes Pruned before (candidate.new.lists ∷ after)
@@ -150,7 +157,7 @@ fn draw_legal<R: Rule, L: Arranges, C: Cuts>(
             Ok(true) => return Ok(true),
             Ok(false) => {}
             Err(Stopped) => {
-                drawing.kept.hold(&candidate.lists);
+                drawing.is_kept = true;
                 return Err(Stopped);
             }
         }
@@ -166,11 +173,11 @@ fn start_drawing<'a, R: Rule>(
 )
     requires given { Of (λ cursor. IsIn cursor (arrangements fitting.now.bracket.now fitting.now.shape))
         (option_copied own) }
-    ensures kept { drawing.new.kept ≡ None }
+    ensures kept { drawing.new.is_kept ≡ false }
     ensures level { drawing.new.level.coming
         ≡ in_bracket (R.meets rule.now) fitting.now.bracket.now fitting.now.shape (option_copied own.entry) }
 {
-    drawing.kept.clear();
+    drawing.is_kept = false;
     drawing.level.put_cursor(own);
     drawing.level.block.stand = Stand::AtStart;
     drawing.level.blocks.start(fitting, own, rule);
@@ -216,7 +223,7 @@ impl<'a, R: Rule> Model for Candidates<'a, R> {
       shape = l.fitting.shape;
       rule = l.rule.now;
       coming = still_coming l.ended (filter (may_leave (R.may_be_left l.rule.now) l.fitting.bracket.now)
-          (listed l.drawing.kept ++ l.drawing.level.coming));
+          (listed (only_if l.drawing.is_kept l.drawing.level.latest) ++ l.drawing.level.coming));
       latest = l.latest;
       ended = l.ended;
     } };
@@ -224,10 +231,10 @@ impl<'a, R: Rule> Model for Candidates<'a, R> {
     ghost invariant = { λ l.
         (l.too_many_left ≡ leaves_too_many l.fitting.bracket.now l.fitting.shape)
         × (l.too_many_left ≡ true → filter (may_leave (R.may_be_left l.rule.now) l.fitting.bracket.now)
-        (listed l.drawing.kept ++ l.drawing.level.coming) ≡ [])
+        (listed (only_if l.drawing.is_kept l.drawing.level.latest) ++ l.drawing.level.coming) ≡ [])
         × AreCandidates (R.meets l.rule.now) (R.may_be_left l.rule.now) l.fitting.bracket.now l.fitting.shape
         (still_coming l.ended (filter (may_leave (R.may_be_left l.rule.now) l.fitting.bracket.now)
-        (listed l.drawing.kept ++ l.drawing.level.coming))) };
+        (listed (only_if l.drawing.is_kept l.drawing.level.latest) ++ l.drawing.level.coming))) };
 }
 
 impl<'a, R: Rule> Candidates<'a, R> {
@@ -248,7 +255,7 @@ impl<'a, R: Rule> Candidates<'a, R> {
             too_many_left: leaves_too_many(&fitting),
             ended: true,
             drawing: Drawing {
-                kept: LastArrangement::none(),
+                is_kept: false,
                 level: no_levels(rule),
             },
             latest: LastArrangement::none(),

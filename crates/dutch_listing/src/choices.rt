@@ -69,6 +69,7 @@ impl<'a, R: Rule> Model for ByS2r<'a, R> {
       coming = map (arranged l.s1.items l.s2.items l.s1r.items)
           (without_own l.others.resume l.others.s2r.choices.coming);
       own = l.others.resume;
+      latest = arranged l.s1.items l.s2.items l.s1r.items l.others.s2r.latest.items;
     } };
 }
 
@@ -176,6 +177,8 @@ impl<'a, R: Rule> Arranges for ByS2r<'a, R> {
 
     ghost own = { λ l. l.own };
 
+    ghost latest = { λ l. l.latest };
+
     fn next<C: Cuts>(
         &mut self,
         cuts: &mut C,
@@ -208,6 +211,13 @@ impl<'a, R: Rule> Arranges for ByS2r<'a, R> {
 
     fn put_cursor(&mut self, cursor: Option<&Arrangement>) {
         self.others.resume.put(cursor);
+    }
+
+    fn put_again(&self, lists: &mut Arrangement) {
+        refill(&mut lists.s1, &self.s1);
+        refill(&mut lists.s2, &self.s2);
+        refill(&mut lists.s1r, &self.s1r);
+        refill(&mut lists.s2r, &self.others.s2r.latest);
     }
 }
 

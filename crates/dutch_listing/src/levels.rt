@@ -28,11 +28,14 @@ pub trait Arranges {
     /// The cursor that waits in it.
     ghost own: { Self → Option Arrangement };
 
+    /// The arrangement that it drew last.
+    ghost latest: { Self → Arrangement };
+
     /// Fills `lists` with the next arrangement. Those that are known to be pruned may be skipped. If there is none,
     /// all that were to come are pruned; what is to come after that is nowhere said.
     fn next<C: Cuts>(&mut self, cuts: &mut C, lists: &mut Arrangement, budget: &mut Budget) -> Drawn
         ensures answer { MatchDrawn result
-            (Passes (C.Pruned cuts.old) (coming self.old) (lists.new ∷ coming self.new))
+            (Passes (C.Pruned cuts.old) (coming self.old) (lists.new ∷ coming self.new) × (latest self.new ≡ lists.new))
             (Passes (C.Pruned cuts.old) (coming self.old) [])
             (Passes (C.Pruned cuts.old) (coming self.old) (coming self.new) × (budget.new.used ≡ budget.new.limit)) }
         ensures keeps { (a : Arrangement) → C.Pruned cuts.new a → C.Pruned cuts.old a }
@@ -45,6 +48,10 @@ pub trait Arranges {
     /// Puts another cursor there, or none. What is to come after that is nowhere said.
     fn put_cursor(&mut self, cursor: Option<&Arrangement>)
         ensures { own self.new ≡ option_copied cursor.entry };
+
+    /// Fills `lists` once more with the arrangement that it drew last.
+    fn put_again(&self, lists: &mut Arrangement)
+        ensures { lists.new ≡ latest self.now };
 }
 
 /// What hands out blocks of arrangements, one by one.
@@ -101,7 +108,7 @@ impl<T: Arranges> Block<T> {
         ensures answer { let before = in_block self.old.stand (T.coming self.old.level) in
             let after = in_block self.new.stand (T.coming self.new.level) in
             MatchDrawn result
-            (Passes (C.Pruned cuts.old) before (lists.new ∷ after))
+            (Passes (C.Pruned cuts.old) before (lists.new ∷ after) × (T.latest self.new.level ≡ lists.new))
             (Passes (C.Pruned cuts.old) before [])
             (Passes (C.Pruned cuts.old) before after × (budget.new.used ≡ budget.new.limit)) }
         ensures own { own_at self.new.stand (T.own self.new.level) ≡ own_at self.old.stand (T.own self.old.level) }
@@ -149,6 +156,7 @@ impl<B: Blocks> Model for Level<B> {
       coming = in_block l.block.stand (B.Block.coming l.block.level)
           ++ joined (B.blocks l.blocks (own_at l.block.stand (B.Block.own l.block.level)));
       own = B.Block.own l.block.level;
+      latest = B.Block.latest l.block.level;
     } };
 
     ghost invariant = { λ l. Of (B.HasOwn l.blocks) (own_at l.block.stand (B.Block.own l.block.level)) };
@@ -173,6 +181,8 @@ impl<B: Blocks> Arranges for Level<B> {
     ghost coming = { λ l. l.coming };
 
     ghost own = { λ l. l.own };
+
+    ghost latest = { λ l. l.latest };
 
     fn next<C: Cuts>(
         &mut self,
@@ -199,5 +209,9 @@ impl<B: Blocks> Arranges for Level<B> {
     fn put_cursor(&mut self, cursor: Option<&Arrangement>) {
         self.block.stand = Stand::Between;
         self.block.level.put_cursor(cursor);
+    }
+
+    fn put_again(&self, lists: &mut Arrangement) {
+        self.block.level.put_again(lists);
     }
 }

@@ -1,6 +1,6 @@
 use Rattle.std.proofs.Common.{◌∙◌, ◌++◌, filter, ap, sym, subst, length, ◌-◌, ◌*◌, nat_lt, option_copied}
 use Rattle.std.proofs.lemmas.Bool.{and_parts, ltb-true}
-use Rattle.dutch_arrangements.specs.Prelude.{may_leave, AreCandidates, Listing, candidates_from, listed}
+use Rattle.dutch_arrangements.specs.Prelude.{may_leave, AreCandidates, Listing, candidates_from, listed, only_if}
 use Rattle.dutch_arrangements.proofs.Behind.{candidates-all, levels-beginning, none-from}
 use Rattle.dutch_listing.proofs.TooManyLeft.{none-legal}
 use Rattle.dutch_listing.proofs.candidates.Candidates.begin.Goals as goal
@@ -13,7 +13,7 @@ invariant_of-self g c =
     let may_be_left = g.R.Rule.may_be_left c.self.inside.rule.now in
     let own = option_copied c.args.own in
     let coming =
-    ap (λ kept. filter (may_leave may_be_left frame) (listed kept ++ c.start_drawing.new.drawing.level.coming)) c.start_drawing.ensures.kept
+    ap (λ kept. filter (may_leave may_be_left frame) (listed (only_if kept c.start_drawing.new.drawing.level.latest) ++ c.start_drawing.new.drawing.level.coming)) c.start_drawing.ensures.kept
     ∙ ap (filter (may_leave may_be_left frame)) c.start_drawing.ensures.level
     ∙ levels-beginning frame shape meets may_be_left own c.requires.given in (
       c.leaves_too_many-self-inside.ensures,
@@ -32,7 +32,7 @@ returns-clause-coming g c =
     let meets = g.R.Rule.meets c.self.inside.rule.now in
     let may_be_left = g.R.Rule.may_be_left c.self.inside.rule.now in
     let own = option_copied c.args.own in
-    ap (λ kept. filter (may_leave may_be_left frame) (listed kept ++ c.start_drawing.new.drawing.level.coming)) c.start_drawing.ensures.kept
+    ap (λ kept. filter (may_leave may_be_left frame) (listed (only_if kept c.start_drawing.new.drawing.level.latest) ++ c.start_drawing.new.drawing.level.coming)) c.start_drawing.ensures.kept
     ∙ ap (filter (may_leave may_be_left frame)) c.start_drawing.ensures.level
     ∙ levels-beginning frame shape meets may_be_left own c.requires.given
     ∙ ap (λ (l : Listing g.row.R.Denot). candidates_from (g.R.Rule.meets l.rule) (g.R.Rule.may_be_left l.rule) frame shape own) c.self.view_is

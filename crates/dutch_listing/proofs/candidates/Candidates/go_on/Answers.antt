@@ -1,6 +1,6 @@
 use Rattle.std.proofs.Common.{◌≡◌, ◌∙◌, ◌++◌, ap, sym, subst, refl, filter, List}
 use Rattle.std.proofs.lemmas.Bool.{true≢false}
-use Rattle.dutch_arrangements.specs.Prelude.{Arrangement, may_leave, AreCandidates, Listing, listed, still_coming, BeginsAt}
+use Rattle.dutch_arrangements.specs.Prelude.{Arrangement, may_leave, AreCandidates, Listing, listed, only_if, still_coming, BeginsAt}
 use Rattle.dutch_arrangements.proofs.Behind.{no-candidates, still-candidates, later-candidates}
 use Rattle.dutch_sequence.proofs.Skipping.{passes-none, passes-all, all-of, drawn}
 use Rattle.dutch_listing.proofs.candidates.Candidates.go_on.Goals as goal
@@ -10,7 +10,7 @@ pub returns-then-self-2-clause-answer : goal.returns-then-self-2-clause-answer
 returns-then-self-2-clause-answer g c =
     let own = c.self.inside in
     let Pruned = g.C.Cuts.Pruned c.args.cuts.now in
-    let before = filter (may_leave (g.R.Rule.may_be_left own.rule.now) own.fitting.bracket.now) (listed own.drawing.kept ++ own.drawing.level.coming) in
+    let before = filter (may_leave (g.R.Rule.may_be_left own.rule.now) own.fitting.bracket.now) (listed (only_if own.drawing.is_kept own.drawing.level.latest) ++ own.drawing.level.coming) in
     let coming : before ≡ c.args.self.now.coming =
     sym (ap (λ told. still_coming told before) c.if-self.false) ∙ ap (λ (l : Listing g.row.R.Denot). l.coming) c.self.view_is in (
       elim c.then-self-2.branch [
@@ -42,8 +42,8 @@ invariant_of-self-in-Ok-true g c =
     let own = c.self.inside in
     let may = may_leave (g.R.Rule.may_be_left own.rule.now) own.fitting.bracket.now in
     let IsOne : List Arrangement → Type 0 = AreCandidates (g.R.Rule.meets own.rule.now) (g.R.Rule.may_be_left own.rule.now) own.fitting.bracket.now own.fitting.shape in
-    let before = filter may (listed own.drawing.kept ++ own.drawing.level.coming) in
-    let after = filter may (listed c.draw_legal.new.drawing.kept ++ c.draw_legal.new.drawing.level.coming) in
+    let before = filter may (listed (only_if own.drawing.is_kept own.drawing.level.latest) ++ own.drawing.level.coming) in
+    let after = filter may (listed (only_if c.draw_legal.new.drawing.is_kept c.draw_legal.new.drawing.level.latest) ++ c.draw_legal.new.drawing.level.coming) in
     let all = subst (λ told. IsOne (still_coming told before)) c.if-self.false c.self.invariant.2 in (
       c.self.invariant.0,
       λ too_many_left. absurd (true≢false (sym too_many_left ∙ c.if-self-2.false)),
@@ -56,8 +56,8 @@ invariant_of-self-in-Err g c =
     let own = c.self.inside in
     let may = may_leave (g.R.Rule.may_be_left own.rule.now) own.fitting.bracket.now in
     let IsOne : List Arrangement → Type 0 = AreCandidates (g.R.Rule.meets own.rule.now) (g.R.Rule.may_be_left own.rule.now) own.fitting.bracket.now own.fitting.shape in
-    let before = filter may (listed own.drawing.kept ++ own.drawing.level.coming) in
-    let after = filter may (listed c.draw_legal.new.drawing.kept ++ c.draw_legal.new.drawing.level.coming) in
+    let before = filter may (listed (only_if own.drawing.is_kept own.drawing.level.latest) ++ own.drawing.level.coming) in
+    let after = filter may (listed (only_if c.draw_legal.new.drawing.is_kept c.draw_legal.new.drawing.level.latest) ++ c.draw_legal.new.drawing.level.coming) in
     let all = subst (λ told. IsOne (still_coming told before)) c.if-self.false c.self.invariant.2 in (
       c.self.invariant.0,
       λ too_many_left. absurd (true≢false (sym too_many_left ∙ c.if-self-2.false)),

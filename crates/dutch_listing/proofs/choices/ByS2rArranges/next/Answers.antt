@@ -22,6 +22,9 @@ returns-clause-answer g c =
     let s2r = c.choose_other.new.others.s2r.latest.items in
     let made = same-lists (arranged own.s1.items own.s2.items own.s1r.items s2r) (arranged c.refill.new.list.items c.refill-2.new.list.items c.refill-3.new.list.items c.refill-4.new.list.items)
     (sym c.refill.ensures) (sym c.refill-2.ensures) (sym c.refill-3.ensures) (sym c.refill-4.ensures) in
-    rw (← c.self.view_is) (passes-more Pruned _ _ _
-    (passes-arranged Pruned own.s1.items own.s2.items own.s1r.items _ _ _ [] false c.deref.ensures.0 c.deref-2.ensures.0 c.deref-3.ensures.0 _ _ (drawn _ _ _ c.if-not-branch.false c.in_ok-choose_other.ensures.answer))
-    (passes-none Pruned _ _ (ap (λ a. a ∷ map (arranged own.s1.items own.s2.items own.s1r.items) (without_own c.choose_other.new.others.resume c.choose_other.new.others.s2r.choices.coming)) made)))
+    rw (← c.self.view_is) (
+      passes-more Pruned _ _ _
+          (passes-arranged Pruned own.s1.items own.s2.items own.s1r.items _ _ _ [] false c.deref.ensures.0 c.deref-2.ensures.0 c.deref-3.ensures.0 _ _ (drawn _ _ _ c.if-not-branch.false c.in_ok-choose_other.ensures.answer))
+          (passes-none Pruned _ _ (ap (λ a. a ∷ map (arranged own.s1.items own.s2.items own.s1r.items) (without_own c.choose_other.new.others.resume c.choose_other.new.others.s2r.choices.coming)) made)),
+      made,
+    )

@@ -45,8 +45,8 @@ pub returns-then-branch-clause-answer : goal.returns-then-branch-clause-answer
 returns-then-branch-clause-answer g c =
     let Pruned = g.C.Cuts.Pruned c.args.cuts.now in
     let blocks = g.B.Blocks.blocks c.loop-self.self-inside.blocks in
-    let passed = block-drawn Pruned blocks _ _ _ _ c.next.ensures.own (passes-each _ Pruned _ _ c.loop-self.invariant.keeps (drawn _ _ _ c.if-branch.true c.in_ok-next.ensures.answer)) in
-    rw (← c.self.view_is) (passes-more Pruned _ _ _ c.loop-self.invariant.passes passed)
+    let passed = block-drawn Pruned blocks _ _ _ _ c.next.ensures.own (passes-each _ Pruned _ _ c.loop-self.invariant.keeps (drawn _ _ _ c.if-branch.true c.in_ok-next.ensures.answer).0) in
+    rw (← c.self.view_is) (passes-more Pruned _ _ _ c.loop-self.invariant.passes passed, (drawn _ _ _ c.if-branch.true c.in_ok-next.ensures.answer).1)
 
 pub returns-in_err-next-clause-answer : goal.returns-in_err-next-clause-answer
 returns-in_err-next-clause-answer g c =
