@@ -6,3 +6,4 @@ pub mod Covering
 pub mod Barriers
 pub mod Witnesses
 pub mod FloorLemmas
+pub mod WideTableLemmas

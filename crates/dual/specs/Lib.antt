@@ -5,4 +5,5 @@ pub mod Floors
 pub mod Checks
 pub mod Barriers
 pub mod Counts
+pub mod WideTables
 pub mod Prelude

@@ -6,4 +6,5 @@ pub use Rattle.dual.specs.Floors.{BearsBelow, BearsLeftBelow, FloorTable, IsBelo
 pub use Rattle.dual.specs.Checks.{AllBear, CanBear, CanBearLeft, HasSlacks}
 pub use Rattle.dual.specs.Barriers.{IsBarrier, IsTooNarrow, Suits, blockers, group_size, is_of_odd_group, odd_groups, served}
 pub use Rattle.dual.specs.Counts.{times, times_named}
+pub use Rattle.dual.specs.WideTables.{Extends, IsAt, numbers_at}
 unfoldable pub use Rattle.dual.specs.Counts.{StandsAsOften}

@@ -17,6 +17,7 @@ use crate::floor::Floor;
 use crate::rule::{MatchingRule, Pool};
 use crate::table::{CertificateTable, MOST, MarkedSet};
 use crate::wide::Wide;
+use crate::wide_table::WideTable;
 use std::alloc::{AllocError, Global};
 
 // The row of a player: where it begins, and the sets that have the player.
@@ -100,29 +101,35 @@ impl CertificateTable {
     }
 
     // Writes the slacks of a row, and says whether all pairs can bear their potentials.
-    fn fill<R: MatchingRule>(&self, pool: &Pool<'_, R>, row: &Row<'_>, slacks: &mut [Wide]) -> bool
+    fn fill<R: MatchingRule>(
+        &self,
+        pool: &Pool<'_, R>,
+        row: &Row<'_>,
+        slacks: &mut WideTable,
+    ) -> Result<bool, AllocError>
         requires first { R.knows pool.now.rule.now row.now.player }
         requires known { All (R.knows pool.now.rule.now) pool.now.players.now }
         requires within { All (λ v. row.now.start + v < length slacks.old) pool.now.players.now }
         requires few { length slacks.old ≤ MOST * MOST }
         requires sets { (v : ℕ) → sum_by (λ set. toll_of v set.now) row.now.sets.items
             ≡ sum_by (toll (row.now.player, v)) (certificate_in self.now).sets }
-        ensures whole { IsTrue result ↔ AllBear (R.costs pool.now.rule.now) (certificate_in self.now) (2 ^ 512)
-            row.now.player pool.now.players.now }
-        ensures value { IsTrue result → HasSlacks (R.costs pool.now.rule.now) (certificate_in self.now)
-            row.now.player pool.now.players.now row.now.start slacks.new }
+        ensures size { length slacks.new ≡ length slacks.old }
+        ensures whole { IfOk result (λ all. IsTrue all ↔ AllBear (R.costs pool.now.rule.now) (certificate_in self.now)
+            (2 ^ 512) row.now.player pool.now.players.now) }
+        ensures value { IfOk result (λ all. IsTrue all → HasSlacks (R.costs pool.now.rule.now) (certificate_in self.now)
+            row.now.player pool.now.players.now row.now.start slacks.new) }
         ensures others { (k : ℕ) → (All (λ v. ¬ (row.now.start + v ≡ k)) pool.now.players.now)
             → slice_index slacks.new k ≡ slice_index slacks.old k }
     {
         for v in pool.players {
             if pool.rule.may_meet(row.player, *v) {
                 let Some(slack) = self.slack(pool.rule, row, *v) else {
-                    return false;
+                    return Ok(false);
                 };
-                slacks[row.start + usize::from(*v)] = slack;
+                slacks.set(row.start + usize::from(*v), slack)?;
             }
         }
-        true
+        Ok(true)
     }
 
     // The slacks of all pairs; none if one cannot bear its potentials.
@@ -131,19 +138,19 @@ impl CertificateTable {
         alloc: Global,
         pool: &Pool<'_, R>,
         size: usize,
-    ) -> Result<Option<Vec<Wide>>, AllocError>
+    ) -> Result<Option<WideTable>, AllocError>
         requires known { All (R.knows pool.now.rule.now) pool.now.players.now }
         requires below { All (λ v. v < size) pool.now.players.now }
         requires few { size ≤ MOST }
         ensures whole { IfOk result (λ found. IsSome found ↔ All (λ u. AllBear (R.costs pool.now.rule.now)
             (certificate_in self.now) (2 ^ 512) u pool.now.players.now) pool.now.players.now) }
         ensures value { IfOk result (λ found. IfSome found (λ slacks. All (λ u. HasSlacks (R.costs pool.now.rule.now)
-            (certificate_in self.now) u pool.now.players.now (u * size) slacks.items) pool.now.players.now)) }
+            (certificate_in self.now) u pool.now.players.now (u * size) slacks) pool.now.players.now)) }
     {
-        let mut slacks = vec![in alloc; Wide::zero(); size * size]?;
+        let mut slacks = WideTable::zeros(alloc, size * size)?;
         for a in pool.players {
             let row = self.row(alloc, *a, size)?;
-            if !self.fill(pool, &row, &mut slacks) {
+            if !self.fill(pool, &row, &mut slacks)? {
                 return Ok(None);
             }
         }

@@ -4,6 +4,7 @@ ghost use Rattle.std.specs.Prelude.{◌≡◌, [], slice_index_or};
 ghost use Rattle.dual.specs.Floors.{slack_in, slack_left_in};
 
 use crate::wide::Wide;
+use crate::wide_table::WideTable;
 use std::marker::Model;
 
 /// A floor: what every matching costs at least, and what each known pair and each player known to be left over adds.
@@ -14,7 +15,7 @@ pub struct Floor {
     pub(crate) debt: Wide,
     pub(crate) size: usize,
     // by the first player's number times the size, and the second's
-    pub(crate) slacks: Vec<Wide>,
+    pub(crate) slacks: WideTable,
     pub(crate) slacks_left: Vec<Wide>,
 }
 
@@ -28,7 +29,7 @@ impl Model for Floor {
       base = f.base;
       debt = f.debt;
       size = f.size;
-      slacks = f.slacks.items;
+      slacks = f.slacks;
       slacks_left = f.slacks_left.items;
     } };
 
@@ -67,7 +68,7 @@ impl Floor {
     {
         let b = usize::from(b);
         if b < self.size {
-            at(&self.slacks, usize::from(a) * self.size + b)
+            self.slacks.get(usize::from(a) * self.size + b)
         } else {
             Wide::zero()
         }

@@ -5,6 +5,9 @@ ghost use Rattle.std.specs.Int.{from_bool};
 
 use std::marker::Model;
 
+// An odd number by which the bits of a product depend on all bits below them: the golden ratio's first 64 bits.
+const MIXER: u64 = 0x9E37_79B9_7F4A_7C15;
+
 /// A natural number below 2^256.
 #[derive(Clone, Copy, PartialEq, Eq)]
 pub struct Half {
@@ -32,7 +35,20 @@ impl Model for Half {
     } };
 }
 
+// Goes on with a hash by the 128 bits of a part.
+fn hash_on(hash: u64, part: u128) -> u64 {
+    let high = (part >> 64) as u64;
+    let low = (part % (1 << 64)) as u64;
+    let half_way = (hash ^ high).wrapping_mul(MIXER).rotate_left(32);
+    (half_way ^ low).wrapping_mul(MIXER).rotate_left(32)
+}
+
 impl Half {
+    /// Goes on with a hash: equal numbers give equal ones.
+    pub fn hash_on(self, hash: u64) -> u64 {
+        hash_on(hash_on(hash, self.high), self.low)
+    }
+
     /// The number that a `u64` is.
     pub fn from_u64(number: u64) -> Half
         ensures { result ≡ number }

@@ -10,9 +10,9 @@
 //! Whoever finds them need not be trusted.
 //!
 //! Nothing here knows chess: a `MatchingRule` of the caller says, by numbers, who may meet and who may be left over,
-//! and at what cost; a certificate is checked for a `Pool` of players and their rule. Only a floor takes memory, a
-//! number for each pair. A check takes time with the square of the number of players, for a certificate times the
-//! number of its sets.
+//! and at what cost; a certificate is checked for a `Pool` of players and their rule. Only a floor takes memory: four
+//! bytes for each pair, and what pairs add, each number once. A `WideTable` is such a table, for callers too. A check
+//! takes time with the square of the number of players, for a certificate times the number of its sets.
 //!
 //! To mind: certificates and costs are counted in `Wide`, natural numbers below 2^512; a sum that does not fit is none.
 //! Potentials below 0, and a multiplier of the number left over, are had by giving more.
@@ -25,6 +25,7 @@ mod half;
 mod rule;
 mod table;
 mod wide;
+mod wide_table;
 mod witness;
 
 pub use barrier::{least_left, tells_incompletable};
@@ -32,4 +33,5 @@ pub use floor::Floor;
 pub use rule::{MatchingRule, Pool};
 pub use table::{CertificateTable, MOST, MarkedSet};
 pub use wide::Wide;
+pub use wide_table::WideTable;
 pub use witness::tells_completable;

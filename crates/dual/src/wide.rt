@@ -70,6 +70,11 @@ impl Wide {
         }
     }
 
+    /// A guess by which an equal number is found. Nothing is said of it.
+    pub(crate) fn hash(self) -> u64 {
+        self.low.hash_on(self.high.hash_on(0))
+    }
+
     /// Yes for zero alone.
     pub fn is_zero(self) -> bool
         ensures { IsTrue result ↔ (self ≡ 0) }

@@ -1,10 +1,11 @@
 -- The pairs so far can bear their potentials, and their slacks are written; nothing else is.
-use Rattle.std.proofs.Common.{◌≡◌, ◌+◌, ◌<◌, ◌^◌, ℕ, true, All, get_or}
+use Rattle.std.proofs.Common.{◌≡◌, ◌+◌, ◌<◌, ◌^◌, ℕ, true, All, get_or, length}
 use Rattle.dual.specs.Prelude.{CanBear, slack, certificate_in}
 use Rattle.dual.proofs.table.CertificateTable.fill.Given as goal
 
 abbrev pub invariant-loop-v : goal.invariant-loop-v
 invariant-loop-v g l = record {
+  size : length l.slacks ≡ length l.initial.slacks;
   bear : (k : ℕ) → k < l.v-index → (g.R.MatchingRule.costs l.pool.rule.now).meets l.row.player (get_or l.pool.players.now k 0) ≡ true
       → CanBear (g.R.MatchingRule.costs l.pool.rule.now) (certificate_in l.self) (2 ^ 512) l.row.player (get_or l.pool.players.now k 0);
   told : (k : ℕ) → k < l.v-index → (g.R.MatchingRule.costs l.pool.rule.now).meets l.row.player (get_or l.pool.players.now k 0) ≡ true

@@ -13,7 +13,7 @@ returns-clause-least g c =
       base = c.in-Some.base;
       debt = c.in-Some-losses.debt;
       size = c.size_for-size.result;
-      slacks = c.in-Some-3.slacks.items;
+      slacks = c.in-Some-3.slacks;
       slacks_left = c.in-Some-2.slacks_left.items;
     } in
     let bears = rw c.in-Some-3.is at c.in_ok-slacks.ensures.whole in

@@ -1,6 +1,6 @@
 -- The next row is written in its place.
-use Rattle.std.proofs.Common.{◌≡◌, ℕ, ◌+◌, ◌*◌, ◌<◌, ◌^◌, List, ◌++◌, All, length, drop, take, get_or, refl, sym, ap, subst, ◌∙◌, arith}
-use Rattle.std.proofs.lemmas.List.{take_all, take_at}
+use Rattle.std.proofs.Common.{◌≡◌, ℕ, ◌*◌, ◌<◌, ◌^◌, List, All, length, take, get_or, refl, subst, arith}
+use Rattle.std.proofs.lemmas.List.{take_all}
 use Rattle.std.proofs.lemmas.List.Elements.{All-more}
 use Rattle.dual.specs.Prelude.{AllBear, HasSlacks, Certificate, Costs, certificate_in}
 use Rattle.dual.proofs.FloorLemmas.{inside_square, rows_more}
@@ -11,7 +11,7 @@ fill-requires-clause-within g c = λ k d lt.
     let here : get_or c.args.pool.now.players.now c.loop-a.a-index 0 < c.args.size = c.requires.below c.loop-a.a-index 0 c.loop-a-test.true in
     let inside = inside_square (get_or c.args.pool.now.players.now c.loop-a.a-index 0) (get_or c.args.pool.now.players.now k d) c.args.size here
     (c.requires.below k d lt) in
-    omega (arith, inside, c.in_ok-row.ensures.start, c.loop-a.invariant.size, ap length c.deref_mut.ensures.value)
+    omega (arith, inside, c.in_ok-row.ensures.start, c.loop-a.invariant.size)
 
 pub loop-a-preserved : goal.loop-a-preserved
 loop-a-preserved g c =
@@ -22,22 +22,17 @@ loop-a-preserved g c =
     let i : ℕ = c.loop-a.a-index in
     let lt : i < length players = c.loop-a-test.true in
     let new : List ℕ = c.fill.new.slacks in
-    let old : List ℕ = c.loop-a.slacks.items in
-    let count : length c.fill.new.slacks ≡ c.loop-a.slacks.len =
-    omega (arith, ap length c.deref_mut.ensures.value, c.deref_mut.ensures.len, c.fill.auto.slacks) in
-    let same : take c.loop-a.slacks.len (c.fill.new.slacks ++ drop (length c.fill.new.slacks) c.loop-a.slacks.items) ≡ c.fill.new.slacks =
-    take_at c.fill.new.slacks (drop (length c.fill.new.slacks) c.loop-a.slacks.items) c.loop-a.slacks.len count in
+    let old : List ℕ = c.loop-a.slacks in
     let bears : AllBear costs certificate (2 ^ 512) (get_or players i 0) players =
-    subst (λ a. AllBear costs certificate (2 ^ 512) a players) c.in_ok-row.ensures.player (c.fill.ensures.whole.0 c.if-not-fill.false) in
+    subst (λ a. AllBear costs certificate (2 ^ 512) a players) c.in_ok-row.ensures.player (c.in_ok-fill.ensures.whole.0 c.if-not-branch.false) in
     let row : HasSlacks costs certificate (get_or players i 0) players c.in_ok-row.row.start new =
     subst (λ a. HasSlacks costs certificate a players c.in_ok-row.row.start new) c.in_ok-row.ensures.player
-    (c.fill.ensures.value c.if-not-fill.false) in
+    (c.in_ok-fill.ensures.value c.if-not-branch.false) in
     record {
-      size = omega (arith, ap length same, ap length c.deref_mut.ensures.value, c.fill.auto.slacks, c.loop-a.invariant.size);
+      size = omega (arith, c.in_ok-fill.ensures.size, c.loop-a.invariant.size);
       bear = All-more (λ a. AllBear costs certificate (2 ^ 512) a players) players i 0 lt c.loop-a.invariant.bear bears;
-      told = subst (λ xs. All (λ a. HasSlacks costs certificate a players (a * size) xs) (take (i + 1) players)) (sym same)
-          (rows_more costs certificate size players c.requires.below i c.in_ok-row.row.start old new lt c.in_ok-row.ensures.start
-          (λ k far. c.fill.ensures.others k far ∙ ap (λ xs. get_or xs k 0) c.deref_mut.ensures.value) row c.loop-a.invariant.told);
+      told = rows_more costs certificate size players c.requires.below i c.in_ok-row.row.start old new lt c.in_ok-row.ensures.start
+          c.in_ok-fill.ensures.others row c.loop-a.invariant.told;
     }
 
 pub returns-clause-whole : goal.returns-clause-whole
@@ -50,5 +45,5 @@ pub returns-clause-value : goal.returns-clause-value
 returns-clause-value g c =
     let costs : Costs = g.R.MatchingRule.costs c.args.pool.now.rule.now in
     let all : take c.loop-a.a-index c.args.pool.now.players.now ≡ c.args.pool.now.players.now = take_all c.loop-a.a-index c.args.pool.now.players.now c.loop-a-test.false in
-    subst (All (λ u. HasSlacks costs (certificate_in c.args.self.now) u c.args.pool.now.players.now (u * c.args.size) c.loop-a.slacks.items)) all
+    subst (All (λ u. HasSlacks costs (certificate_in c.args.self.now) u c.args.pool.now.players.now (u * c.args.size) c.loop-a.slacks)) all
     c.loop-a.invariant.told
