@@ -1,12 +1,12 @@
 -- Tables of weights that are filled place by place.
-use Rattle.std.proofs.Common.{◌≡◌, ℕ, Bool, ◌+◌, ◌<◌, ◌≤◌, List, [], length, get_or, set, Option, None, MatchOption}
+use Rattle.std.proofs.Common.{◌≡◌, ℕ, Bool, ◌+◌, ◌*◌, ◌<◌, ◌≤◌, List, [], length, get_or, set, Option, None, MatchOption}
 use Rattle.std.proofs.Common.{inl, inr, refl, sym, ap, subst, ◌∙◌, arith}
 use Rattle.std.proofs.lemmas.Bool.{cases_eq}
 use Rattle.std.proofs.lemmas.List.{get_or-set_other, get_or-set_same}
 use Rattle.dutch_player.specs.Prelude.{Facts}
 use Rattle.dutch_bracket.specs.Prelude.{no_value, NextValue, quality_with, numbers_meet, Seated}
-use Rattle.dutch_weighing.specs.Prelude.{Scale, Weighing, weight_with, HasPairs, IsNumber, TellsPairsUpto, pair_of, pair_weight, place_in}
-use Rattle.dutch_weighing.specs.declared.weighing.PairWeight.{PairWeight}
+use Rattle.dutch_weighing.specs.Prelude.{Scale, Weighing, weight_with, HasPairs, IsNumber, TellsPairsUpto, TellsUpto, pair_weight, place_in}
+use Rattle.dutch_weighing.specs.declared.weighing.PairTable.{PairTable}
 use Rattle.dutch_weighing.proofs.PairPlaces.{inside, same_place}
 
 -- what is said of the next bracket has no part in what weighs without it
@@ -23,30 +23,40 @@ at_none o P Q none given = subst (λ (q : Option _). MatchOption q P Q) none giv
 
 module _ (w : Weighing) where
   -- an end by another name
-  pub told_same : (table : List PairWeight) (from end : ℕ) → from ≡ end → TellsPairsUpto w table from → TellsPairsUpto w table end
+  pub told_same : (table : PairTable) (from end : ℕ) → from ≡ end → TellsPairsUpto w table from → TellsPairsUpto w table end
   told_same table from end same told = subst (TellsPairsUpto w table) same told
 
-  -- a place that tells both
-  abbrev with_both : ℕ → Bool → PairWeight
-  with_both weight meets = record { weight = weight; meets = meets }
-
-  pub told_pair : (a b weight : ℕ) (meets : Bool) → weight ≡ pair_weight w a b → meets ≡ numbers_meet w.facts w.reached a b
-      → with_both weight meets ≡ pair_of w a b
-  told_pair a b weight meets weighs may =
-      ap (λ (k : ℕ). with_both k meets) weighs ∙ ap (λ (m : Bool). with_both (pair_weight w a b) m) may
-
   -- one place more
-  pub told_more : (table : List PairWeight) (x y : ℕ) (pair : PairWeight) → IsNumber w.reached x → IsNumber w.reached y → HasPairs w table
-      → pair ≡ pair_of w x y → TellsPairsUpto w table (place_in w x y) → TellsPairsUpto w (set table (place_in w x y) pair) (place_in w x y + 1)
-  told_more table x y pair p q room is told a b d u v less =
+  pub told_more : {X : Type 0} (of_pair : ℕ → ℕ → X) (list : List X) (x y : ℕ) (value : X) → IsNumber w.reached x → IsNumber w.reached y
+      → length list ≡ length w.reached.seats * length w.reached.seats → value ≡ of_pair x y → TellsUpto w of_pair list (place_in w x y)
+      → TellsUpto w of_pair (set list (place_in w x y) value) (place_in w x y + 1)
+  told_more {X} of_pair list x y value p q room is told a b d u v less =
       let n : ℕ = length w.reached.seats in
       let place : ℕ = place_in w x y in
       elim (cases_eq (place_in w a b) place) [
         | inl same ↦
             let both = same_place n x y a b p q u v same in
-            let here : get_or (set table place pair) place d ≡ pair =
-            get_or-set_same table place pair d (let lt : place < length table = omega (arith, room, inside n x y p q) in lt) in
-            ap (λ (i : ℕ). get_or (set table place pair) i d) same
-            ∙ (here ∙ (is ∙ (ap (λ (k : ℕ). pair_of w k y) (sym both.0) ∙ ap (λ (k : ℕ). pair_of w a k) (sym both.1))))
-        | inr other ↦ get_or-set_other table place (place_in w a b) pair d other ∙ told a b d u v (omega arith)
+            let here : get_or (set list place value) place d ≡ value =
+            get_or-set_same list place value d (let lt : place < length list = omega (arith, room, inside n x y p q) in lt) in
+            ap (λ (i : ℕ). get_or (set list place value) i d) same
+            ∙ (here ∙ (is ∙ (ap (λ (k : ℕ). of_pair k y) (sym both.0) ∙ ap (λ (k : ℕ). of_pair a k) (sym both.1))))
+        | inr other ↦ get_or-set_other list place (place_in w a b) value d other ∙ told a b d u v (omega arith)
       ]
+
+  -- the numbers behind a place that was written, by another name of it
+  told_by : {X : Type 0} (of_pair : ℕ → ℕ → X) (list new : List X) (x y at : ℕ) (value : X) → at ≡ place_in w x y → new ≡ set list at value
+      → TellsUpto w of_pair (set list (place_in w x y) value) (place_in w x y + 1) → TellsUpto w of_pair new (place_in w x y + 1)
+  told_by {X} of_pair list new x y at value same written told =
+      subst (λ (l : List X). TellsUpto w of_pair l (place_in w x y + 1)) (sym (written ∙ ap (λ (i : ℕ). set list i value) same)) told
+
+  -- a pair more, in both lists of a table
+  pub told_pair : (old new : PairTable) (x y at weight : ℕ) (meets : Bool) → IsNumber w.reached x → IsNumber w.reached y → HasPairs w old
+      → at ≡ place_in w x y → new.weights ≡ set old.weights at weight → new.meets.items ≡ set old.meets.items at meets
+      → weight ≡ pair_weight w x y → meets ≡ numbers_meet w.facts w.reached x y
+      → TellsPairsUpto w old (place_in w x y) → TellsPairsUpto w new (place_in w x y + 1)
+  told_pair old new x y at weight meets p q room same weights are weighs may told = (
+    told_by (pair_weight w) old.weights new.weights x y at weight same weights
+        (told_more (pair_weight w) old.weights x y weight p q room.0 weighs told.0),
+    told_by (numbers_meet w.facts w.reached) old.meets.items new.meets.items x y at meets same are
+        (told_more (numbers_meet w.facts w.reached) old.meets.items x y meets p q room.1 may told.1),
+  )

@@ -5,7 +5,7 @@ use Rattle.std.specs.Option.{ForSome, SomeIff}
 use Rattle.dutch_bracket.specs.Prelude.{Context, count_below, score_below, seat_below, Reached, numbers_meet, difference_down, score_at}
 use Rattle.dutch_weighing.specs.Weights.{Scale, Weighing, weight_below, weight_of_one_down, weight_of_pair, written}
 use Rattle.dutch_weighing.specs.declared.weighing.NextWeight.{NextWeight}
-use Rattle.dutch_weighing.specs.declared.weighing.PairWeight.{PairWeight}
+use Rattle.dutch_weighing.specs.declared.weighing.PairTable.{PairTable}
 
 -- a number that is there exactly where it is less than 2^512 [own]
 abbrev pub IsThere : Option ℕ → ℕ → Type 0
@@ -44,28 +44,34 @@ pair_weight w = weight_of_pair w.facts w.reached w.scale
 abbrev pub down_weight : Weighing → ℕ → ℕ
 down_weight w = weight_of_one_down w.facts w.reached w.scale
 
--- what two numbers weigh as a pair, and whether they may meet (C.1, C.3)
-abbrev pub pair_of : Weighing → ℕ → ℕ → PairWeight
-pair_of w a b = record { weight = pair_weight w a b; meets = numbers_meet w.facts w.reached a b }
+-- numbers of pairs tell what is so of each pair whose place is before an end
+abbrev pub TellsUpto : {X : Type 0} → Weighing → (ℕ → ℕ → X) → List X → ℕ → Type 0
+TellsUpto {X} w of_pair list end =
+    (a b : ℕ) (d : X) → IsNumber w.reached a → IsNumber w.reached b → place_in w a b < end → slice_index_or list (place_in w a b) d ≡ of_pair a b
 
--- a table tells that of each pair whose place is before an end
-abbrev pub TellsPairsUpto : Weighing → List PairWeight → ℕ → Type 0
+-- a table tells of each pair whose place is before an end what it weighs, and whether the two may meet (C.1, C.3)
+abbrev pub TellsPairsUpto : Weighing → PairTable → ℕ → Type 0
 TellsPairsUpto w table end =
-    (a b : ℕ) (d : PairWeight) → IsNumber w.reached a → IsNumber w.reached b → place_in w a b < end
-    → slice_index_or table (place_in w a b) d ≡ pair_of w a b
+    TellsUpto w (pair_weight w) table.weights end × TellsUpto w (numbers_meet w.facts w.reached) table.meets.items end
 
 -- a table has a place for each pair
-abbrev pub HasPairs : Weighing → List PairWeight → Type 0
-HasPairs w table = length table ≡ length w.reached.seats * length w.reached.seats
+abbrev pub HasPairs : Weighing → PairTable → Type 0
+HasPairs w table =
+    (length table.weights ≡ length w.reached.seats * length w.reached.seats)
+    × (length table.meets.items ≡ length w.reached.seats * length w.reached.seats)
 
 -- a table has a place for each number
 abbrev pub HasAll : Weighing → List ℕ → Type 0
 HasAll w table = length table ≡ length w.reached.seats
 
+-- numbers of pairs tell what is so of each pair
+abbrev pub TellsEach : {X : Type 0} → Weighing → (ℕ → ℕ → X) → List X → Type 0
+TellsEach {X} w of_pair list =
+    (a b : ℕ) (d : X) → IsNumber w.reached a → IsNumber w.reached b → slice_index_or list (place_in w a b) d ≡ of_pair a b
+
 -- a table tells of each pair what it weighs, and whether the two may meet
-abbrev pub TellsPairs : Weighing → List PairWeight → Type 0
-TellsPairs w table =
-    (a b : ℕ) (d : PairWeight) → IsNumber w.reached a → IsNumber w.reached b → slice_index_or table (place_in w a b) d ≡ pair_of w a b
+abbrev pub TellsPairs : Weighing → PairTable → Type 0
+TellsPairs w table = TellsEach w (pair_weight w) table.weights × TellsEach w (numbers_meet w.facts w.reached) table.meets.items
 
 -- a table tells what each of the first numbers weighs as a downfloater
 abbrev pub TellsDownUpto : Weighing → List ℕ → ℕ → Type 0

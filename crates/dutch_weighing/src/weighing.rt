@@ -1,7 +1,8 @@
 // What each pair and each downfloater of a bracket weighs alone (C.04.3 C.6, C.8 to C.19), and what each number weighs
-// in the next bracket, where that is measured (C.7), worked out once for all certificates of the bracket.
-ghost use Rattle.std.specs.Prelude.{◌≡◌, ◌+◌, ◌*◌, ◌<◌, ◌≤◌, ◌^◌, true, false, [], ◌∷◌, IfOk, MatchOption, is_some};
-ghost use Rattle.std.specs.Prelude.{length};
+// in the next bracket, where that is measured (C.7), worked out once for all certificates of the bracket. As a rule few
+// weights of pairs are distinct, since they depend on scores, preferences and floats: so each is kept once.
+ghost use Rattle.std.specs.Prelude.{◌≡◌, ◌+◌, ◌*◌, ◌<◌, ◌≤◌, ◌^◌, true, false, [], ◌∷◌, IfOk, MatchOption, OnOk, is_some};
+ghost use Rattle.std.specs.Prelude.{length, slice_set};
 ghost use Rattle.std.specs.Option.{ForSome, SomeIff};
 ghost use Rattle.dutch_bracket.specs.declared.reached.BracketKind.TheVariants.{Ordinary};
 ghost use Rattle.dutch_bracket.specs.Prelude.{seated_so, no_value, numbers_meet, quality_with, seat_of, count_below};
@@ -9,11 +10,11 @@ ghost use Rattle.dutch_weighing.specs.Weights.{weight_with};
 ghost use Rattle.dutch_weighing.specs.WeightTables.{HasAll, HasBelow, HasPairs, IsHeavy, IsNumber, IsNumberBelow};
 ghost use Rattle.dutch_weighing.specs.WeightTables.{TellsBelow, TellsDown, TellsEachBelow, TellsPairs, TellsPairsUpto};
 ghost use Rattle.dutch_weighing.specs.WeightTables.{alone_weight, next_weight_of, down_weight, met_weight, own_weight};
-ghost use Rattle.dutch_weighing.specs.WeightTables.{pair_of, pair_weight, place_in, place_of, weighed_on};
+ghost use Rattle.dutch_weighing.specs.WeightTables.{pair_weight, place_in, place_of, weighed_on};
 ghost use Rattle.dutch_sequence.specs.declared.numbers.TheConstants.{LIMIT};
 
 use crate::scale::Scale;
-use dual::Wide;
+use dual::{Wide, WideTable};
 use dutch_arrangements::Rule;
 use dutch_bracket::context::Context;
 use dutch_bracket::quality::{Quality, QualityLists, fill_seated};
@@ -22,12 +23,12 @@ use dutch_player::Field;
 use std::alloc::{AllocError, Global};
 use std::marker::Model;
 
-/// What two numbers weigh as a pair, and whether they may meet. (To look for a game of the two takes long, and each
-/// certificate asks for it many times.)
-#[derive(Clone, Copy)]
-pub(crate) struct PairWeight {
-    weight: Wide,
-    meets: bool,
+/// What each two numbers weigh as a pair, and whether they may meet, row by row. (To look for a game of the two takes
+/// long, and each certificate asks for it many times.)
+#[derive(Drop)]
+pub(crate) struct PairTable {
+    weights: WideTable,
+    meets: Vec<bool>,
 }
 
 /// The weights of the pairs and the downfloaters of a bracket.
@@ -35,8 +36,7 @@ pub(crate) struct PairWeight {
 pub struct Weighing<'a> {
     context: &'a Context<'a>,
     scale: Scale,
-    // of each two numbers, row by row
-    pairs: Vec<PairWeight>,
+    pairs: PairTable,
     // of each number
     down: Vec<Wide>,
     // of each number of the bracket and the next lower scoregroup, if C.7 is measured
@@ -60,8 +60,8 @@ impl<'a> Model for Weighing<'a> {
     ghost view = { λ w. weighed_on w.context.now w.scale };
 
     ghost invariant = { λ w.
-        (HasPairs (weighed_on w.context.now w.scale) w.pairs.items
-        × TellsPairs (weighed_on w.context.now w.scale) w.pairs.items)
+        (HasPairs (weighed_on w.context.now w.scale) w.pairs
+        × TellsPairs (weighed_on w.context.now w.scale) w.pairs)
         × (HasAll (weighed_on w.context.now w.scale) w.down.items
         × TellsDown (weighed_on w.context.now w.scale) w.down.items)
         × TellsBelow (weighed_on w.context.now w.scale) w.next.items };
@@ -126,6 +126,33 @@ fn weigh(field: &Field, scale: &Scale, seated: &Seated, quality: &mut Quality) -
     scale.weigh_alone(quality)
 }
 
+impl PairTable {
+    /// So many places, of pairs that weigh nothing and may not meet.
+    fn new(alloc: Global, count: usize) -> Result<PairTable, AllocError>
+        ensures weights { IfOk result (λ table. length table.weights ≡ count) }
+        ensures meets { IfOk result (λ table. length table.meets.items ≡ count) }
+    {
+        Ok(PairTable {
+            weights: WideTable::zeros(alloc, count)?,
+            meets: vec![in alloc; false; count]?,
+        })
+    }
+
+    /// Writes what the pair of a place weighs, and whether the two may meet.
+    fn put(&mut self, place: usize, weight: Wide, meets: bool) -> Result<(), AllocError>
+        requires weights { place < length self.old.weights }
+        requires meets { place < length self.old.meets.items }
+        ensures room { (length self.new.weights ≡ length self.old.weights)
+            × (length self.new.meets.items ≡ length self.old.meets.items) }
+        ensures weight { OnOk result (self.new.weights ≡ slice_set self.old.weights place weight) }
+        ensures meets { OnOk result (self.new.meets.items ≡ slice_set self.old.meets.items place meets) }
+    {
+        self.weights.set(place, weight)?;
+        self.meets[place] = meets;
+        Ok(())
+    }
+}
+
 impl Weigher<'_> {
     /// What a pair weighs alone; none if it is 2^512 or more.
     fn pair(&self, a: u16, b: u16, room: &mut QualityLists) -> Option<Wide>
@@ -152,53 +179,66 @@ impl Weigher<'_> {
     }
 
     /// Puts what a pair weighs into a table, and whether the two may meet; no if it weighs 2^512 or more.
-    fn put_pair(&self, pair: Pair, room: &mut QualityLists, table: &mut [PairWeight]) -> bool
+    fn put_pair(
+        &self,
+        pair: Pair,
+        room: &mut QualityLists,
+        table: &mut PairTable,
+    ) -> Result<bool, AllocError>
         requires first { IsNumber self.now.reached pair.0 }
         requires second { IsNumber self.now.reached pair.1 }
         requires room { HasPairs self.now table.old }
         requires told { TellsPairsUpto self.now table.old (place_in self.now pair.0 pair.1) }
-        ensures told { result ≡ true → TellsPairsUpto self.now table.new (place_in self.now pair.0 pair.1 + 1) }
-        ensures heavy { result ≡ false → IsHeavy self.now (2 ^ 512) }
+        ensures room { HasPairs self.now table.new }
+        ensures told { IfOk result (λ fits. fits ≡ true
+            → TellsPairsUpto self.now table.new (place_in self.now pair.0 pair.1 + 1)) }
+        ensures heavy { IfOk result (λ fits. fits ≡ false → IsHeavy self.now (2 ^ 512)) }
     {
         let (a, b) = pair;
         let meets = self.may_meet(a, b);
-        match self.pair(a, b, room) {
-            Some(weight) => {
-                table[place_of(self.context.len(), a, b)] = PairWeight { weight, meets };
-                true
-            }
-            None => false,
-        }
+        let Some(weight) = self.pair(a, b, room) else {
+            return Ok(false);
+        };
+        table.put(place_of(self.context.len(), a, b), weight, meets)?;
+        Ok(true)
     }
 
     /// Puts what the pairs of a number weigh into a table.
-    fn put_row(&self, a: u16, room: &mut QualityLists, table: &mut [PairWeight]) -> bool
+    fn put_row(
+        &self,
+        a: u16,
+        room: &mut QualityLists,
+        table: &mut PairTable,
+    ) -> Result<bool, AllocError>
         requires number { IsNumber self.now.reached a }
         requires room { HasPairs self.now table.old }
         requires told { TellsPairsUpto self.now table.old (place_in self.now a 1) }
-        ensures told { result ≡ true → TellsPairsUpto self.now table.new (length self.now.reached.seats * a) }
-        ensures heavy { result ≡ false → IsHeavy self.now (2 ^ 512) }
+        ensures room { HasPairs self.now table.new }
+        ensures told { IfOk result (λ fits. fits ≡ true
+            → TellsPairsUpto self.now table.new (length self.now.reached.seats * a)) }
+        ensures heavy { IfOk result (λ fits. fits ≡ false → IsHeavy self.now (2 ^ 512)) }
     {
         for b in 0..self.context.len() {
-            if !self.put_pair((a, b as u16 + 1), room, table) {
-                return false;
+            if !self.put_pair((a, b as u16 + 1), room, table)? {
+                return Ok(false);
             }
         }
-        true
+        Ok(true)
     }
 
     /// Puts what all pairs weigh into a table.
-    fn put_pairs(&self, room: &mut QualityLists, table: &mut [PairWeight]) -> bool
+    fn put_pairs(&self, room: &mut QualityLists, table: &mut PairTable) -> Result<bool, AllocError>
         requires { HasPairs self.now table.old }
-        ensures told { result ≡ true → TellsPairs self.now table.new }
-        ensures heavy { result ≡ false → IsHeavy self.now (2 ^ 512) }
+        ensures room { HasPairs self.now table.new }
+        ensures told { IfOk result (λ fits. fits ≡ true → TellsPairs self.now table.new) }
+        ensures heavy { IfOk result (λ fits. fits ≡ false → IsHeavy self.now (2 ^ 512)) }
     {
         for a in 0..self.context.len() {
-            if !self.put_row(a as u16 + 1, room, table) {
-                return false;
+            if !self.put_row(a as u16 + 1, room, table)? {
+                return Ok(false);
             }
         }
-        true
+        Ok(true)
     }
 
     /// Puts what all downfloaters weigh into a table.
@@ -304,17 +344,13 @@ fn weigh_pairs(
     alloc: Global,
     weigher: &Weigher<'_>,
     room: &mut QualityLists,
-) -> Result<Option<Vec<PairWeight>>, AllocError>
+) -> Result<Option<PairTable>, AllocError>
     ensures { IfOk result (λ weighed. MatchOption weighed (IsHeavy weigher.now (2 ^ 512))
-        (λ table. HasPairs weigher.now table.items × TellsPairs weigher.now table.items)) }
+        (λ table. HasPairs weigher.now table × TellsPairs weigher.now table)) }
 {
     let count = weigher.context.len();
-    let nothing = PairWeight {
-        weight: Wide::zero(),
-        meets: false,
-    };
-    let mut table = vec![in alloc; nothing; count * count]?;
-    if weigher.put_pairs(room, &mut table) {
+    let mut table = PairTable::new(alloc, count * count)?;
+    if weigher.put_pairs(room, &mut table)? {
         Ok(Some(table))
     } else {
         Ok(None)
@@ -415,13 +451,23 @@ impl<'a> Weighing<'a> {
 }
 
 impl Weighing<'_> {
-    /// What two numbers weigh, and whether they may meet.
-    fn of_pair(&self, a: u16, b: u16) -> PairWeight
+    /// Where the table of pairs has two numbers.
+    fn place(&self, a: u16, b: u16) -> usize
         requires first { IsNumber self.now.reached a }
         requires second { IsNumber self.now.reached b }
-        ensures { result ≡ pair_of self.now a b }
+        ensures value { result ≡ place_in self.now a b }
+        ensures within { result < length self.now.reached.seats * length self.now.reached.seats }
     {
-        self.pairs[place_of(self.context.len(), a, b)]
+        place_of(self.context.len(), a, b)
+    }
+
+    /// Yes if two numbers may meet.
+    fn meets(&self, a: u16, b: u16) -> bool
+        requires first { IsNumber self.now.reached a }
+        requires second { IsNumber self.now.reached b }
+        ensures { result ≡ numbers_meet self.now.facts self.now.reached a b }
+    {
+        self.pairs.meets[self.place(a, b)]
     }
 
     /// What a number weighs that meets one of the next lower scoregroup (C.7).
@@ -454,11 +500,11 @@ impl dual::MatchingRule for Weighing<'_> {
     #[tactic(auto, unfolding(dutch_bracket::specs::Reached::numbers_meet))]
     fn may_meet(&self, a: u16, b: u16) -> bool {
         let reached = self.context.reached();
-        reached.has(a) && reached.has(b) && self.of_pair(a, b).meets
+        reached.has(a) && reached.has(b) && self.meets(a, b)
     }
 
     fn weight(&self, a: u16, b: u16) -> Wide {
-        self.of_pair(a, b).weight
+        self.pairs.weights.get(self.place(a, b))
     }
 
     fn may_be_left(&self, a: u16) -> bool {

@@ -1,11 +1,11 @@
 -- The numbers passed so far are told of.
-use Rattle.std.proofs.Common.{◌≡◌, ◌+◌, ◌≤◌, length}
-use Rattle.dutch_weighing.specs.Prelude.{TellsPairsUpto, place_in}
+use Rattle.std.proofs.Common.{◌+◌, ◌≤◌, length}
+use Rattle.dutch_weighing.specs.Prelude.{HasPairs, TellsPairsUpto, place_in}
 use Rattle.dutch_weighing.proofs.weighing.Weigher.put_row.Given as goal
 
 abbrev pub invariant-loop-b : goal.invariant-loop-b
 invariant-loop-b l = record {
   told : TellsPairsUpto l.self l.table (place_in l.self l.a 1 + l.b);
-  room : length l.table ≡ length l.initial.table;
+  room : HasPairs l.self l.table;
   within : l.b ≤ length l.self.reached.seats;
 }
