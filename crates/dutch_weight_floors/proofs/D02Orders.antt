@@ -5,7 +5,7 @@ use Rattle.std.specs.List.{AllByRecursion, zip}
 use Rattle.std.proofs.lemmas.Bool.{false_from_ne_true, ltb-true}
 use Rattle.std.proofs.lemmas.List.Sums.{sum_by-append, sum_by-cons}
 use Rattle.dutch_arrangements.specs.Prelude.{Arrangement, Beginning}
-use Rattle.dutch_weight_floors.specs.Prelude.{Order, added, with_lesser, with_order, IsMostAdded}
+use Rattle.dutch_weight_floors.specs.Prelude.{Order, added_for, with_lesser, with_order, IsMostAdded}
 use Rattle.dutch_bracket.specs.Prelude.{number_pairs}
 use Rattle.dutch_weight_floors.proofs.OrderLemmas.{with_first}
 
@@ -17,7 +17,7 @@ module _ (mdps : ℕ) (order : Order) (w : ℕ → ℕ → ℕ) where
   ordered pair = with_order mdps order pair.0 pair.1 (w pair.0 pair.1)
 
   -- a pair costs no more than it weighs and what its first player adds
-  at_first : (t : Bool) (a b n : ℕ) → cond t (with_lesser order n a b) n ≤ n + added order a
+  at_first : (t : Bool) (a b n : ℕ) → cond t (with_lesser order n a b) n ≤ n + added_for order a
   at_first true a b n = with_first order n a b
   at_first false a b n = omega arith
 
@@ -39,7 +39,7 @@ module _ (mdps : ℕ) (order : Order) (w : ℕ → ℕ → ℕ) where
         moved_down xs ys low.1,
       )
 
-  residents : (xs ys : List ℕ) → sum_by ordered (zip xs ys) ≤ sum_by plain (zip xs ys) + sum_by (added order) xs
+  residents : (xs ys : List ℕ) → sum_by ordered (zip xs ys) ≤ sum_by plain (zip xs ys) + sum_by (added_for order) xs
   residents [] ys = omega arith
   residents (x ∷ xs) [] = omega arith
   residents (x ∷ xs) (y ∷ ys) =
@@ -47,14 +47,14 @@ module _ (mdps : ℕ) (order : Order) (w : ℕ → ℕ → ℕ) where
         arith,
         sum_by-cons ordered (x, y) (zip xs ys),
         sum_by-cons plain (x, y) (zip xs ys),
-        sum_by-cons (added order) x xs,
+        sum_by-cons (added_for order) x xs,
         at_first (nat_lt mdps x && nat_lt mdps y) x y (w x y),
         residents xs ys,
       )
 
   -- D.2: the pairs of an arrangement
   pub pairs_cost : (a : Arrangement) → AllByRecursion (λ x. x ≤ mdps) a.s1
-      → sum_by ordered (number_pairs a) ≤ sum_by plain (number_pairs a) + sum_by (added order) a.s1r
+      → sum_by ordered (number_pairs a) ≤ sum_by plain (number_pairs a) + sum_by (added_for order) a.s1r
   pairs_cost a low =
       omega (
         arith,
@@ -65,9 +65,9 @@ module _ (mdps : ℕ) (order : Order) (w : ℕ → ℕ → ℕ) where
       )
 
 -- where nobody adds anything, no S1R does
-none_added : (order : Order) → ((x : ℕ) → added order x ≡ 0) → (xs : List ℕ) → sum_by (added order) xs ≡ 0
+none_added : (order : Order) → ((x : ℕ) → added_for order x ≡ 0) → (xs : List ℕ) → sum_by (added_for order) xs ≡ 0
 none_added order none [] = refl
-none_added order none (x ∷ xs) = omega (arith, sum_by-cons (added order) x xs, none x, none_added order none xs)
+none_added order none (x ∷ xs) = omega (arith, sum_by-cons (added_for order) x xs, none x, none_added order none xs)
 
-pub nothing_added : (order : Order) (b : Beginning) → ((x : ℕ) → added order x ≡ 0) → IsMostAdded order b 0
+pub nothing_added : (order : Order) (b : Beginning) → ((x : ℕ) → added_for order x ≡ 0) → IsMostAdded order b 0
 nothing_added order b none = λ a begins. omega (arith, none_added order none a.s1r)

@@ -8,7 +8,7 @@ use Rattle.std.proofs.lemmas.List.Sums.{sum_by-cons}
 use Rattle.dutch_arrangements.specs.Prelude.{is_member, subsets, sum_of, IsExchange, ExchangeClass, IsIn, total}
 use Rattle.dutch_arrangements.proofs.CursorSets.{AreSet, subset-from, subset-to}
 use Rattle.dutch_sequence.proofs.Orders.{in-member, member-in, IsIn-append, IsIn-back, IsIn-filter, IsIn-front, IsIn-map, Rises, all_members, filter-IsIn, Rises-filter, Rises-from, member_has}
-use Rattle.dutch_weight_floors.specs.Prelude.{Order, added, kept, lesser, more_of, short_of, with_lesser}
+use Rattle.dutch_weight_floors.specs.Prelude.{Order, added_for, kept, lesser, more_of, short_of, with_lesser}
 
 -- ---- sums
 
@@ -168,12 +168,12 @@ module _ (order : Order) (top : ℕ) (below : (x : ℕ) → more_of order x ≤ 
       ap (λ b. if b then top - more_of order x else 0) none)
 
   pub most_added : (barred held : List ℕ) → ((x : ℕ) → IsIn x barred → IsIn x e.barred) → ((x : ℕ) → IsIn x held → IsIn x e.held)
-      → sum_by (added order) s1r + sum_by (short_of order top held) e.others
+      → sum_by (added_for order) s1r + sum_by (short_of order top held) e.others
       ≤ (sum_by (kept order barred) e.original + order.unit * e.difference) + top * e.size
   most_added barred held told_barred told_held =
       omega (
         arith,
-        sum_is (added order) s1r,
+        sum_is (added_for order) s1r,
         sum_is (short_of order top held) e.others,
         sum_is (kept order barred) e.original,
         units_and_more order.unit (more_of order) s1r,
@@ -187,8 +187,8 @@ module _ (order : Order) (top : ℕ) (below : (x : ℕ) → more_of order x ≤ 
 
 -- what is left of a sum, where so much has to be left over
 pub under_rest : (order : Order) (e : ExchangeClass) (r : Option ℕ) (all short : ℕ) → IfSome r (λ n. n + short ≡ all)
-    → ((s1r : List ℕ) → IsExchange e s1r → sum_by (added order) s1r + short ≤ all)
-    → IfSome r (λ n. (s1r : List ℕ) → IsExchange e s1r → sum_by (added order) s1r ≤ n)
+    → ((s1r : List ℕ) → IsExchange e s1r → sum_by (added_for order) s1r + short ≤ all)
+    → IfSome r (λ n. (s1r : List ℕ) → IsExchange e s1r → sum_by (added_for order) s1r ≤ n)
 under_rest order e None all short left each = tt
 under_rest order e (Some n) all short left each = λ s1r is. omega (arith, left, each s1r is)
 
@@ -199,5 +199,5 @@ chosen_most : (t : Bool) (w l m : ℕ) → l ≤ m → (if t then w + l else w) 
 chosen_most true w l m le = omega (arith, le)
 chosen_most false w l m le = omega arith
 
-pub with_first : (order : Order) (w a b : ℕ) → with_lesser order w a b ≤ w + added order a
-with_first order w a b = chosen_most (nat_lt (w + lesser order a b) (2 ^ 512)) w (lesser order a b) (added order a) (omega arith)
+pub with_first : (order : Order) (w a b : ℕ) → with_lesser order w a b ≤ w + added_for order a
+with_first order w a b = chosen_most (nat_lt (w + lesser order a b) (2 ^ 512)) w (lesser order a b) (added_for order a) (omega arith)

@@ -13,17 +13,17 @@ abbrev pub more_of : Order → ℕ → ℕ
 more_of order x = slice_index_or order.more (x - 1) 0
 
 -- D.2: what a number adds where it is in S1R
-abbrev pub added : Order → ℕ → ℕ
-added order x = order.unit * x + more_of order x
+abbrev pub added_for : Order → ℕ → ℕ
+added_for order x = order.unit * x + more_of order x
 
 -- a table has what each of the first numbers adds, those from 1 on, and that is below 2^512
 abbrev pub AreAdded : Order → List ℕ → Type 0
 AreAdded order table =
-    (x : ℕ) → 0 < x → x ≤ length table → (slice_index table (x - 1) ≡ added order x) × (added order x < 2 ^ 512)
+    (x : ℕ) → 0 < x → x ≤ length table → (slice_index table (x - 1) ≡ added_for order x) × (added_for order x < 2 ^ 512)
 
 -- of two players who meet, one at most is in S1R: the lesser of what both add
 abbrev pub lesser : Order → ℕ → ℕ → ℕ
-lesser order a b = min (added order a) (added order b)
+lesser order a b = min (added_for order a) (added_for order b)
 
 -- a weight with that, if there is room for it
 abbrev pub with_lesser : Order → ℕ → ℕ → ℕ → ℕ

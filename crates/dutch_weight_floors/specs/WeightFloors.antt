@@ -13,7 +13,7 @@ use Rattle.dutch_bracket.specs.Prelude.{Context, fixed_lists, NextValue, Quality
 use Rattle.dutch_candidates.specs.Wishes.{is_wished}
 use Rattle.dutch_weight_floors.specs.Scopes.{Covers, Scope}
 use Rattle.dutch_weighing.specs.Prelude.{HasNoBetterOn, IsOn, IsScale, IsScaleFor, IsScaleHere, Scale, Weighing, weight_above, weight_of}
-use Rattle.dutch_weight_floors.specs.Orders.{Order, added}
+use Rattle.dutch_weight_floors.specs.Orders.{Order, added_for}
 use Rattle.dutch_weight_floors.specs.declared.weight_floor.Bar.{Bar}
 
 -- a bracket of a field above lower seats, a shape of its arrangements, what is wished of them, and a scale [with AreOf]
@@ -75,7 +75,7 @@ pub record IsChoosable (w : Weighed) (a : Arrangement) : Type 0 where
 
 -- what the members of an arrangement's S1R add [with Order]
 abbrev pub added_in : Order → Arrangement → ℕ
-added_in order a = sum_by (added order) a.s1r
+added_in order a = sum_by (added_for order) a.s1r
 
 -- a floor of the weights of a bracket in a scope: behind a beginning that the scope covers no candidate weighs less that can be chosen and
 -- grants what is wished, with what the members of its S1R add [own]

@@ -6,7 +6,7 @@ ghost use Rattle.std.specs.Prelude.{min, sum_by, true};
 ghost use Rattle.std.specs.Option.{SomeIff};
 ghost use Rattle.dutch_arrangements.specs.Prelude.{is_member, IsExchange};
 ghost use Rattle.dutch_sequence.specs.declared.numbers.TheConstants.{LIMIT};
-ghost use Rattle.dutch_weight_floors.specs.Orders.{AreAdded, added, kept, lesser, more_of, short_of, with_lesser};
+ghost use Rattle.dutch_weight_floors.specs.Orders.{AreAdded, added_for, kept, lesser, more_of, short_of, with_lesser};
 
 use dual::Wide;
 use dutch_arrangements::{Exchange, LIMIT};
@@ -110,7 +110,7 @@ impl Order {
 
     /// A no says nothing.
     pub(crate) fn is_none(&self) -> bool
-        ensures { result ≡ true → (x : ℕ) → added self.now x ≡ 0 }
+        ensures { result ≡ true → (x : ℕ) → added_for self.now x ≡ 0 }
     {
         self.unit == Wide::zero() && self.more.is_empty()
     }
@@ -135,8 +135,8 @@ impl Order {
     }
 
     /// What a number adds; none if that is 2^512 or more.
-    pub(crate) fn added(&self, number: u16) -> Option<Wide>
-        ensures { SomeIff result (added self.now number < 2 ^ 512) (added self.now number) }
+    pub(crate) fn added_for(&self, number: u16) -> Option<Wide>
+        ensures { SomeIff result (added_for self.now number < 2 ^ 512) (added_for self.now number) }
     {
         let place = usize::from(number);
         if 0 < place && place <= self.table.len() {
@@ -153,7 +153,7 @@ impl Order {
     {
         let mut table = Vec::new(alloc);
         for above in 0..last {
-            let Some(sum) = self.added(above + 1) else {
+            let Some(sum) = self.added_for(above + 1) else {
                 return Ok(table);
             };
             table.push(sum)?;
@@ -165,10 +165,10 @@ impl Order {
     fn lesser(&self, a: u16, b: u16) -> Option<Wide>
         ensures { SomeIff result (lesser self.now a b < 2 ^ 512) (lesser self.now a b) }
     {
-        let Some(first) = self.added(a) else {
-            return self.added(b);
+        let Some(first) = self.added_for(a) else {
+            return self.added_for(b);
         };
-        let Some(second) = self.added(b) else {
+        let Some(second) = self.added_for(b) else {
             return Some(first);
         };
         Some(least(first, second))
@@ -189,11 +189,11 @@ impl Order {
 
     /// What the members of an S1R add; none if it does not fit.
     pub(crate) fn of(&self, s1r: &[u16]) -> Option<Wide>
-        ensures { IfSome result (λ n. n ≡ sum_by (added self.now) s1r.now) }
+        ensures { IfSome result (λ n. n ≡ sum_by (added_for self.now) s1r.now) }
     {
         let mut sum = Wide::zero();
         for number in s1r {
-            sum = sum.plus(self.added(*number)?)?;
+            sum = sum.plus(self.added_for(*number)?)?;
         }
         Some(sum)
     }
@@ -258,7 +258,7 @@ impl Order {
     /// original S1R who is not barred, what it adds on top; of each one moved in, the most that any number adds on top,
     /// or if it is held, what it adds itself.
     pub(crate) fn most(&self, exchange: &Exchange<'_>) -> Option<Wide>
-        ensures { IfSome result (λ n. (s1r : List ℕ) → IsExchange exchange.now s1r → sum_by (added self.now) s1r ≤ n) }
+        ensures { IfSome result (λ n. (s1r : List ℕ) → IsExchange exchange.now s1r → sum_by (added_for self.now) s1r ≤ n) }
     {
         let top = self.top();
         let kept = self.all_kept(exchange.original(), exchange.barred_numbers())?;
