@@ -5,7 +5,7 @@ ghost use Rattle.trf16_report.specs.Sheet.{entry_of};
 ghost use Rattle.trf16_report.specs.declared.limits.TheConstants.{MOST_ROUNDS};
 
 use crate::round::{points_with, with_cell};
-use crate::turn::{Turn, turned};
+use crate::turn::{Turn, report_turned};
 use std::alloc::{AllocError, Global};
 use trf16_report::{Bye, Cell, Player, Report, cell_at, front, said_len};
 
@@ -63,7 +63,7 @@ fn taken_back<'a>(alloc: Global, report: &Report<'a>, before: u8) -> Result<Repo
     requires { before < MOST_ROUNDS }
     ensures { IfOk result (λ back. back ≡ taken_back report.now before) }
 {
-    let turned = turned(alloc, report, Turn::TakenBack(before))?;
+    let turned = report_turned(alloc, report, Turn::TakenBack(before))?;
     Ok(turned.with_bare_absences())
 }
 
@@ -87,7 +87,7 @@ pub fn before_round<'a>(
     };
     let rounds = report.rounds_played();
     if before == rounds {
-        return Ok(Some(turned(alloc, report, Turn::Kept)?));
+        return Ok(Some(report_turned(alloc, report, Turn::Kept)?));
     }
     if rounds < before {
         return Ok(None);

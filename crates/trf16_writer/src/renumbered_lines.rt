@@ -46,7 +46,7 @@ fn push_words(line: &mut Vec<u8>, new: &NewStarts, bytes: &[u8]) -> Result<(), A
 }
 
 // A line that is carried, with the new start ranks if it names some.
-fn renumbered(
+fn renumbered_bytes(
     alloc: Global,
     utf8: bool,
     new: &NewStarts,
@@ -74,7 +74,7 @@ pub(crate) fn renumbered_line(
         ≡ option_map (renumbered_line utf8 (new_in new.now)) (option_copied line.entry)) }
 {
     match line {
-        Some(bytes) => Ok(Some(renumbered(alloc, utf8, new, bytes)?)),
+        Some(bytes) => Ok(Some(renumbered_bytes(alloc, utf8, new, bytes)?)),
         None => Ok(None),
     }
 }

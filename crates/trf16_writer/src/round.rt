@@ -8,7 +8,7 @@ ghost use Rattle.trf16_report.specs.Round.{CanBePaired, named_by, cell_on, cell_
 ghost use Rattle.trf16_report.specs.Round.{with_round};
 ghost use Rattle.trf16_report.specs.declared.limits.TheConstants.{MOST_ROUNDS};
 
-use crate::turn::{Turn, turned};
+use crate::turn::{Turn, report_turned};
 use std::alloc::{AllocError, Global};
 use trf16_report::{Bye, Cell, Colour, MOST_ROUNDS, Player, Report, front};
 
@@ -200,5 +200,5 @@ pub fn with_round<'a>(
     requires { CanBePaired boards.now report.now }
     ensures { IfOk result (λ paired. paired ≡ with_round boards.now report.now) }
 {
-    turned(alloc, report, Turn::Paired(boards))
+    report_turned(alloc, report, Turn::Paired(boards))
 }

@@ -3,7 +3,7 @@ ghost use Rattle.std.specs.Prelude.{◌≡◌, IfOk};
 ghost use Rattle.trf16_report.specs.Sheet.{entry_of, rounds_played};
 ghost use Rattle.trf16_report.specs.Summed.{entry_summed, summed};
 
-use crate::turn::{Turn, turned};
+use crate::turn::{Turn, report_turned};
 use std::alloc::{AllocError, Global};
 use trf16_report::{Player, Report, front};
 
@@ -34,5 +34,5 @@ pub(crate) fn player_summed<'a>(
 pub fn summed<'a>(alloc: Global, report: &Report<'a>) -> Result<Report<'a>, AllocError>
     ensures { IfOk result (λ found. found ≡ summed report.now) }
 {
-    turned(alloc, report, Turn::Summed)
+    report_turned(alloc, report, Turn::Summed)
 }

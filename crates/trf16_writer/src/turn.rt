@@ -63,7 +63,7 @@ fn players_turned<'a>(
 }
 
 /// The report with each of its players turned so.
-pub(crate) fn turned<'a>(
+pub(crate) fn report_turned<'a>(
     alloc: Global,
     report: &Report<'a>,
     turn: Turn<'_>,

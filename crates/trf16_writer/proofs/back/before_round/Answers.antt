@@ -6,7 +6,7 @@ use Rattle.trf16_writer.proofs.back.before_round.Goals as goal
 pub returns-then-before-rounds : goal.returns-then-before-rounds
 returns-then-before-rounds c =
     let sheet = c.args.report.now in
-    let same = c.in_ok-turned.ensures ∙ ap (λ (players : List Entry). record sheet { players = players }) (kept sheet.players) in
+    let same = c.in_ok-report_turned.ensures ∙ ap (λ (players : List Entry). record sheet { players = players }) (kept sheet.players) in
     ap (λ (s : Sheet). Some s) same ∙ next_round sheet c.args.round c.in-Some.before (omega (arith, c.in-Some.ensures)) (c.if-before-rounds.true ∙ c.rounds_played-rounds.ensures.value)
 
 pub returns-then-rounds_played-before : goal.returns-then-rounds_played-before

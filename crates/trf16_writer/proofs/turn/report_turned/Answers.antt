@@ -3,7 +3,7 @@ use Rattle.trf16_report.specs.Prelude.{rounds_played, starts_of}
 use Rattle.trf16_writer.specs.Steps.{entry_turned}
 use Rattle.trf16_writer.proofs.RoundLemmas.{keeps-start, starts-with}
 use Rattle.trf16_report.proofs.ReportLemmas.{starts-entries}
-use Rattle.trf16_writer.proofs.turn.turned.Goals as goal
+use Rattle.trf16_writer.proofs.turn.report_turned.Goals as goal
 
 pub with_players-requires-clause-same : goal.with_players-requires-clause-same
 with_players-requires-clause-same c =
