@@ -13,7 +13,7 @@ use Rattle.trf16_report.specs.Prelude.{Entry, HasOwnStarts, Sheet, absent, cell_
 use Rattle.trf16_report.specs.Outcomes.{◌>>=◌}
 use Rattle.trf16_report.proofs.RankLemmas.{ranked_moves}
 use Rattle.dutch_player.specs.declared.fault.FieldFault.{FieldFault}
-use Rattle.dutch_player.specs.Prelude.{Facts, SeatFacts, bars_bye, facts_of, goes_before, initial_of, may_bye, no_seat, ranked, seat_at, seat_of, seats_of, total_for}
+use Rattle.dutch_player.specs.Prelude.{Facts, SeatFacts, bars_bye, facts_of, goes_before, initial_of, may_bye, no_seat, seats_by_rank, seat_at, seat_of, seats_of, total_for}
 use Rattle.answer_laws.specs.InsteadLaws.{StandsAgainstBye}
 use Rattle.answer_laws.proofs.ObstacleTruth.{first_is}
 use Rattle.player_lines.specs.Obstacles.{against_bye, first_bye, has_had_bye, even_without_bye}
@@ -55,15 +55,15 @@ by_cells sheet (entry ∷ rest) own = by_cells_at sheet entry (seats_of sheet re
 
 abbrev made : Sheet → Option Colour → ℕ → Facts
 made sheet initial total =
-    record { seats = ranked (seats_of sheet sheet.players); round = rounds_played sheet + 1; total = total; initial = initial_of sheet initial }
+    record { seats = seats_by_rank (seats_of sheet sheet.players); round = rounds_played sheet + 1; total = total; initial = initial_of sheet initial }
 
 made_at : (sheet : Sheet) (initial : Option Colour) (facts : Facts) (total : Result ℕ FieldFault) → (total >>= λ total. Ok (made sheet initial total)) ≡ Ok facts
-    → ranked (seats_of sheet sheet.players) ≡ facts.seats
+    → seats_by_rank (seats_of sheet sheet.players) ≡ facts.seats
 made_at sheet initial facts (Ok total) e = let same : made sheet initial total ≡ facts = cc in ap (λ (f : Facts). f.seats) same
 made_at sheet initial facts (Err fault) e = absurd (let bad : ◌≡◌ {A = Result Facts FieldFault} (Err fault) (Ok facts) = e in cc)
 
 seats_are : (sheet : Sheet) (asked : Option ℕ) (initial : Option Colour) (facts : Facts) → facts_of sheet asked initial ≡ Ok facts
-    → ranked (seats_of sheet sheet.players) ≡ facts.seats
+    → seats_by_rank (seats_of sheet sheet.players) ≡ facts.seats
 unfolding facts_of
 seats_are sheet asked initial facts e = made_at sheet initial facts (total_for sheet asked) e
 
@@ -72,7 +72,7 @@ all_by_cells : (sheet : Sheet) (asked : Option ℕ) (initial : Option Colour) (f
 all_by_cells sheet asked initial facts own e =
     let seats : List SeatFacts = seats_of sheet sheet.players in
     subst (λ (all : List SeatFacts). All (IsByCells sheet) all) (seats_are sheet asked initial facts e)
-    (All-permutation (IsByCells sheet) seats (ranked seats) (ranked_moves goes_before seats)
+    (All-permutation (IsByCells sheet) seats (seats_by_rank seats) (ranked_moves goes_before seats)
     (All-from_recursion (IsByCells sheet) seats (by_cells sheet sheet.players (own_cells sheet.players own.different))))
 
 -- ---- the round in which it was barred

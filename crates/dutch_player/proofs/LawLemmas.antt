@@ -7,7 +7,7 @@ use Rattle.dutch_player.specs.declared.colour_rule.ColourRule.{ColourRule}
 use Rattle.dutch_player.specs.declared.colour_rule.ColourRule.TheVariants.{BothPreferences, StrongerPreference, HigherRank, InitialColour}
 use Rattle.dutch_player.specs.declared.colours.Decision.{Decision}
 use Rattle.dutch_player.specs.declared.preference.Pref.{Pref}
-use Rattle.dutch_player.specs.Prelude.{is_same, other, preference, SeatFacts, Facts, seat_at, may_meet, have_met, has_met, is_kept_from, are_apart, clash, is_absolute, is_topscorer, colours_allow, is_stronger, alternated, by, by_history, by_preferences, colours, contested, colour_of_higher, colour_rule, decision_of, granted, with_colour, Gets, GrantsBoth, TellsRule}
+use Rattle.dutch_player.specs.Prelude.{is_same, other, preference, SeatFacts, Facts, seat_at, may_meet, have_met, has_met, is_kept_from, are_apart, clash, is_absolute, is_topscorer, colours_allow, is_stronger, alternate_colour, by, by_history, by_preferences, colours, by_strength, colour_of_higher, colour_rule, decision_of, granted, with_colour, Gets, GrantsBoth, TellsRule}
 
 or_comm : (x y : Bool) → (x || y) ≡ (y || x)
 or_comm true true = refl
@@ -90,7 +90,7 @@ granted-both : (initial : Colour) (high low : SeatFacts) (wanted theirs : Option
 granted-both initial high low wanted theirs p q e f differ =
     ap (λ w. granted initial high low w theirs) e
     ∙ ap (granted initial high low (Some p)) f
-    ∙ ap (λ one. (both_want one (contested high.played low.played p q) p.colour).colour) (differ-same p.colour q.colour differ)
+    ∙ ap (λ one. (both_want one (by_strength high.played low.played p q) p.colour).colour) (differ-same p.colour q.colour differ)
 
 -- if both want a colour: what the contest gives if it is the same one, and otherwise each their own
 decided-both : (decision : Decision) (one : Bool) (wanted : Colour) → (both_want one decision wanted).colour ≡ (if one then decision.colour else wanted)
@@ -98,8 +98,8 @@ decided-both decision true wanted = refl
 decided-both decision false wanted = refl
 
 pub granted-pair : (initial : Colour) (high low : SeatFacts) (p q : Pref)
-    → granted initial high low (Some p) (Some q) ≡ (if is_same p.colour q.colour then (contested high.played low.played p q).colour else p.colour)
-granted-pair initial high low p q = decided-both (contested high.played low.played p q) (is_same p.colour q.colour) p.colour
+    → granted initial high low (Some p) (Some q) ≡ (if is_same p.colour q.colour then (by_strength high.played low.played p q).colour else p.colour)
+granted-pair initial high low p q = decided-both (by_strength high.played low.played p q) (is_same p.colour q.colour) p.colour
 
 ranked-both : (facts : Facts) (high low : ℕ) (p q : Pref) → preference (seat_at facts high).played ≡ Some p → preference (seat_at facts low).played ≡ Some q
     → (p.colour ≡ q.colour → ⊥) → of_ranked facts high low ≡ with_colour high low p.colour
@@ -174,17 +174,17 @@ wish_of None = White
 wish_of (Some wish) = wish.colour
 
 module _ (initial : Colour) (high low : SeatFacts) where
-  never_granted : (p q : Pref) → (contested high.played low.played p q).rule ≡ BothPreferences → ⊥
+  never_granted : (p q : Pref) → (by_strength high.played low.played p q).rule ≡ BothPreferences → ⊥
   never_granted p q e =
-      (contest_is_not (is_stronger p high.played q low.played) (is_stronger q low.played p high.played) (alternated high.played low.played) p.colour BothPreferences e).0 refl
+      (contest_is_not (is_stronger p high.played q low.played) (is_stronger q low.played p high.played) (alternate_colour high.played low.played) p.colour BothPreferences e).0 refl
 
-  never_started : (p q : Pref) → (contested high.played low.played p q).rule ≡ InitialColour → ⊥
+  never_started : (p q : Pref) → (by_strength high.played low.played p q).rule ≡ InitialColour → ⊥
   never_started p q e =
-      (contest_is_not (is_stronger p high.played q low.played) (is_stronger q low.played p high.played) (alternated high.played low.played) p.colour InitialColour e).1 refl
+      (contest_is_not (is_stronger p high.played q low.played) (is_stronger q low.played p high.played) (alternate_colour high.played low.played) p.colour InitialColour e).1 refl
 
   both_of : (p q : Pref) → (by_preferences initial high low (Some p) (Some q)).rule ≡ BothPreferences
       → (granted initial high low (Some p) (Some q) ≡ p.colour) × (granted initial high low (Some p) (Some q) ≡ other q.colour)
-  both_of p q e = both_granted (is_same p.colour q.colour) (contested high.played low.played p q) p.colour q.colour refl (never_granted p q) e
+  both_of p q e = both_granted (is_same p.colour q.colour) (by_strength high.played low.played p q) p.colour q.colour refl (never_granted p q) e
 
   first_granted : (p q : Option Pref) (wish : Pref) → (by_preferences initial high low p q).rule ≡ BothPreferences → p ≡ Some wish
       → granted initial high low p q ≡ wish.colour
@@ -201,15 +201,15 @@ module _ (initial : Colour) (high low : SeatFacts) where
   higher_gets : (p q : Option Pref) (wish : Pref) → (by_preferences initial high low p q).rule ≡ HigherRank → p ≡ Some wish
       → granted initial high low p q ≡ wish.colour
   higher_gets (Some p) (Some q) wish e f =
-      both_higher (is_same p.colour q.colour) (contested high.played low.played p q) p.colour
-      (contest_higher (is_stronger p high.played q low.played) (is_stronger q low.played p high.played) (alternated high.played low.played) p.colour) e
+      both_higher (is_same p.colour q.colour) (by_strength high.played low.played p q) p.colour
+      (contest_higher (is_stronger p high.played q low.played) (is_stronger q low.played p high.played) (alternate_colour high.played low.played) p.colour) e
       ∙ ap wish_of f
   higher_gets (Some p) None wish e f = ap wish_of f
   higher_gets None q wish e f = absurd (cc)
 
   nobody_wants : (p q : Option Pref) → (by_preferences initial high low p q).rule ≡ InitialColour → (p ≡ None) × (q ≡ None)
   nobody_wants (Some p) (Some q) e =
-      absurd (both_started (is_same p.colour q.colour) (contested high.played low.played p q) p.colour (never_started p q) e)
+      absurd (both_started (is_same p.colour q.colour) (by_strength high.played low.played p q) p.colour (never_started p q) e)
   nobody_wants (Some p) None e = absurd (cc)
   nobody_wants None (Some q) e = absurd (cc)
   nobody_wants None None e = (refl, refl)

@@ -18,7 +18,7 @@ use Rattle.trf16_report.proofs.RankLemmas.{ranked_moves}
 use Rattle.dutch_player.specs.declared.fault.FieldFault.{FieldFault}
 use Rattle.dutch_player.specs.declared.fault.FieldFault.TheVariants.{Unfinished, Unsupported, RoundsUnknown, RoundsOver}
 use Rattle.trf16_report.specs.Outcomes.{◌>>=◌}
-use Rattle.dutch_player.specs.Prelude.{SeatFacts, Facts, no_seat, seat_at, goes_before, ranked, seat_of, seats_of, initial_of, total_of, unsupported, refused, total_for, facts_of, IsFieldOf, start_ranks, is_kept_from, are_apart}
+use Rattle.dutch_player.specs.Prelude.{SeatFacts, Facts, no_seat, seat_at, goes_before, seats_by_rank, seat_of, seats_of, initial_of, total_of, unsupported, fault_if, total_for, facts_of, IsFieldOf, start_ranks, is_kept_from, are_apart}
 
 -- ---- who is present
 
@@ -136,9 +136,9 @@ total_is : (sheet : Sheet) (asked : Option ℕ) (total : ℕ) → total_for shee
 unfolding total_for
 total_is sheet asked total e =
     let last : ℕ → Result ℕ FieldFault = λ total. cond (nat_lt total (rounds_played sheet + 1)) (Err RoundsOver) (Ok total) in
-    let s1 = then_ok (refused (option_map (λ (at' : ℕ × ℕ). Unfinished at'.0 at'.1) (unfinished sheet)))
-    (λ _. refused (option_map (λ line. Unsupported line) (unsupported sheet)) >>= λ _. ok_or (total_of sheet asked) RoundsUnknown >>= last) total e in
-    let s2 = then_ok (refused (option_map (λ line. Unsupported line) (unsupported sheet))) (λ _. ok_or (total_of sheet asked) RoundsUnknown >>= last) total s1.2 in
+    let s1 = then_ok (fault_if (option_map (λ (at' : ℕ × ℕ). Unfinished at'.0 at'.1) (unfinished sheet)))
+    (λ _. fault_if (option_map (λ line. Unsupported line) (unsupported sheet)) >>= λ _. ok_or (total_of sheet asked) RoundsUnknown >>= last) total e in
+    let s2 = then_ok (fault_if (option_map (λ line. Unsupported line) (unsupported sheet))) (λ _. ok_or (total_of sheet asked) RoundsUnknown >>= last) total s1.2 in
     let s3 = then_ok (ok_or (total_of sheet asked) RoundsUnknown) last total s2.2 in
     let named = ok_or_ok (total_of sheet asked) RoundsUnknown s3.0 s3.1 in
     let time = in_time s3.0 (rounds_played sheet) (nat_lt s3.0 (rounds_played sheet + 1)) total refl s3.2 in
@@ -148,23 +148,23 @@ total_is sheet asked total e =
 
 made : Sheet → Option Colour → ℕ → Facts
 made sheet initial total =
-    record { seats = ranked (seats_of sheet sheet.players); round = rounds_played sheet + 1; total = total; initial = initial_of sheet initial }
+    record { seats = seats_by_rank (seats_of sheet sheet.players); round = rounds_played sheet + 1; total = total; initial = initial_of sheet initial }
 
 field_made : (sheet : Sheet) (asked : Option ℕ) (initial : Option Colour) (total : ℕ) → HasOwnStarts sheet → total_of sheet asked ≡ Some total
     → rounds_played sheet + 1 ≤ total → IsFieldOf sheet asked (made sheet initial total)
 unfolding made starts named_in has_start
 field_made sheet asked initial total own named time =
     let seats : List SeatFacts = seats_of sheet sheet.players in
-    let order : IsPermutation (starts seats) (starts (ranked seats)) = IsPermutation-map (λ (seat : SeatFacts). seat.start) seats (ranked seats) (ranked_moves goes_before seats) in
-    let each_seat : (P : ℕ → Type 0) → AllByRecursion (λ (entry : Entry). absent sheet entry.start ≡ false → P entry.start) sheet.players → All P (starts (ranked seats)) =
-    λ P each. All-permutation P (starts seats) (starts (ranked seats)) order (All-from_recursion P (starts seats) (seats_all sheet P sheet.players each)) in
+    let order : IsPermutation (starts seats) (starts (seats_by_rank seats)) = IsPermutation-map (λ (seat : SeatFacts). seat.start) seats (seats_by_rank seats) (ranked_moves goes_before seats) in
+    let each_seat : (P : ℕ → Type 0) → AllByRecursion (λ (entry : Entry). absent sheet entry.start ≡ false → P entry.start) sheet.players → All P (starts (seats_by_rank seats)) =
+    λ P each. All-permutation P (starts seats) (starts (seats_by_rank seats)) order (All-from_recursion P (starts seats) (seats_all sheet P sheet.players each)) in
     record {
       players = each_seat (λ start. known sheet start ≡ true) (known_ones sheet sheet.players (all_known sheet.players));
       present = each_seat (λ start. absent sheet start ≡ false) (present_ones sheet sheet.players);
       all = λ start named here.
-          contains_start (starts (ranked seats)) start
-          (sym (list_any-IsPermutation (λ (other : ℕ). other == start) (starts seats) (starts (ranked seats)) order) ∙ present_seated sheet sheet.players start named here);
-      once = IsDistinct-IsPermutation nat_eq flips (starts seats) (starts (ranked seats)) order (seats_distinct sheet sheet.players own.different);
+          contains_start (starts (seats_by_rank seats)) start
+          (sym (list_any-IsPermutation (λ (other : ℕ). other == start) (starts seats) (starts (seats_by_rank seats)) order) ∙ present_seated sheet sheet.players start named here);
+      once = IsDistinct-IsPermutation nat_eq flips (starts seats) (starts (seats_by_rank seats)) order (seats_distinct sheet sheet.players own.different);
       from_one = each_seat (λ start. 0 < start) (by_starts sheet (λ start. 0 < start) sheet.players
           (recursion_from_All (λ start. 0 < start) (starts_of sheet.players) (λ k d lt. (own.within k d lt).0)));
       next = refl;
@@ -204,7 +204,7 @@ own_seats sheet asked initial facts e =
     let s = then_ok (total_for sheet asked) (λ total. Ok (made sheet initial total)) facts e in
     let seats : List SeatFacts = seats_of sheet sheet.players in
     subst (λ (f : Facts). All (IsOwn sheet) f.seats) (same_ok (made sheet initial s.0) facts s.2)
-    (All-permutation (IsOwn sheet) seats (ranked seats) (ranked_moves goes_before seats) (All-from_recursion (IsOwn sheet) seats (own_all sheet sheet.players)))
+    (All-permutation (IsOwn sheet) seats (seats_by_rank seats) (ranked_moves goes_before seats) (All-from_recursion (IsOwn sheet) seats (own_all sheet sheet.players)))
 
 started : (entries : List Entry) (start : ℕ) → has_start (starts_of entries) start ≡ named_in entries start
 unfolding has_start named_in

@@ -30,10 +30,10 @@ is_stronger mine played theirs their_played =
     || (is_absolute mine.strength && is_absolute theirs.strength && nat_lt (distance their_played) (distance played))
 
 -- seen from the last game back, at the first place where one had white and the other black, each gets the other colour [E.3]
-abbrev pub alternated : List Colour → List Colour → Option Colour
-alternated [] theirs = None
-alternated (mine ∷ before) [] = None
-alternated (mine ∷ before) (theirs ∷ their_before) = if is_same mine theirs then alternated before their_before else Some (other mine)
+abbrev pub alternate_colour : List Colour → List Colour → Option Colour
+alternate_colour [] theirs = None
+alternate_colour (mine ∷ before) [] = None
+alternate_colour (mine ∷ before) (theirs ∷ their_before) = if is_same mine theirs then alternate_colour before their_before else Some (other mine)
 
 -- how the colours of two are decided: the first rule that decides, and the colour that the higher ranked of them gets by it
 abbrev pub by : ColourRule → Colour → Decision
@@ -46,21 +46,21 @@ by_history None wanted = by HigherRank wanted
 
 -- the decision where both prefer the same colour: the stronger preference is granted, else the colours alternate, else the higher ranked
 -- player's is granted [E.2 to E.4]
-abbrev pub contested : List Colour → List Colour → Pref → Pref → Decision
-contested high low wanted theirs =
+abbrev pub by_strength : List Colour → List Colour → Pref → Pref → Decision
+by_strength high low wanted theirs =
     if is_stronger wanted high theirs low then by StrongerPreference wanted.colour
     else (if is_stronger theirs low wanted high then by StrongerPreference (other wanted.colour)
-    else by_history (alternated high low) wanted.colour)
+    else by_history (alternate_colour high low) wanted.colour)
 
 -- the colour of the higher ranked where nobody has a preference: the initial colour if their start rank is odd, else the other one [E.5]
 abbrev pub by_start : Colour → ℕ → Colour
 by_start initial start = if start % 2 == 1 then initial else other initial
 
--- two preferences that are not for the same colour are both granted, and so is one alone; else `contested` or `by_start` decides [with
--- decided]
+-- two preferences that are not for the same colour are both granted, and so is one alone; else `by_strength` or `by_start` decides [with
+-- decision_between]
 abbrev pub by_preferences : Colour → SeatFacts → SeatFacts → Option Pref → Option Pref → Decision
 by_preferences initial high low (Some wanted) (Some theirs) =
-    if is_same wanted.colour theirs.colour then contested high.played low.played wanted theirs else by BothPreferences wanted.colour
+    if is_same wanted.colour theirs.colour then by_strength high.played low.played wanted theirs else by BothPreferences wanted.colour
 by_preferences initial high low (Some wanted) None = by BothPreferences wanted.colour
 by_preferences initial high low None (Some theirs) = by BothPreferences (other theirs.colour)
 by_preferences initial high low None None = by InitialColour (by_start initial high.start)
@@ -70,12 +70,12 @@ abbrev pub granted : Colour → SeatFacts → SeatFacts → Option Pref → Opti
 granted initial high low wanted theirs = (by_preferences initial high low wanted theirs).colour
 
 -- the first rule that decides the colours of two, and the colour that the higher ranked, who comes first, gets by it [E]
-abbrev pub decided : Colour → SeatFacts → SeatFacts → Decision
-decided initial high low = by_preferences initial high low (preference high.played) (preference low.played)
+abbrev pub decision_between : Colour → SeatFacts → SeatFacts → Decision
+decision_between initial high low = by_preferences initial high low (preference high.played) (preference low.played)
 
 -- the same of two seats
 abbrev pub decision_of : Facts → ℕ → ℕ → Decision
-decision_of facts high low = decided facts.initial (seat_at facts high) (seat_at facts low)
+decision_of facts high low = decision_between facts.initial (seat_at facts high) (seat_at facts low)
 
 -- E: the colour that the higher ranked of two gets
 abbrev pub colour_of_higher : Facts → ℕ → ℕ → Colour

@@ -9,7 +9,7 @@ use Rattle.trf16_report.specs.Outcomes.{◌>>=◌}
 use Rattle.dutch_player.specs.declared.float.Float.{Float}
 use Rattle.dutch_player.specs.declared.fault.FieldFault.{FieldFault}
 use Rattle.dutch_player.specs.declared.fault.FieldFault.TheVariants.{Unfinished, Unsupported, RoundsUnknown, RoundsOver}
-use Rattle.dutch_player.specs.Histories.{score, played, opponents, may_bye, float_in}
+use Rattle.dutch_player.specs.Histories.{score, colours_played, opponents, may_bye, float_in}
 
 -- a present player: start rank, score in half points, the colours of their games (the last game first), the start ranks of those whom they
 -- have met, the start ranks of those from whom they are kept apart, their floats in the last round and in the one before it, and whether
@@ -45,8 +45,8 @@ abbrev pub goes_before : SeatFacts → SeatFacts → Bool
 goes_before a b = nat_lt b.score a.score || ((a.score == b.score) && nat_lt a.start b.start)
 
 -- A.2: seats by rank
-abbrev pub ranked : List SeatFacts → List SeatFacts
-ranked = ranked_by goes_before
+abbrev pub seats_by_rank : List SeatFacts → List SeatFacts
+seats_by_rank = ranked_by goes_before
 
 -- A.2: no seat goes before one that stands in front of it
 abbrev pub IsRanked : List SeatFacts → Type 0
@@ -60,7 +60,7 @@ seat_of sheet entry =
     record {
       start = entry.start;
       score = score sheet.bye cells;
-      played = played cells;
+      played = colours_played cells;
       opponents = opponents cells;
       apart = apart_from sheet entry.start;
       latest = float_in sheet cells rounds;
@@ -88,16 +88,16 @@ abbrev pub unsupported : Sheet → Option ℕ
 unsupported sheet = first_of (Xxa ∷ Xxs ∷ Rank ∷ []) sheet
 
 -- a fault, if its cause is there
-abbrev pub refused : Option FieldFault → Result (Unit {0}) FieldFault
-refused None = Ok tt
-refused (Some fault) = Err fault
+abbrev pub fault_if : Option FieldFault → Result (Unit {0}) FieldFault
+fault_if None = Ok tt
+fault_if (Some fault) = Err fault
 
 -- the total of rounds that the caller asks for, else the report's; or the first reason why the round cannot be paired: a game without a
 -- result, a line XXA, XXS or XXC with rank, no total, all rounds played [own]
 unfoldable pub total_for : Sheet → Option ℕ → Result ℕ FieldFault
 total_for sheet asked = do
-  _ ← refused (option_map (λ at'. Unfinished at'.0 at'.1) (unfinished sheet))
-  _ ← refused (option_map (λ line. Unsupported line) (unsupported sheet))
+  _ ← fault_if (option_map (λ at'. Unfinished at'.0 at'.1) (unfinished sheet))
+  _ ← fault_if (option_map (λ line. Unsupported line) (unsupported sheet))
   total ← ok_or (total_of sheet asked) RoundsUnknown
   if nat_lt total (rounds_played sheet + 1) then Err RoundsOver else Ok total
 
@@ -106,4 +106,4 @@ total_for sheet asked = do
 unfoldable pub facts_of : Sheet → Option ℕ → Option Colour → Result Facts FieldFault
 facts_of sheet asked initial = do
   total ← total_for sheet asked
-  Ok (record { seats = ranked (seats_of sheet sheet.players); round = rounds_played sheet + 1; total = total; initial = initial_of sheet initial })
+  Ok (record { seats = seats_by_rank (seats_of sheet sheet.players); round = rounds_played sheet + 1; total = total; initial = initial_of sheet initial })

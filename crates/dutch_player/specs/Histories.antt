@@ -14,14 +14,14 @@ use Rattle.dutch_player.specs.declared.float.Float.TheVariants.{Up, Down}
 abbrev pub score : ℕ → List Cell → ℕ
 score bye cells = sum_by (half_points bye) cells
 
--- the colour of a game that was played; that of a forfeit is none [with played]
+-- the colour of a game that was played; that of a forfeit is none [with colours_played]
 abbrev pub colour_played : Cell → Option Colour
 colour_played (Game opponent colour rated got) = Some colour
 colour_played _ = None
 
 -- the colours of the games that were played, the last game first [A.6]
-abbrev pub played : List Cell → List Colour
-played cells = filter_map colour_played (reverse cells)
+abbrev pub colours_played : List Cell → List Colour
+colours_played cells = filter_map colour_played (reverse cells)
 
 -- the opponent of a game that was played; a forfeit is no meeting [with opponents]
 abbrev pub opponent_played : Cell → Option ℕ

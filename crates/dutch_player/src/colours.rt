@@ -2,8 +2,8 @@
 ghost use Rattle.std.specs.Prelude.{◌≡◌, ◌≤◌, length};
 ghost use Rattle.dutch_player.specs.declared.colour_rule.ColourRule.TheVariants.{BothPreferences};
 ghost use Rattle.dutch_player.specs.SeatOf.{facts_in};
-ghost use Rattle.dutch_player.specs.Colours.{grade, distance, is_stronger, alternated, by, by_history, contested};
-ghost use Rattle.dutch_player.specs.Colours.{by_preferences, by_start, decided, with_colour};
+ghost use Rattle.dutch_player.specs.Colours.{grade, distance, is_stronger, alternate_colour, by, by_history};
+ghost use Rattle.dutch_player.specs.Colours.{by_preferences, by_start, by_strength, decision_between, with_colour};
 
 use crate::colour_rule::ColourRule;
 use crate::meetings::is_absolute;
@@ -50,8 +50,8 @@ fn is_stronger(mine: Pref, played: &[Colour], theirs: Pref, their_played: &[Colo
 }
 
 // E.3: both lists have the last game first.
-fn alternated(mine: &[Colour], theirs: &[Colour]) -> Option<Colour>
-    ensures { result ≡ alternated mine.now theirs.now }
+fn alternate_colour(mine: &[Colour], theirs: &[Colour]) -> Option<Colour>
+    ensures { result ≡ alternate_colour mine.now theirs.now }
 {
     let [mine, before @ ..] = mine else {
         return None;
@@ -60,7 +60,7 @@ fn alternated(mine: &[Colour], theirs: &[Colour]) -> Option<Colour>
         return None;
     };
     if is_same(*mine, *theirs) {
-        alternated(before, their_before)
+        alternate_colour(before, their_before)
     } else {
         Some(other(*mine))
     }
@@ -84,8 +84,8 @@ fn by_history(alternate: Option<Colour>, wanted: Colour) -> Decision
 }
 
 // E.2 to E.4: both want the same colour.
-fn contested(high: &[Colour], low: &[Colour], wanted: Pref, theirs: Pref) -> Decision
-    ensures { result ≡ contested high.now low.now wanted theirs }
+fn by_strength(high: &[Colour], low: &[Colour], wanted: Pref, theirs: Pref) -> Decision
+    ensures { result ≡ by_strength high.now low.now wanted theirs }
 {
     let rule = ColourRule::StrongerPreference;
     if is_stronger(wanted, high, theirs, low) {
@@ -96,7 +96,7 @@ fn contested(high: &[Colour], low: &[Colour], wanted: Pref, theirs: Pref) -> Dec
         let colour = other(wanted.colour);
         return Decision { rule, colour };
     }
-    by_history(alternated(high, low), wanted.colour)
+    by_history(alternate_colour(high, low), wanted.colour)
 }
 
 // E.5: nobody has played a game.
@@ -133,7 +133,7 @@ fn by_preferences(initial: Colour, high: &Seat, low: &Seat, prefer: Preferences)
     match (prefer.high, prefer.low) {
         (Some(wanted), Some(theirs)) => {
             if is_same(wanted.colour, theirs.colour) {
-                contested(&high.played, &low.played, wanted, theirs)
+                by_strength(&high.played, &low.played, wanted, theirs)
             } else {
                 both(wanted.colour)
             }
@@ -148,8 +148,8 @@ fn by_preferences(initial: Colour, high: &Seat, low: &Seat, prefer: Preferences)
 }
 
 /// How the colours of two are decided; the first of them ranks higher.
-pub(crate) fn decided(initial: Colour, high: &Seat, low: &Seat) -> Decision
-    ensures { result ≡ decided initial (facts_in high.now) (facts_in low.now) }
+pub(crate) fn decision_between(initial: Colour, high: &Seat, low: &Seat) -> Decision
+    ensures { result ≡ decision_between initial (facts_in high.now) (facts_in low.now) }
 {
     let prefer = Preferences {
         high: high.preference,

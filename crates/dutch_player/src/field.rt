@@ -9,7 +9,7 @@ ghost use Rattle.dutch_player.specs.Colours.{colours, colour_rule, decision_of};
 ghost use Rattle.trf16_report.specs.declared.limits.TheConstants.{MOST_PLAYERS, MOST_ROUNDS};
 
 use crate::colour_rule::ColourRule;
-use crate::colours::{Decision, decided, with_colour};
+use crate::colours::{Decision, decision_between, with_colour};
 use crate::fault::FieldFault;
 use crate::float::Float;
 use crate::meetings::{are_apart, clash, have_met};
@@ -203,7 +203,7 @@ impl Field {
     fn decision_of(&self, high: u16, low: u16) -> Decision
         ensures { result ≡ decision_of self.now high low }
     {
-        decided(self.initial, self.seat(high), self.seat(low))
+        decision_between(self.initial, self.seat(high), self.seat(low))
     }
 
     /// The seat that has white and the seat that has black (E), of two players in any order.

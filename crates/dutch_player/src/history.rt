@@ -2,8 +2,8 @@
 // C.1, C.2).
 ghost use Rattle.std.specs.Prelude.{◌≡◌, ◌≤◌, length, IfOk, vec_len};
 ghost use Rattle.std.specs.List.{list_any};
-ghost use Rattle.dutch_player.specs.Histories.{colour_played, played, opponent_played, opponents, bars_bye, may_bye};
-ghost use Rattle.dutch_player.specs.Histories.{float_between, float_by, float_in};
+ghost use Rattle.dutch_player.specs.Histories.{colour_played, colours_played, opponent_played, opponents};
+ghost use Rattle.dutch_player.specs.Histories.{bars_bye, may_bye, float_between, float_by, float_in};
 ghost use Rattle.trf16_report.specs.declared.limits.TheConstants.{MOST_ROUNDS};
 
 use crate::float::Float;
@@ -21,8 +21,8 @@ pub fn colour_played(cell: &Cell) -> Option<Colour>
 }
 
 /// The colours of the games played, the last game first.
-pub(crate) fn played(alloc: Global, cells: &[Cell]) -> Result<Vec<Colour>, AllocError>
-    ensures value { IfOk result (λ v. v.items ≡ played cells.now) }
+pub(crate) fn colours_played(alloc: Global, cells: &[Cell]) -> Result<Vec<Colour>, AllocError>
+    ensures value { IfOk result (λ v. v.items ≡ colours_played cells.now) }
     ensures shorter { IfOk result (λ v. vec_len v ≤ length cells.now) }
 {
     cells

@@ -2,12 +2,12 @@
 ghost use Rattle.std.specs.Prelude.{◌≡◌, ◌≤◌, map, IfOk, vec_len};
 ghost use Rattle.trf16_report.specs.Prelude.{entry_of, rounds_played};
 ghost use Rattle.dutch_player.specs.SeatOf.{facts_in};
-ghost use Rattle.dutch_player.specs.Facts.{seat_of, seats_of, ranked};
+ghost use Rattle.dutch_player.specs.Facts.{seat_of, seats_of, seats_by_rank};
 ghost use Rattle.trf16_report.specs.declared.limits.TheConstants.{MOST_PLAYERS};
 
-use crate::history::{float_in, may_bye, opponents, played};
+use crate::history::{colours_played, float_in, may_bye, opponents};
 use crate::preference::preference;
-use crate::ranking::ranked;
+use crate::ranking::seats_by_rank;
 use crate::seat::Seat;
 use std::alloc::{AllocError, Global};
 use trf16_report::{Player, Report, front};
@@ -24,7 +24,7 @@ fn seat_of(
     ensures { IfOk result (λ seat. facts_in seat ≡ seat_of report.now (entry_of player.now)) }
 {
     let cells = front(&player.cells, rounds);
-    let played = played(alloc, cells)?;
+    let played = colours_played(alloc, cells)?;
     let opponents = opponents(alloc, cells)?;
     Ok(Seat {
         start: player.start,
@@ -57,9 +57,10 @@ fn seats_in_lines(alloc: Global, report: &Report<'_>) -> Result<Vec<Seat>, Alloc
 
 /// The seats of the present players, by rank.
 pub(crate) fn seats_of(alloc: Global, report: &Report<'_>) -> Result<Vec<Seat>, AllocError>
-    ensures value { IfOk result (λ seats. map facts_in seats.items ≡ ranked (seats_of report.now report.now.players)) }
+    ensures value { IfOk result (λ seats. map facts_in seats.items
+        ≡ seats_by_rank (seats_of report.now report.now.players)) }
     ensures few { IfOk result (λ seats. vec_len seats ≤ MOST_PLAYERS) }
 {
     let seats = seats_in_lines(alloc, report)?;
-    ranked(alloc, seats)
+    seats_by_rank(alloc, seats)
 }

@@ -16,7 +16,7 @@ use Rattle.dutch_player.specs.declared.float.Float.{Float}
 use Rattle.dutch_player.specs.declared.float.Float.TheVariants.{Down}
 use Rattle.dutch_player.specs.declared.fault.FieldFault.{FieldFault}
 use Rattle.dutch_player.specs.declared.fault.FieldFault.TheVariants.{Unfinished, Unsupported, RoundsUnknown, RoundsOver}
-use Rattle.dutch_player.specs.Prelude.{Facts, SeatFacts, ranked, score, played, opponents, may_bye, bars_bye, colour_played, opponent_played, float_between, float_by, float_in, seat_of, seats_of, initial_of, total_of, unsupported, refused, total_for, facts_of}
+use Rattle.dutch_player.specs.Prelude.{Facts, SeatFacts, seats_by_rank, score, colours_played, opponents, may_bye, bars_bye, colour_played, opponent_played, float_between, float_by, float_in, seat_of, seats_of, initial_of, total_of, unsupported, fault_if, total_for, facts_of}
 use Rattle.report_laws.proofs.CellLemmas.{LookAlike, AreAlike, look_alike, sum-alike, kept-alike, reversed-alike, any-alike, last-alike, first-alike, StartAlike, taken-alike}
 
 -- ---- a seat
@@ -64,7 +64,7 @@ abbrev seat_by : Sheet → Entry → ℕ → SeatFacts
 seat_by sheet entry rounds = record {
   start = entry.start;
   score = score sheet.bye (take rounds entry.cells);
-  played = played (take rounds entry.cells);
+  played = colours_played (take rounds entry.cells);
   opponents = opponents (take rounds entry.cells);
   apart = apart_from sheet entry.start;
   latest = float_in sheet (take rounds entry.cells) rounds;
@@ -128,8 +128,8 @@ pub record TellsAlike (old new : Sheet) : Type 0 where
 
 abbrev total_by : Option (ℕ × ℕ) → Option ℕ → Option ℕ → ℕ → Result ℕ FieldFault
 total_by open_game line named rounds =
-    refused (option_map (λ at'. Unfinished at'.0 at'.1) open_game) >>= λ _.
-    refused (option_map (λ n. Unsupported n) line) >>= λ _.
+    fault_if (option_map (λ at'. Unfinished at'.0 at'.1) open_game) >>= λ _.
+    fault_if (option_map (λ n. Unsupported n) line) >>= λ _.
     ok_or named RoundsUnknown >>= λ total.
     cond (nat_lt total (rounds + 1)) (Err RoundsOver) (Ok total)
 
@@ -151,7 +151,7 @@ total-alike old new asked tells =
     named (Some n) = refl
 
 abbrev facts_by : Result ℕ FieldFault → List SeatFacts → ℕ → Colour → Result Facts FieldFault
-facts_by total seats rounds initial = total >>= λ total. Ok (record { seats = ranked seats; round = rounds + 1; total = total; initial = initial })
+facts_by total seats rounds initial = total >>= λ total. Ok (record { seats = seats_by_rank seats; round = rounds + 1; total = total; initial = initial })
 
 facts_is : (sheet : Sheet) (asked : Option ℕ) (initial : Option Colour)
     → facts_of sheet asked initial ≡ facts_by (total_for sheet asked) (seats_of sheet sheet.players) (rounds_played sheet) (initial_of sheet initial)

@@ -26,7 +26,7 @@ use Rattle.trf16_writer.proofs.BoardLemmas.{eq-self, eq-sym}
 use Rattle.trf16_laws.proofs.PairedRound.{named_black, named_head, named_tail}
 use Rattle.trf16_report.proofs.RankLemmas.{ranked_moves}
 use Rattle.dutch_player.specs.declared.fault.FieldFault.{FieldFault}
-use Rattle.dutch_player.specs.Prelude.{Facts, SeatFacts, colour_of_higher, colours, initial_of, no_seat, ranked, seat_at, seats_of, start_ranks, total_for, with_colour}
+use Rattle.dutch_player.specs.Prelude.{Facts, SeatFacts, colour_of_higher, colours, initial_of, no_seat, seats_by_rank, seat_at, seats_of, start_ranks, total_for, with_colour}
 use Rattle.dutch_player.specs.Facts.{facts_of, seat_of}
 use Rattle.dutch_player.specs.Facts as fields
 use Rattle.dutch_player.proofs.PresentLemmas.{field_of}
@@ -106,21 +106,21 @@ scored_all : (sheet : Sheet) (entries : List Entry) → AllByRecursion (λ (e : 
 scored_all sheet [] own = tt
 scored_all sheet (entry ∷ rest) own = scored_at sheet entry (seats_of sheet rest) (absent sheet entry.start) own.0 (scored_all sheet rest own.1)
 
-seats_are : (sheet : Sheet) (asked : Option ℕ) (initial : Option Colour) (facts : Facts) → facts_of sheet asked initial ≡ Ok facts → facts.seats ≡ ranked (seats_of sheet sheet.players)
+seats_are : (sheet : Sheet) (asked : Option ℕ) (initial : Option Colour) (facts : Facts) → facts_of sheet asked initial ≡ Ok facts → facts.seats ≡ seats_by_rank (seats_of sheet sheet.players)
 unfolding facts_of
 seats_are sheet asked initial facts e = by (total_for sheet asked) e
   where
     field : ℕ → Facts
-    field total = record { seats = ranked (seats_of sheet sheet.players); round = rounds_played sheet + 1; total = total; initial = initial_of sheet initial }
+    field total = record { seats = seats_by_rank (seats_of sheet sheet.players); round = rounds_played sheet + 1; total = total; initial = initial_of sheet initial }
 
     same_ok : (x y : Facts) → ◌≡◌ {A = Result Facts FieldFault} (Ok x) (Ok y) → x ≡ y
     same_ok x y e = cc
 
-    by : (r : Result ℕ FieldFault) → (r >>= λ total. Ok (record { seats = ranked (seats_of sheet sheet.players); round = rounds_played sheet + 1; total = total; initial = initial_of sheet initial })) ≡ Ok facts
-        → facts.seats ≡ ranked (seats_of sheet sheet.players)
+    by : (r : Result ℕ FieldFault) → (r >>= λ total. Ok (record { seats = seats_by_rank (seats_of sheet sheet.players); round = rounds_played sheet + 1; total = total; initial = initial_of sheet initial })) ≡ Ok facts
+        → facts.seats ≡ seats_by_rank (seats_of sheet sheet.players)
     by (Ok total) e =
         ap (λ (f : Facts). f.seats)
-        (sym (same_ok (record { seats = ranked (seats_of sheet sheet.players); round = rounds_played sheet + 1; total = total; initial = initial_of sheet initial }) facts e))
+        (sym (same_ok (record { seats = seats_by_rank (seats_of sheet sheet.players); round = rounds_played sheet + 1; total = total; initial = initial_of sheet initial }) facts e))
     by (Err fault) e = absurd (cc)
 
 -- ---- the two orders
@@ -173,7 +173,7 @@ before-bye p q e e' = rw (e, e') refl
 
 -- ---- the boards of a round that is paired
 
-module _ (sheet : Sheet) (facts : Facts) (pairing : Pairing) (own : HasOwnStarts sheet) (field_seats : facts.seats ≡ ranked (seats_of sheet sheet.players))
+module _ (sheet : Sheet) (facts : Facts) (pairing : Pairing) (own : HasOwnStarts sheet) (field_seats : facts.seats ≡ seats_by_rank (seats_of sheet sheet.players))
     (once : IsDistinct nat_eq (start_ranks facts)) (from_one : All (λ start. 0 < start) (start_ranks facts)) where
   abbrev all_boards : List (ℕ × ℕ)
   all_boards = boards facts pairing
@@ -208,7 +208,7 @@ module _ (sheet : Sheet) (facts : Facts) (pairing : Pairing) (own : HasOwnStarts
   all_scored =
       let seats : List SeatFacts = seats_of sheet sheet.players in
       subst (λ (all : List SeatFacts). All (IsScored sheet) all) (sym field_seats)
-      (All-permutation (IsScored sheet) seats (ranked seats) (ranked_moves fields.goes_before seats)
+      (All-permutation (IsScored sheet) seats (seats_by_rank seats) (ranked_moves fields.goes_before seats)
       (All-from_recursion (IsScored sheet) seats (scored_all sheet sheet.players (own_cells sheet.players own.different))))
 
   -- scores before the round are those of the seats
