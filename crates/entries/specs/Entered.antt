@@ -69,16 +69,16 @@ named_alone slot cell = record { first = named_cell slot cell; second = None }
 
 -- the cell of a game of a player who has the colour that another cell says; a game's result wants a colour, and so does a game without one
 -- yet [with entered]
-unfoldable pub coloured : GameOf → Cell → Result Cell EntryFault
-coloured game cell = ok_or (cell_of_game game.opponent game.score (colour_in_cell cell)) (NoColour game.slot.player game.slot.round)
+unfoldable pub cell_by_colour : GameOf → Cell → Result Cell EntryFault
+cell_by_colour game cell = ok_or (cell_of_game game.opponent game.score (colour_in_cell cell)) (NoColour game.slot.player game.slot.round)
 
 -- the cells of a game whose result is entered, or taken away: the opponent gets the other side of it, unless an entry so far names them
 -- [own]
 unfoldable pub game_cells : Sheet → List NewCell → GameOf → Result NewCells EntryFault
 game_cells sheet so_far game = do
-  mine ← coloured game (cell_now sheet so_far game.slot)
+  mine ← cell_by_colour game (cell_now sheet so_far game.slot)
   if is_named so_far (other_game game).slot then Ok (named_alone game.slot mine)
-      else (coloured (other_game game) (cell_now sheet so_far (other_game game).slot)
+      else (cell_by_colour (other_game game) (cell_now sheet so_far (other_game game).slot)
       >>= λ theirs. Ok (record { first = named_cell game.slot mine; second = Some (record { slot = (other_game game).slot; cell = theirs; named = false }) }))
 
 -- the same of the game that the player has in the round, if there is one
@@ -126,8 +126,8 @@ with_new_cells correct sheet so_far new = do
   option_map_or (with_new_cell correct sheet more) new.second (Ok more)
 
 -- the round of an entry, if the report reaches it [with entered]
-unfoldable pub reached : EntryOptions → Sheet → Event → Result ℕ EntryFault
-reached options sheet event =
+unfoldable pub reached_round : EntryOptions → Sheet → Event → Result ℕ EntryFault
+reached_round options sheet event =
     let round = round_of options.round sheet event in
     if is_reached sheet round then Ok round else Err (NotReached round)
 
@@ -135,7 +135,7 @@ reached options sheet event =
 -- the round, and the cells that would be replaced, in this order [own]
 unfoldable pub with_entry : EntryOptions → Sheet → List NewCell → HandEntry → Result (List NewCell) EntryFault
 with_entry options sheet so_far entry = do
-  round ← reached options sheet entry.event
+  round ← reached_round options sheet entry.event
   _ ← are_known sheet entry
   _ ← are_named_once so_far round entry
   new ← cells_by sheet so_far (record { player = entry.player; round = round }) entry.event
@@ -169,23 +169,23 @@ player_resummed bye rounds entry = record entry { points = option_map (λ _. sum
 
 -- a report in which each points field that is not blank is the sum over the rounds that were paired; where games have other points, it stays
 -- as it is [own]
-abbrev pub resummed : Sheet → Sheet
-resummed sheet =
+abbrev pub report_resummed : Sheet → Sheet
+report_resummed sheet =
     if has_other_points sheet then sheet
     else record sheet { players = map (player_resummed sheet.bye (rounds_played sheet)) sheet.players }
 
 -- a report, unless a rule on two players is broken in it
-abbrev pub judged_by : Result (Unit {0}) Fault → Sheet → Result Sheet EntryFault
-judged_by (Ok fits) sheet = Ok sheet
-judged_by (Err fault) sheet = Err (Refused fault)
+abbrev pub report_if : Result (Unit {0}) Fault → Sheet → Result Sheet EntryFault
+report_if (Ok fits) sheet = Ok sheet
+report_if (Err fault) sheet = Err (Refused fault)
 
 -- a report whose cells answer each other, by the rules by which a report is read; its points fields are not compared [with entered]
-abbrev pub judged : Sheet → Result Sheet EntryFault
-judged sheet = judged_by (all_cells_fit sheet sheet.players) sheet
+abbrev pub report_if_cells_fit : Sheet → Result Sheet EntryFault
+report_if_cells_fit sheet = report_if (all_cells_fit sheet sheet.players) sheet
 
 -- the report that comes of some entries: the cells that they name, points that are summed, and all else as it was; or why they are refused
 -- [own]
 unfoldable pub entered : EntryOptions → List HandEntry → Sheet → Result Sheet EntryFault
 entered options entries sheet = do
   all ← with_entries options sheet [] entries
-  judged (resummed (with_new all sheet))
+  report_if_cells_fit (report_resummed (with_new all sheet))

@@ -2,7 +2,7 @@
 ghost use Rattle.std.specs.Prelude.{◌≡◌, ◌<◌, ◌≤◌, [], IfOk, IfSome};
 ghost use Rattle.entries.specs.Outcomes.{Gives};
 ghost use Rattle.entries.specs.Steps.{AreWithin, IsInReport};
-ghost use Rattle.entries.specs.Entered.{is_asked, is_reached, reached, round_of, with_entries, with_entry};
+ghost use Rattle.entries.specs.Entered.{is_asked, is_reached, reached_round, round_of, with_entries, with_entry};
 ghost use Rattle.entries.specs.Entered.{with_new_cell, with_new_cells};
 ghost use Rattle.trf16_report.specs.declared.limits.TheConstants.{MOST_ROUNDS};
 
@@ -43,9 +43,9 @@ fn is_reached(report: &Report<'_>, round: u8) -> bool
 }
 
 // The round of an entry, if the report reaches it.
-#[tactic(auto, unfolding(crate::specs::Entered::reached))]
-fn reached(options: EntryOptions, report: &Report<'_>, event: Event) -> Result<u8, EntryFault>
-    ensures given { Gives (λ x. x) result (reached options report.now event) }
+#[tactic(auto, unfolding(crate::specs::Entered::reached_round))]
+fn reached_round(options: EntryOptions, report: &Report<'_>, event: Event) -> Result<u8, EntryFault>
+    ensures given { Gives (λ x. x) result (reached_round options report.now event) }
     ensures within { IfOk result (λ round. (0 < round) × (round ≤ MOST_ROUNDS)) }
 {
     let round = round_of(options.round, report, event);
@@ -112,7 +112,7 @@ fn put_entry(
     ensures given { Gives (λ _. so_far.new.items) result (with_entry options report.now so_far.old.items entry) }
     ensures all { IfOk result (λ _. AreWithin so_far.new.items) }
 {
-    let round = reached(options, report, entry.event)?;
+    let round = reached_round(options, report, entry.event)?;
     are_known(report, entry)?;
     are_named_once(so_far, round, entry)?;
     let slot = Slot {

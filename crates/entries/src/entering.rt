@@ -2,8 +2,8 @@
 ghost use Rattle.std.specs.Prelude.{◌≡◌, ◌-◌, ◌<◌, ◌≤◌, IfOk, length, map, option_map, sum_by, take};
 ghost use Rattle.std.specs.Map.{keys_of};
 ghost use Rattle.entries.specs.Outcomes.{Gives};
-ghost use Rattle.entries.specs.Entered.{cells_with_new, entered, judged, player_resummed, player_with_new, resummed};
-ghost use Rattle.entries.specs.Entered.{with_new};
+ghost use Rattle.entries.specs.Entered.{cells_with_new, entered, player_resummed, player_with_new};
+ghost use Rattle.entries.specs.Entered.{report_if_cells_fit, report_resummed, with_new};
 ghost use Rattle.entries.specs.Steps.{AreWithin, IsWithin, player_changed};
 ghost use Rattle.trf16_report.specs.Prelude.{entry_of, half_points, rounds_played, with_cell};
 ghost use Rattle.trf16_report.specs.declared.limits.TheConstants.{MOST_ROUNDS};
@@ -161,8 +161,8 @@ fn report_with<'a>(
 }
 
 // A report whose points fields are summed, unless they are blank, or games have other points.
-fn resummed<'a>(alloc: Global, report: Report<'a>) -> Result<Report<'a>, AllocError>
-    ensures { IfOk result (λ found. found ≡ resummed report.entry) }
+fn report_resummed<'a>(alloc: Global, report: Report<'a>) -> Result<Report<'a>, AllocError>
+    ensures { IfOk result (λ found. found ≡ report_resummed report.entry) }
 {
     if report.has_other_points() {
         return Ok(report);
@@ -171,8 +171,8 @@ fn resummed<'a>(alloc: Global, report: Report<'a>) -> Result<Report<'a>, AllocEr
 }
 
 // A report, unless a rule on two players is broken in it.
-fn judged<'a>(report: Report<'a>) -> Result<Report<'a>, EntryFault>
-    ensures { Gives (λ found. found) result (judged report.entry) }
+fn report_if_cells_fit<'a>(report: Report<'a>) -> Result<Report<'a>, EntryFault>
+    ensures { Gives (λ found. found) result (report_if_cells_fit report.entry) }
 {
     match all_cells_fit(&report) {
         Ok(()) => Ok(report),
@@ -203,5 +203,5 @@ pub fn entered<'a>(
 {
     let all = cells_of_all(alloc, options, report, entries)?;
     let with_new = report_with(alloc, report, Change::Cells(&all))?;
-    judged(resummed(alloc, with_new)?)
+    report_if_cells_fit(report_resummed(alloc, with_new)?)
 }

@@ -2,7 +2,7 @@
 ghost use Rattle.std.specs.Prelude.{◌≡◌, ◌<◌, IfOk};
 ghost use Rattle.entries.specs.Outcomes.{Gives};
 ghost use Rattle.entries.specs.Steps.{AreOfRound};
-ghost use Rattle.entries.specs.Entered.{are_known, are_named_once, cells_by, coloured, game_cells, meeting_cells};
+ghost use Rattle.entries.specs.Entered.{are_known, are_named_once, cells_by, cell_by_colour, game_cells, meeting_cells};
 ghost use Rattle.entries.specs.Entered.{named_alone, named_cell, second_of};
 ghost use Rattle.entries.specs.Games.{cell_of_game, cell_with, cell_without, other_game, other_outcome, other_side};
 
@@ -147,9 +147,9 @@ pub(crate) fn are_named_once(
 }
 
 // The cell of a game of a player who has the colour that another cell says.
-#[tactic(auto, unfolding(crate::specs::Entered::coloured))]
-fn coloured(game: GameOf, cell: Cell) -> Result<Cell, EntryFault>
-    ensures { Gives (λ x. x) result (coloured game cell) }
+#[tactic(auto, unfolding(crate::specs::Entered::cell_by_colour))]
+fn cell_by_colour(game: GameOf, cell: Cell) -> Result<Cell, EntryFault>
+    ensures { Gives (λ x. x) result (cell_by_colour game cell) }
 {
     match cell_of_game(game.opponent, game.score, cell.colour()) {
         Some(cell) => Ok(cell),
@@ -188,11 +188,11 @@ fn game_cells(report: &Report<'_>, so_far: &[NewCell], game: GameOf) -> Result<N
     ensures round { IfOk result (AreOfRound game.slot.round) }
 {
     let other = other_game(game);
-    let mine = coloured(game, cell_now(report, so_far, game.slot))?;
+    let mine = cell_by_colour(game, cell_now(report, so_far, game.slot))?;
     if is_named(so_far, other.slot) {
         return Ok(named_alone(game.slot, mine));
     }
-    let theirs = coloured(other, cell_now(report, so_far, other.slot))?;
+    let theirs = cell_by_colour(other, cell_now(report, so_far, other.slot))?;
     Ok(NewCells {
         first: named_cell(game.slot, mine),
         second: Some(NewCell {

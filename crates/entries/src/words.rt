@@ -1,16 +1,15 @@
 // Which words are entries.
 ghost use Rattle.std.specs.Prelude.{◌≡◌, ◌≤◌, drop, length, take};
-ghost use Rattle.entries.specs.Words.{asked_of, behind_digits, digits_of, entry_in, event_in, event_of};
+ghost use Rattle.entries.specs.Words as words;
 ghost use Rattle.entries.specs.declared.entry.GameResult.TheVariants.{Played};
-ghost use Rattle.entries.specs.Words.{marked_in, meeting_in, result_of, score_in, start_in};
 
 use crate::entry::{Event, GameResult, HandEntry};
 use trf16_report::{Bye, GameOutcome, number_of};
 
 // How many digits stand at the front of a word.
 fn digit_count(word: &[u8]) -> usize
-    ensures digits { take result word.now ≡ digits_of word.now }
-    ensures behind { drop result word.now ≡ behind_digits word.now }
+    ensures digits { take result word.now ≡ words.digits_of word.now }
+    ensures behind { drop result word.now ≡ words.behind_digits word.now }
     ensures within { result ≤ length word.now }
 {
     for (i, byte) in word.iter().enumerate() {
@@ -23,15 +22,15 @@ fn digit_count(word: &[u8]) -> usize
 
 // The digits at the front of a word, and what stands behind them.
 fn split_digits(word: &[u8]) -> (&[u8], &[u8])
-    ensures digits { result.0.now ≡ digits_of word.now }
-    ensures behind { result.1.now ≡ behind_digits word.now }
+    ensures digits { result.0.now ≡ words.digits_of word.now }
+    ensures behind { result.1.now ≡ words.behind_digits word.now }
 {
     word.split_at(digit_count(word))
 }
 
 // The start rank that some digits spell.
 fn start_in(digits: &[u8]) -> Option<u16>
-    ensures { result ≡ start_in digits.now }
+    ensures { result ≡ words.start_in digits.now }
 {
     match number_of(digits) {
         None | Some(0) => None,
@@ -41,22 +40,22 @@ fn start_in(digits: &[u8]) -> Option<u16>
 
 // The result that a letter in upper case is.
 fn result_of(letter: u8) -> Option<GameResult>
-    ensures { result ≡ result_of letter }
+    ensures { result ≡ words.result_of letter }
 {
     match letter {
-        b'1' => Some(played(true, GameOutcome::Win)),
-        b'=' => Some(played(true, GameOutcome::Draw)),
-        b'0' => Some(played(true, GameOutcome::Loss)),
-        b'W' => Some(played(false, GameOutcome::Win)),
-        b'D' => Some(played(false, GameOutcome::Draw)),
-        b'L' => Some(played(false, GameOutcome::Loss)),
+        b'1' => Some(result_played(true, GameOutcome::Win)),
+        b'=' => Some(result_played(true, GameOutcome::Draw)),
+        b'0' => Some(result_played(true, GameOutcome::Loss)),
+        b'W' => Some(result_played(false, GameOutcome::Win)),
+        b'D' => Some(result_played(false, GameOutcome::Draw)),
+        b'L' => Some(result_played(false, GameOutcome::Loss)),
         b'+' => Some(GameResult::Forfeited { won: true }),
         b'-' => Some(GameResult::Forfeited { won: false }),
         _ => None,
     }
 }
 
-fn played(rated: bool, got: GameOutcome) -> GameResult
+fn result_played(rated: bool, got: GameOutcome) -> GameResult
     ensures { result ≡ Played rated got }
 {
     GameResult::Played { rated, got }
@@ -64,7 +63,7 @@ fn played(rated: bool, got: GameOutcome) -> GameResult
 
 // The bye that a letter in upper case asks for.
 fn asked_of(letter: u8) -> Option<Bye>
-    ensures { result ≡ asked_of letter }
+    ensures { result ≡ words.asked_of letter }
 {
     match letter {
         b'H' => Some(Bye::Half),
@@ -76,7 +75,7 @@ fn asked_of(letter: u8) -> Option<Bye>
 
 // What a letter in upper case says of a player.
 fn event_of(letter: u8) -> Option<Event>
-    ensures { result ≡ event_of letter }
+    ensures { result ≡ words.event_of letter }
 {
     if let Some(bye) = asked_of(letter) {
         return Some(Event::Asked(bye));
@@ -86,7 +85,7 @@ fn event_of(letter: u8) -> Option<Event>
 
 // What stands behind the colon: nothing, or one letter in either case.
 fn marked_in(mark: &[u8]) -> Option<Event>
-    ensures { result ≡ marked_in mark.now }
+    ensures { result ≡ words.marked_in mark.now }
 {
     match mark {
         [] => Some(Event::NoResult),
@@ -97,7 +96,7 @@ fn marked_in(mark: &[u8]) -> Option<Event>
 
 // The result behind the two players: none, or a colon and one letter in either case.
 fn score_in(rest: &[u8]) -> Option<Option<GameResult>>
-    ensures { result ≡ score_in rest.now }
+    ensures { result ≡ words.score_in rest.now }
 {
     match rest {
         [] => Some(None),
@@ -108,7 +107,7 @@ fn score_in(rest: &[u8]) -> Option<Option<GameResult>>
 
 // What stands behind the dash: 0, or the player with Black and perhaps a result.
 fn meeting_in(other: &[u8]) -> Option<Event>
-    ensures { result ≡ meeting_in other.now }
+    ensures { result ≡ words.meeting_in other.now }
 {
     if other == b"0".as_slice() {
         return Some(Event::Allocated);
@@ -121,7 +120,7 @@ fn meeting_in(other: &[u8]) -> Option<Event>
 
 // What stands behind the player.
 fn event_in(rest: &[u8]) -> Option<Event>
-    ensures { result ≡ event_in rest.now }
+    ensures { result ≡ words.event_in rest.now }
 {
     match rest {
         [b':', mark @ ..] => marked_in(mark),
@@ -134,7 +133,7 @@ fn event_in(rest: &[u8]) -> Option<Event>
 /// `0`, `W`, `D`, `L`, `+` or `-`, or the bye `H`, `F` or `Z`; `W-B`, perhaps with a colon and the letter of a result;
 /// or `W-0`. Letters may have either case. A player is one to four digits, and not 0.
 pub fn entry_in(word: &[u8]) -> Option<HandEntry>
-    ensures { result ≡ entry_in word.now }
+    ensures { result ≡ words.entry_in word.now }
 {
     let (digits, rest) = split_digits(word);
     let player = start_in(digits)?;

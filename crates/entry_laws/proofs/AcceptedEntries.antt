@@ -23,7 +23,7 @@ use Rattle.trf16_laws.proofs.WrittenCells.{is_sound}
 use Rattle.trf16_laws.proofs.WrittenFields.{all_cut, are_small, length_cut, without_last-twice}
 use Rattle.trf16_laws.proofs.WrittenPlayers.{IsSoundEntry}
 use Rattle.trf16_laws.proofs.WrittenReport.{Turns, all_small, are_all_small, are_all_sound, laid_again, laid_is}
-use Rattle.entries.specs.Prelude.{AreWithin, cell_after, cell_in_slot, cell_now, cells_with_new, entered, player_resummed, player_with_new, resummed, same_slot, second_of, with_entries, with_entry, with_new}
+use Rattle.entries.specs.Prelude.{AreWithin, cell_after, cell_in_slot, cell_now, cells_with_new, entered, player_resummed, player_with_new, report_resummed, same_slot, second_of, with_entries, with_entry, with_new}
 use Rattle.entries.specs.declared.entry.EntryOptions.{EntryOptions}
 use Rattle.entries.specs.declared.entry.HandEntry.{HandEntry}
 use Rattle.entries.specs.declared.entry.NewCell.{NewCell}
@@ -244,12 +244,12 @@ map-map f g (x ∷ xs) = ap (λ (ys : List Entry). f (g x) ∷ ys) (map-map f g 
 
 -- the report in which points are summed
 summed_is : (all : List NewCell) (sheet : Sheet) → has_other_points sheet ≡ false
-    → resummed (with_new all sheet) ≡ turned (turn_summed sheet.bye (rounds_played (with_new all sheet)) all) sheet
+    → report_resummed (with_new all sheet) ≡ turned (turn_summed sheet.bye (rounds_played (with_new all sheet)) all) sheet
 summed_is all sheet other =
     rw other (ap (λ (ps : List Entry). record sheet { players = ps }) (map-map (player_resummed sheet.bye (rounds_played (with_new all sheet))) (player_with_new all) sheet.players))
 
 -- the report in which they stay
-unsummed_is : (all : List NewCell) (sheet : Sheet) → has_other_points sheet ≡ true → resummed (with_new all sheet) ≡ turned (player_with_new all) sheet
+unsummed_is : (all : List NewCell) (sheet : Sheet) → has_other_points sheet ≡ true → report_resummed (with_new all sheet) ≡ turned (player_with_new all) sheet
 unsummed_is all sheet other = rw other refl
 
 played_same : (bye rounds : ℕ) (all : List NewCell) (entries : List Entry)

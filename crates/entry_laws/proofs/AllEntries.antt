@@ -10,14 +10,14 @@ use Rattle.trf16_report.specs.Prelude.{AnswerEachOther, Sheet, all_cells_fit, ce
 use Rattle.trf16_report.specs.declared.cell.Cell.{Cell}
 use Rattle.trf16_report.specs.declared.fault.Fault.{Fault}
 use Rattle.trf16_report.specs.declared.limits.TheConstants.{MOST_ROUNDS}
-use Rattle.entries.specs.Prelude.{AreWithin, IsInReport, cell_after, cell_in_slot, cell_now, entered, is_named, is_put, judged, judged_by, player_resummed, resummed, same_slot, second_of, with_entries, with_entry, with_new}
+use Rattle.entries.specs.Prelude.{AreWithin, IsInReport, cell_after, cell_in_slot, cell_now, entered, is_named, is_put, report_if_cells_fit, report_if, player_resummed, report_resummed, same_slot, second_of, with_entries, with_entry, with_new}
 use Rattle.entries.specs.declared.entry.EntryOptions.{EntryOptions}
 use Rattle.entries.specs.declared.entry.HandEntry.{HandEntry}
 use Rattle.entries.specs.declared.entry.NewCell.{NewCell}
 use Rattle.entries.specs.declared.entry.NewCells.{NewCells}
 use Rattle.entries.specs.declared.entry.Slot.{Slot}
 use Rattle.entry_laws.specs.Concerned.{concerns, concerns_slot, is_player}
-use Rattle.entry_laws.proofs.CellsPut.{after-append, after-none, any-append, none-after, players-after, resummed-cells}
+use Rattle.entry_laws.proofs.CellsPut.{after-append, after-none, any-append, none-after, players-after, player_resummed-cells}
 use Rattle.entry_laws.proofs.OneEntry.{EntryIs, IsSecond, entry_is, listed, same_ok, then_ok}
 
 pub or_none : (a b : Bool) → (a || b) ≡ false → (a ≡ false) × (b ≡ false)
@@ -200,27 +200,27 @@ all_within options sheet so_far all (entry ∷ rest) e within =
 pub record IsEntered (options : EntryOptions) (entries : List HandEntry) (sheet new : Sheet) : Type 0 where
   pub all : List NewCell
   pub put : with_entries options sheet [] entries ≡ Ok all
-  pub is : resummed (with_new all sheet) ≡ new
+  pub is : report_resummed (with_new all sheet) ≡ new
   pub fit : all_cells_fit new new.players ≡ Ok (tt {0})
 
 pub entered_is : (options : EntryOptions) (entries : List HandEntry) (sheet new : Sheet) → entered options entries sheet ≡ Ok new → IsEntered options entries sheet new
 unfolding entered
 entered_is options entries sheet new e =
-    let one = then_ok (with_entries options sheet [] entries) (λ all. judged (resummed (with_new all sheet))) new e in
-    let made = resummed (with_new one.0 sheet) in
+    let one = then_ok (with_entries options sheet [] entries) (λ all. report_if_cells_fit (report_resummed (with_new all sheet))) new e in
+    let made = report_resummed (with_new one.0 sheet) in
     let two = by made (all_cells_fit made made.players) refl one.2 in
     record { all = one.0; put = one.1; is = two.0; fit = subst (λ (s : Sheet). all_cells_fit s s.players ≡ Ok (tt {0})) two.0 two.1 }
   where
-    by : (made : Sheet) (r : Result (Unit {0}) Fault) → all_cells_fit made made.players ≡ r → judged_by r made ≡ Ok new → (made ≡ new) × (all_cells_fit made made.players ≡ Ok (tt {0}))
+    by : (made : Sheet) (r : Result (Unit {0}) Fault) → all_cells_fit made made.players ≡ r → report_if r made ≡ Ok new → (made ≡ new) × (all_cells_fit made made.players ≡ Ok (tt {0}))
     by made (Ok fits) is e = (same_ok made new e, is)
     by made (Err fault) is e = absurd (cc)
 
-pub resummed-cell : (sheet : Sheet) (start round : ℕ) → cell_in (resummed sheet) start round ≡ cell_in sheet start round
-resummed-cell sheet start round = by (has_other_points sheet)
+pub report_resummed-cell : (sheet : Sheet) (start round : ℕ) → cell_in (report_resummed sheet) start round ≡ cell_in sheet start round
+report_resummed-cell sheet start round = by (has_other_points sheet)
   where
     by : (other : Bool) → cell_in (cond other sheet (record sheet { players = map (player_resummed sheet.bye (rounds_played sheet)) sheet.players })) start round ≡ cell_in sheet start round
     by true = refl
-    by false = ap (λ (cells : List Cell). cell_at cells round) (resummed-cells sheet.bye (rounds_played sheet) start sheet.players)
+    by false = ap (λ (cells : List Cell). cell_at cells round) (player_resummed-cells sheet.bye (rounds_played sheet) start sheet.players)
 
 with_new-cell : (all : List NewCell) (sheet : Sheet) (slot : Slot) → AreWithin all → 0 < slot.round → is_put all slot ≡ false
     → cell_in_slot (with_new all sheet) slot ≡ cell_in_slot sheet slot
@@ -236,4 +236,4 @@ unconcerned options entries sheet new slot answered e some other =
     let i = entered_is options entries sheet new e in
     let within = all_within options sheet [] i.all entries i.put tt in
     let none = all_none options sheet [] i.all entries slot answered i.put (none_so_far sheet) other refl in
-    ap (λ (s : Sheet). cell_in_slot s slot) (sym i.is) ∙ resummed-cell (with_new i.all sheet) slot.player slot.round ∙ with_new-cell i.all sheet slot within some none
+    ap (λ (s : Sheet). cell_in_slot s slot) (sym i.is) ∙ report_resummed-cell (with_new i.all sheet) slot.player slot.round ∙ with_new-cell i.all sheet slot within some none

@@ -101,9 +101,9 @@ none-after all (entry ∷ entries) start none = by (entry.start == start) none (
     by false none later = later none
 
 -- points do not tell
-pub resummed-cells : (bye rounds start : ℕ) (entries : List Entry) → cells_of (map (player_resummed bye rounds) entries) start ≡ cells_of entries start
-resummed-cells bye rounds start [] = refl
-resummed-cells bye rounds start (entry ∷ entries) = ap (λ (cells : List Cell). cond (entry.start == start) entry.cells cells) (resummed-cells bye rounds start entries)
+pub player_resummed-cells : (bye rounds start : ℕ) (entries : List Entry) → cells_of (map (player_resummed bye rounds) entries) start ≡ cells_of entries start
+player_resummed-cells bye rounds start [] = refl
+player_resummed-cells bye rounds start (entry ∷ entries) = ap (λ (cells : List Cell). cond (entry.start == start) entry.cells cells) (player_resummed-cells bye rounds start entries)
 
 -- cells that are put behind others
 pub after-append : (xs ys : List NewCell) (slot : Slot) (cell : Cell) → cell_after (xs ++ ys) slot cell ≡ cell_after ys slot (cell_after xs slot cell)

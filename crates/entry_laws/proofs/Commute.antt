@@ -13,7 +13,7 @@ use Rattle.trf16_report.specs.Prelude.{AnswerEachOther, Entry, Sheet, cell_at, c
 use Rattle.trf16_report.specs.declared.cell.Cell.{Cell}
 use Rattle.trf16_report.specs.declared.cell.Cell.TheVariants.{Blank}
 use Rattle.trf16_writer.proofs.BoardLemmas.{eq-self}
-use Rattle.entries.specs.Prelude.{AreWithin, are_named_once, asked_cells, cell_after, cell_in_slot, cell_now, cells_by, cells_with_new, coloured, entered, game_cells, is_named, is_put, judged, may_be_put, named_alone, named_cell, other_game, own_cells, player_with_new, resummed, same_cell, same_slot, second_of, with_entries, with_entry, with_new, with_new_cell, with_new_cells}
+use Rattle.entries.specs.Prelude.{AreWithin, are_named_once, asked_cells, cell_after, cell_in_slot, cell_now, cells_by, cells_with_new, cell_by_colour, entered, game_cells, is_named, is_put, report_if_cells_fit, may_be_put, named_alone, named_cell, other_game, own_cells, player_with_new, report_resummed, same_cell, same_slot, second_of, with_entries, with_entry, with_new, with_new_cell, with_new_cells}
 use Rattle.entries.specs.declared.entry.EntryOptions.{EntryOptions}
 use Rattle.entries.specs.declared.entry.Event.{Event}
 use Rattle.entries.specs.declared.entry.Event.TheVariants.{Scores, NoResult, Asked, Meets, Allocated}
@@ -74,8 +74,8 @@ game_same sheet xs ys game mine theirs =
   where
     made : Cell → Bool → Cell → Result NewCells EntryFault
     made a b c =
-        coloured game a >>= λ mine. cond b (Ok (named_alone game.slot mine))
-        (coloured (other_game game) c >>= λ theirs. Ok (record { first = named_cell game.slot mine; second = Some (record { slot = (other_game game).slot; cell = theirs; named = false }) }))
+        cell_by_colour game a >>= λ mine. cond b (Ok (named_alone game.slot mine))
+        (cell_by_colour (other_game game) c >>= λ theirs. Ok (record { first = named_cell game.slot mine; second = Some (record { slot = (other_game game).slot; cell = theirs; named = false }) }))
 
 -- whom the player of a slot meets there
 abbrev MetAgree : Sheet → List NewCell → List NewCell → Slot → Type 0
@@ -323,11 +323,11 @@ pub commute : (options : EntryOptions) (sheet new : Sheet) (a b : HandEntry) →
     → entered options (b ∷ a ∷ []) sheet ≡ Ok new
 unfolding entered
 commute options sheet new a b answered apart e =
-    let one = then_ok (with_entries options sheet [] (a ∷ b ∷ [])) (λ all. judged (resummed (with_new all sheet))) new e in
+    let one = then_ok (with_entries options sheet [] (a ∷ b ∷ [])) (λ all. report_if_cells_fit (report_resummed (with_new all sheet))) new e in
     let s = swapped options sheet one.0 a b answered apart one.1 in
     let all : s.first ++ s.second ≡ one.0 = same_ok (s.first ++ s.second) one.0 (sym s.one_way ∙ one.1) in
     let same : with_new (s.second ++ s.first) sheet ≡ with_new (s.first ++ s.second) sheet =
     ap (λ (ps : List Entry). record sheet { players = ps }) (sym (players_swap s.first s.second sheet.players s.apart s.within s.within_other)) in
-    ap (λ (r : Result (List NewCell) EntryFault). r >>= λ cells. judged (resummed (with_new cells sheet))) s.other_way
-    ∙ ap (λ (made : Sheet). judged (resummed made)) same
-    ∙ ap (λ (cells : List NewCell). judged (resummed (with_new cells sheet))) all ∙ one.2
+    ap (λ (r : Result (List NewCell) EntryFault). r >>= λ cells. report_if_cells_fit (report_resummed (with_new cells sheet))) s.other_way
+    ∙ ap (λ (made : Sheet). report_if_cells_fit (report_resummed made)) same
+    ∙ ap (λ (cells : List NewCell). report_if_cells_fit (report_resummed (with_new cells sheet))) all ∙ one.2

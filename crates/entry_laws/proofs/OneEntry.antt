@@ -11,7 +11,7 @@ use Rattle.trf16_report.specs.declared.cell.Bye.TheVariants.{Allocated as Alloca
 use Rattle.trf16_report.specs.declared.cell.Cell.{Cell}
 use Rattle.trf16_report.specs.declared.cell.Cell.TheVariants.{Blank, Bye, Forfeit}
 use Rattle.trf16_report.specs.declared.limits.TheConstants.{MOST_ROUNDS}
-use Rattle.entries.specs.Prelude.{are_known, are_named_once, asked_cells, cell_now, cell_of_game, cell_with, cell_without, cells_by, coloured, game_cells, is_named, is_reached, may_be_put, meeting_cells, named_alone, named_cell, other_game, own_cells, reached, round_of, second_of, with_entry, with_new_cell, with_new_cells}
+use Rattle.entries.specs.Prelude.{are_known, are_named_once, asked_cells, cell_now, cell_of_game, cell_with, cell_without, cells_by, cell_by_colour, game_cells, is_named, is_reached, may_be_put, meeting_cells, named_alone, named_cell, other_game, own_cells, reached_round, round_of, second_of, with_entry, with_new_cell, with_new_cells}
 use Rattle.entries.specs.declared.entry.EntryOptions.{EntryOptions}
 use Rattle.entries.specs.declared.entry.Event.{Event}
 use Rattle.entries.specs.declared.entry.Event.TheVariants.{Scores, NoResult, Asked, Meets, Allocated}
@@ -61,9 +61,9 @@ game_opponent opponent score (Some colour) cell e =
     let same : cell_with opponent score colour ≡ cell = cc in
     ap opponent_in_cell (sym same) ∙ with_opponent opponent score colour
 
-pub coloured_opponent : (game : GameOf) (old cell : Cell) → coloured game old ≡ Ok cell → opponent_in_cell cell ≡ Some game.opponent
-unfolding coloured
-coloured_opponent game old cell e = by (cell_of_game game.opponent game.score (colour_in_cell old)) refl e
+pub cell_by_colour-opponent : (game : GameOf) (old cell : Cell) → cell_by_colour game old ≡ Ok cell → opponent_in_cell cell ≡ Some game.opponent
+unfolding cell_by_colour
+cell_by_colour-opponent game old cell e = by (cell_of_game game.opponent game.score (colour_in_cell old)) refl e
   where
     by : (o : Option Cell) → cell_of_game game.opponent game.score (colour_in_cell old) ≡ o → ok_or o (NoColour game.slot.player game.slot.round) ≡ Ok cell
         → opponent_in_cell cell ≡ Some game.opponent
@@ -87,9 +87,9 @@ game_colour opponent score (Some colour) cell e =
     ap colour_in_cell (sym same) ∙ with_colour opponent score colour
 
 -- the colour is that of the cell that stood there
-pub coloured_colour : (game : GameOf) (old cell : Cell) → coloured game old ≡ Ok cell → colour_in_cell cell ≡ colour_in_cell old
-unfolding coloured
-coloured_colour game old cell e = by (cell_of_game game.opponent game.score (colour_in_cell old)) refl e
+pub cell_by_colour-colour : (game : GameOf) (old cell : Cell) → cell_by_colour game old ≡ Ok cell → colour_in_cell cell ≡ colour_in_cell old
+unfolding cell_by_colour
+cell_by_colour-colour game old cell e = by (cell_of_game game.opponent game.score (colour_in_cell old)) refl e
   where
     by : (o : Option Cell) → cell_of_game game.opponent game.score (colour_in_cell old) ≡ o → ok_or o (NoColour game.slot.player game.slot.round) ≡ Ok cell
         → colour_in_cell cell ≡ colour_in_cell old
@@ -97,9 +97,9 @@ coloured_colour game old cell e = by (cell_of_game game.opponent game.score (col
     by (Some found) is e = game_colour game.opponent game.score (colour_in_cell old) cell (is ∙ ap (λ (c : Cell). Some c) (same_ok found cell e))
 
 -- of the cell that stood there the colour alone is used
-pub coloured_alike : (game : GameOf) (old other : Cell) → colour_in_cell old ≡ colour_in_cell other → coloured game old ≡ coloured game other
-unfolding coloured
-coloured_alike game old other e = ap (λ c. ok_or (cell_of_game game.opponent game.score c) (NoColour game.slot.player game.slot.round)) e
+pub cell_by_colour-alike : (game : GameOf) (old other : Cell) → colour_in_cell old ≡ colour_in_cell other → cell_by_colour game old ≡ cell_by_colour game other
+unfolding cell_by_colour
+cell_by_colour-alike game old other e = ap (λ c. ok_or (cell_of_game game.opponent game.score c) (NoColour game.slot.player game.slot.round)) e
 
 -- ---- what an entry puts
 
@@ -147,20 +147,20 @@ unfolding game_cells
 game_put sheet so_far game event new meets e =
     let other = other_game game in
     let both : Cell → Cell → NewCells = λ mine theirs. record { first = named_cell game.slot mine; second = Some (record { slot = other.slot; cell = theirs; named = false }) } in
-    let later : Cell → Result NewCells EntryFault = λ mine. coloured other (cell_now sheet so_far other.slot) >>= λ theirs. Ok (both mine theirs) in
-    let one = then_ok (coloured game (cell_now sheet so_far game.slot)) (λ mine. cond (is_named so_far other.slot) (Ok (named_alone game.slot mine)) (later mine)) new e in
-    by both (is_named so_far other.slot) one.0 (coloured_opponent game (cell_now sheet so_far game.slot) one.0 one.1) (λ mine theirs. refl) one.2
+    let later : Cell → Result NewCells EntryFault = λ mine. cell_by_colour other (cell_now sheet so_far other.slot) >>= λ theirs. Ok (both mine theirs) in
+    let one = then_ok (cell_by_colour game (cell_now sheet so_far game.slot)) (λ mine. cond (is_named so_far other.slot) (Ok (named_alone game.slot mine)) (later mine)) new e in
+    by both (is_named so_far other.slot) one.0 (cell_by_colour-opponent game (cell_now sheet so_far game.slot) one.0 one.1) (λ mine theirs. refl) one.2
   where
     by : (both : Cell → Cell → NewCells) (b : Bool) (mine : Cell) → opponent_in_cell mine ≡ Some game.opponent
         → ((mine theirs : Cell) → both mine theirs ≡ record { first = named_cell game.slot mine; second = Some (record { slot = (other_game game).slot; cell = theirs; named = false }) })
-        → cond b (Ok (named_alone game.slot mine)) (coloured (other_game game) (cell_now sheet so_far (other_game game).slot) >>= λ theirs. Ok (both mine theirs)) ≡ Ok new
+        → cond b (Ok (named_alone game.slot mine)) (cell_by_colour (other_game game) (cell_now sheet so_far (other_game game).slot) >>= λ theirs. Ok (both mine theirs)) ≡ Ok new
         → IsPut sheet so_far game.slot event new
     by both true mine names are e =
         alone_put sheet so_far game.slot event mine new (λ Q there. if_some (opponent_in_cell mine) game.opponent Q names (of_some (opponent_in_cell (cell_now sheet so_far game.slot)) game.opponent Q meets there))
         (same_ok (named_alone game.slot mine) new e)
     by both false mine names are e =
-        let two = then_ok (coloured (other_game game) (cell_now sheet so_far (other_game game).slot)) (λ theirs. Ok (both mine theirs)) new e in
-        let back : opponent_in_cell two.0 ≡ Some game.slot.player = coloured_opponent (other_game game) (cell_now sheet so_far (other_game game).slot) two.0 two.1 in
+        let two = then_ok (cell_by_colour (other_game game) (cell_now sheet so_far (other_game game).slot)) (λ theirs. Ok (both mine theirs)) new e in
+        let back : opponent_in_cell two.0 ≡ Some game.slot.player = cell_by_colour-opponent (other_game game) (cell_now sheet so_far (other_game game).slot) two.0 two.1 in
         subst (IsPut sheet so_far game.slot event) (sym (are mine two.0) ∙ same_ok (both mine two.0) new two.2) (record {
           first = refl;
           named = refl;
@@ -238,7 +238,7 @@ pub record EntryIs (options : EntryOptions) (sheet : Sheet) (so_far : List NewCe
   pub second_known : IfSome (second_of entry.event) (λ black. known sheet black ≡ true)
   pub once : is_named so_far (record { player = entry.player; round = round }) ≡ false
   pub new : NewCells
-  pub reached_ok : reached options sheet entry.event ≡ Ok round
+  pub reached_ok : reached_round options sheet entry.event ≡ Ok round
   pub known_ok : are_known sheet entry ≡ Ok (tt {0})
   pub once_ok : are_named_once so_far round entry ≡ Ok (tt {0})
   pub put_ok : with_new_cells options.correct sheet so_far new ≡ Ok more
@@ -248,13 +248,13 @@ pub record EntryIs (options : EntryOptions) (sheet : Sheet) (so_far : List NewCe
 
 pub entry_is : (options : EntryOptions) (sheet : Sheet) (so_far more : List NewCell) (entry : HandEntry) → with_entry options sheet so_far entry ≡ Ok more
     → EntryIs options sheet so_far entry more
-unfolding with_entry reached are_known are_named_once
+unfolding with_entry reached_round are_known are_named_once
 entry_is options sheet so_far more entry e =
     let slot_at : ℕ → Slot = λ round. record { player = entry.player; round = round } in
     let put : NewCells → Result (List NewCell) EntryFault = λ new. with_new_cells options.correct sheet so_far new in
     let cells : ℕ → Result (List NewCell) EntryFault = λ round. cells_by sheet so_far (slot_at round) entry.event >>= put in
     let once : ℕ → Result (List NewCell) EntryFault = λ round. are_named_once so_far round entry >>= λ _. cells round in
-    let one = then_ok (reached options sheet entry.event) (λ round. are_known sheet entry >>= λ _. once round) more e in
+    let one = then_ok (reached_round options sheet entry.event) (λ round. are_known sheet entry >>= λ _. once round) more e in
     let two = then_ok (are_known sheet entry) (λ _. once one.0) more one.2 in
     let three = then_ok (are_named_once so_far one.0 entry) (λ _. cells one.0) more two.2 in
     let four = then_ok (cells_by sheet so_far (slot_at one.0) entry.event) put more three.2 in
@@ -278,7 +278,7 @@ entry_is options sheet so_far more entry e =
       more_is = put_all options.correct sheet so_far more four.0 four.2;
     }
   where
-    reached_is : (round : ℕ) → reached options sheet entry.event ≡ Ok round → (round_of options.round sheet entry.event ≡ round) × (0 < round) × (round ≤ MOST_ROUNDS)
+    reached_is : (round : ℕ) → reached_round options sheet entry.event ≡ Ok round → (round_of options.round sheet entry.event ≡ round) × (0 < round) × (round ≤ MOST_ROUNDS)
     reached_is round e =
         let asked = round_of options.round sheet entry.event in
         let p = passed (is_reached sheet asked) asked round (NotReached asked) e in

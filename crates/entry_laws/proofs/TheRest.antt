@@ -1,7 +1,7 @@
 -- What entries leave as it is beside cells and points.
 use Rattle.std.proofs.Common.{◌≡◌, ℕ, Bool, true, false, cond, List, [], ◌∷◌, map, Ok, refl, ap, ◌∙◌, subst}
 use Rattle.trf16_report.specs.Prelude.{Entry, Sheet, has_other_points, rounds_played}
-use Rattle.entries.specs.Prelude.{entered, player_resummed, player_with_new, resummed, with_new}
+use Rattle.entries.specs.Prelude.{entered, player_resummed, player_with_new, report_resummed, with_new}
 use Rattle.entries.specs.declared.entry.EntryOptions.{EntryOptions}
 use Rattle.entries.specs.declared.entry.HandEntry.{HandEntry}
 use Rattle.entries.specs.declared.entry.NewCell.{NewCell}
@@ -16,7 +16,7 @@ summed-fronts : (bye rounds : ℕ) (entries : List Entry) → map front_of (map 
 summed-fronts bye rounds [] = refl
 summed-fronts bye rounds (entry ∷ entries) = ap (λ (fronts : List Entry). front_of entry ∷ fronts) (summed-fronts bye rounds entries)
 
-kept : (all : List NewCell) (sheet : Sheet) → KeepsRest sheet (resummed (with_new all sheet))
+kept : (all : List NewCell) (sheet : Sheet) → KeepsRest sheet (report_resummed (with_new all sheet))
 kept all sheet = by (has_other_points (with_new all sheet))
   where
     by : (other : Bool)

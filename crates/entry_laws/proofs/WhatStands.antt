@@ -10,7 +10,7 @@ use Rattle.std.proofs.lemmas.Bool.{eq-eqb, eqb-true, true≢false}
 use Rattle.trf16_report.specs.Outcomes.{◌>>=◌}
 use Rattle.trf16_report.specs.Prelude.{Sheet, cell_at, colour_in_cell, known, opponent_in_cell}
 use Rattle.trf16_report.specs.declared.cell.Cell.{Cell}
-use Rattle.entries.specs.Prelude.{AreWithin, cell_in_slot, cell_now, cells_by, coloured, entered, game_cells, is_named, named_alone, named_cell, other_game, own_cells, same_slot, with_entries, with_entry, with_new}
+use Rattle.entries.specs.Prelude.{AreWithin, cell_in_slot, cell_now, cells_by, cell_by_colour, entered, game_cells, is_named, named_alone, named_cell, other_game, own_cells, same_slot, with_entries, with_entry, with_new}
 use Rattle.entries.specs.declared.entry.EntryOptions.{EntryOptions}
 use Rattle.entries.specs.declared.entry.GameOf.{GameOf}
 use Rattle.entries.specs.declared.entry.HandEntry.{HandEntry}
@@ -20,9 +20,9 @@ use Rattle.entries.specs.declared.entry.Slot.{Slot}
 use Rattle.entries.specs.declared.fault.EntryFault.{EntryFault}
 use Rattle.entries.specs.declared.fault.EntryFault.TheVariants.{NoGame}
 use Rattle.entry_laws.specs.Standing.{HasOwnEntry, SaysWhatStands, Stands, has_entry, slot_of}
-use Rattle.entry_laws.proofs.AllEntries.{all_within, entered_is, resummed-cell, slot_is}
+use Rattle.entry_laws.proofs.AllEntries.{all_within, entered_is, report_resummed-cell, slot_is}
 use Rattle.entry_laws.proofs.CellsPut.{after-append, any-append, none-after, players-after}
-use Rattle.entry_laws.proofs.OneEntry.{coloured_alike, coloured_colour, coloured_opponent, entry_is, listed, same_ok, then_ok}
+use Rattle.entry_laws.proofs.OneEntry.{cell_by_colour-alike, cell_by_colour-colour, cell_by_colour-opponent, entry_is, listed, same_ok, then_ok}
 
 -- what holds of a slot holds of one that is the same
 moved : (P : Slot → Type 0) (a b : Slot) → same_slot a b ≡ true → P a → P b
@@ -153,7 +153,7 @@ other_between options sheet entries so_far rest new like is b = record {
 record AreOfGame (sheet : Sheet) (so_far : List NewCell) (game : GameOf) (new : NewCells) : Type 0 where
   first : new.first ≡ named_cell game.slot (cell_in_slot sheet game.slot)
   second : (new.second ≡ None) ⊎ ((his : Cell) × (is_named so_far (other_game game).slot ≡ false)
-      × (coloured (other_game game) (cell_now sheet so_far (other_game game).slot) ≡ Ok his)
+      × (cell_by_colour (other_game game) (cell_now sheet so_far (other_game game).slot) ≡ Ok his)
       × (new.second ≡ Some (record { slot = (other_game game).slot; cell = his; named = false })))
 
 of_game : (sheet : Sheet) (so_far : List NewCell) (game : GameOf) (new : NewCells) → colour_in_cell (cell_now sheet so_far game.slot) ≡ colour_in_cell (cell_in_slot sheet game.slot)
@@ -162,20 +162,20 @@ unfolding game_cells
 of_game sheet so_far game new like mine e =
     let other = other_game game in
     let both : Cell → Cell → NewCells = λ own his. record { first = named_cell game.slot own; second = Some (record { slot = other.slot; cell = his; named = false }) } in
-    let later : Cell → Result NewCells EntryFault = λ own. coloured other (cell_now sheet so_far other.slot) >>= λ his. Ok (both own his) in
-    let one = then_ok (coloured game (cell_now sheet so_far game.slot)) (λ own. cond (is_named so_far other.slot) (Ok (named_alone game.slot own)) (later own)) new e in
+    let later : Cell → Result NewCells EntryFault = λ own. cell_by_colour other (cell_now sheet so_far other.slot) >>= λ his. Ok (both own his) in
+    let one = then_ok (cell_by_colour game (cell_now sheet so_far game.slot)) (λ own. cond (is_named so_far other.slot) (Ok (named_alone game.slot own)) (later own)) new e in
     let own : one.0 ≡ cell_in_slot sheet game.slot =
-    same_ok one.0 (cell_in_slot sheet game.slot) (sym one.1 ∙ coloured_alike game (cell_now sheet so_far game.slot) (cell_in_slot sheet game.slot) like ∙ mine) in
+    same_ok one.0 (cell_in_slot sheet game.slot) (sym one.1 ∙ cell_by_colour-alike game (cell_now sheet so_far game.slot) (cell_in_slot sheet game.slot) like ∙ mine) in
     by both (is_named so_far other.slot) refl one.0 own (λ own his. refl) one.2
   where
     by : (both : Cell → Cell → NewCells) (b : Bool) → is_named so_far (other_game game).slot ≡ b → (own : Cell) → own ≡ cell_in_slot sheet game.slot
         → ((own his : Cell) → both own his ≡ record { first = named_cell game.slot own; second = Some (record { slot = (other_game game).slot; cell = his; named = false }) })
-        → cond b (Ok (named_alone game.slot own)) (coloured (other_game game) (cell_now sheet so_far (other_game game).slot) >>= λ his. Ok (both own his)) ≡ Ok new
+        → cond b (Ok (named_alone game.slot own)) (cell_by_colour (other_game game) (cell_now sheet so_far (other_game game).slot) >>= λ his. Ok (both own his)) ≡ Ok new
         → AreOfGame sheet so_far game new
     by both true is own here are e =
         subst (AreOfGame sheet so_far game) (same_ok (named_alone game.slot own) new e) (record { first = ap (named_cell game.slot) here; second = inl refl })
     by both false is own here are e =
-        let two = then_ok (coloured (other_game game) (cell_now sheet so_far (other_game game).slot)) (λ his. Ok (both own his)) new e in
+        let two = then_ok (cell_by_colour (other_game game) (cell_now sheet so_far (other_game game).slot)) (λ his. Ok (both own his)) new e in
         subst (AreOfGame sheet so_far game) (sym (are own two.0) ∙ same_ok (both own two.0) new two.2) (record { first = ap (named_cell game.slot) here; second = inr (two.0, is, two.1, refl) })
 
 -- one entry
@@ -185,7 +185,7 @@ between_more : (options : EntryOptions) (sheet : Sheet) (entries : List HandEntr
 between_more options sheet entries so_far more entry rest e says b =
     let i = entry_is options sheet so_far more entry e in
     let meets : opponent_in_cell (cell_now sheet so_far at) ≡ Some says.opponent =
-    (b.alike at).opponent ∙ coloured_opponent game (cell_in_slot sheet at) (cell_in_slot sheet at) says.mine in
+    (b.alike at).opponent ∙ cell_by_colour-opponent game (cell_in_slot sheet at) (cell_in_slot sheet at) says.mine in
     let cells : own_cells sheet so_far at (Some says.score) (Err (NoGame at.player at.round)) ≡ Ok i.new =
     ap (cells_by sheet so_far at) (sym says.event) ∙ subst (λ r. cells_by sheet so_far (record { player = entry.player; round = r }) entry.event ≡ Ok i.new) (sym i.is) i.cells in
     let played : game_cells sheet so_far game ≡ Ok i.new =
@@ -216,16 +216,16 @@ between_more options sheet entries so_far more entry rest e says b =
         apart true e = absurd (true≢false (sym (swapped says.opponent at.player e) ∙ has.another))
         apart false e = ap (λ h. h && (at.round == at.round)) e
 
-    second_is : (his : Cell) → is_named so_far other.slot ≡ false → coloured other (cell_now sheet so_far other.slot) ≡ Ok his
+    second_is : (his : Cell) → is_named so_far other.slot ≡ false → cell_by_colour other (cell_now sheet so_far other.slot) ≡ Ok his
         → Between options sheet entries ((so_far ++ named_cell at (cell_in_slot sheet at) ∷ []) ++ record { slot = other.slot; cell = his; named = false } ∷ []) rest
     second_is his free put =
         let like : colour_in_cell his ≡ colour_in_cell (cell_in_slot sheet other.slot) =
-        coloured_colour other (cell_now sheet so_far other.slot) his put ∙ (b.alike other.slot).colour in
-        let names : opponent_in_cell his ≡ Some at.player = coloured_opponent other (cell_now sheet so_far other.slot) his put in
+        cell_by_colour-colour other (cell_now sheet so_far other.slot) his put ∙ (b.alike other.slot).colour in
+        let names : opponent_in_cell his ≡ Some at.player = cell_by_colour-opponent other (cell_now sheet so_far other.slot) his put in
         elim says.theirs [
           | inl stands ↦
               let same : his ≡ cell_in_slot sheet other.slot =
-              same_ok his (cell_in_slot sheet other.slot) (sym put ∙ coloured_alike other (cell_now sheet so_far other.slot) (cell_in_slot sheet other.slot) (b.alike other.slot).colour ∙ stands) in
+              same_ok his (cell_in_slot sheet other.slot) (sym put ∙ cell_by_colour-alike other (cell_now sheet so_far other.slot) (cell_in_slot sheet other.slot) (b.alike other.slot).colour ∙ stands) in
               other_between options sheet entries (so_far ++ named_cell at (cell_in_slot sheet at) ∷ []) rest (record { slot = other.slot; cell = his; named = false })
               (alike_same his (cell_in_slot sheet other.slot) same) (inl same) own
           | inr has ↦
@@ -236,7 +236,7 @@ between_more options sheet entries so_far more entry rest e says b =
     by : (new : NewCells) → AreOfGame sheet so_far game new → Between options sheet entries (so_far ++ listed new) rest
     by new are = subst (λ (first : NewCell). Between options sheet entries (so_far ++ first ∷ option_map_or (λ second. second ∷ []) new.second []) rest) (sym are.first) (behind new.second are.second)
       where
-        behind : (second : Option NewCell) → (second ≡ None) ⊎ ((his : Cell) × (is_named so_far other.slot ≡ false) × (coloured other (cell_now sheet so_far other.slot) ≡ Ok his)
+        behind : (second : Option NewCell) → (second ≡ None) ⊎ ((his : Cell) × (is_named so_far other.slot ≡ false) × (cell_by_colour other (cell_now sheet so_far other.slot) ≡ Ok his)
             × (second ≡ Some (record { slot = other.slot; cell = his; named = false })))
             → Between options sheet entries (so_far ++ named_cell at (cell_in_slot sheet at) ∷ option_map_or (λ second. second ∷ []) second []) rest
         behind second is = elim is [
@@ -283,4 +283,4 @@ unchanged options entries sheet new slot e some says =
       ahead = λ slot there. inr there;
     } in
     let same = stands_now options sheet entries i.all slot (all_between options sheet entries [] i.all entries i.put says start) in
-    ap (λ (s : Sheet). cell_in_slot s slot) (sym i.is) ∙ resummed-cell (with_new i.all sheet) slot.player slot.round ∙ with_new-same i.all sheet slot within some same
+    ap (λ (s : Sheet). cell_in_slot s slot) (sym i.is) ∙ report_resummed-cell (with_new i.all sheet) slot.player slot.round ∙ with_new-same i.all sheet slot within some same

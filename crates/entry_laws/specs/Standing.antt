@@ -2,7 +2,7 @@
 use Rattle.std.specs.Prelude.{◌≡◌, ◌⊎◌, ℕ, Bool, true, false, ◌==◌, List, Some, Ok}
 use Rattle.std.specs.List.{list_any}
 use Rattle.trf16_report.specs.Prelude.{Sheet, opponent_in_cell}
-use Rattle.entries.specs.Prelude.{cell_in_slot, coloured, other_game, round_of, same_slot}
+use Rattle.entries.specs.Prelude.{cell_in_slot, cell_by_colour, other_game, round_of, same_slot}
 use Rattle.entries.specs.declared.entry.EntryOptions.{EntryOptions}
 use Rattle.entries.specs.declared.entry.Event.TheVariants.{Scores}
 use Rattle.entries.specs.declared.entry.GameOf.{GameOf}
@@ -20,7 +20,7 @@ has_entry options sheet entries slot = list_any (λ entry. same_slot (slot_of op
 
 -- the cell of a game's player, with the colour that it says, is that of the game [with SaysWhatStands]
 abbrev pub Stands : Sheet → GameOf → Type 0
-Stands sheet game = coloured game (cell_in_slot sheet game.slot) ≡ Ok (cell_in_slot sheet game.slot)
+Stands sheet game = cell_by_colour game (cell_in_slot sheet game.slot) ≡ Ok (cell_in_slot sheet game.slot)
 
 -- the opponent is somebody else, whose cell names the player, and one of some entries is the opponent's own [with SaysWhatStands]
 pub record HasOwnEntry (options : EntryOptions) (sheet : Sheet) (entries : List HandEntry) (game : GameOf) : Type 0 where
