@@ -11,7 +11,7 @@ pub use Rattle.replies.specs.NoteTexts.{identity_text, kind_text, line_front, no
 unfoldable pub use Rattle.replies.specs.NoteTexts.{closing_text, front_text, other_kinds, round_note_text}
 pub use Rattle.replies.specs.RefusalNoteTexts.{cell_shown, cells_note, cells_text, extension_note, found, held_text, kind_or, line_in_bytes, line_note, order_text, points_note, refusal_note, repeated_note, unmarked_note, wanted_text, with_note}
 unfoldable pub use Rattle.replies.specs.RefusalNoteTexts.{bytes_text, columns_text, extension_text, front_of_answer, front_of_cell, repeated_text, sums_text, unfinished_text, zero_text}
-pub use Rattle.replies.specs.ReportAnswers.{check_answer, format_answer, format_verdict, formatted, if_judged, ranked_answer, size_text, written_answer}
+pub use Rattle.replies.specs.ReportAnswers.{check_answer, format_answer, format_verdict, formatted, if_standings, ranked_answer, size_text, written_answer}
 pub use Rattle.replies.specs.StandingsTexts.{rows_text, values_text}
 unfoldable pub use Rattle.replies.specs.StandingsTexts.{row_text}
 pub use Rattle.replies.specs.Tables.{LabelFacts, gap, labels_text, left, padded, padded_by, right, table_text, widest, width, width_in, widths}

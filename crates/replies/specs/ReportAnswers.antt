@@ -4,7 +4,7 @@ use Rattle.std.specs.Option.{option_map_or}
 use Rattle.ranks.specs.Prelude.{with_ranks}
 use Rattle.report_notes.specs.Notes.{notes_of}
 use Rattle.requests.specs.declared.options.FormatOptions.{FormatOptions}
-use Rattle.tables.specs.Prelude.{judged}
+use Rattle.tables.specs.Prelude.{has_standings}
 use Rattle.tables.specs.declared.fault.TieFault.{TieFault}
 use Rattle.tables.specs.declared.key.Key.{Key}
 use Rattle.trf16_report.specs.Prelude.{Sheet, first_unread, renumbered, rounds_played, summed, verdict_unsummed, verdict, written}
@@ -34,15 +34,15 @@ formatted false sheet = sheet
 formatted true sheet = summed sheet
 
 -- a text, unless there are no standings
-abbrev pub if_judged : Result (Unit {0}) TieFault → List ℕ → Answer
-if_judged (Ok x) text = done text
-if_judged (Err fault) text = tie_refusal fault
+abbrev pub if_standings : Result (Unit {0}) TieFault → List ℕ → Answer
+if_standings (Ok x) text = done text
+if_standings (Err fault) text = tie_refusal fault
 
 -- a report in canonical columns that was made of another one; with `--ranks` (some keys) with its players' places, unless the other has no
 -- standings [with format_answer]
 abbrev pub ranked_answer : Option (List Key) → Sheet → Sheet → Answer
 ranked_answer None sheet made = done (written made)
-ranked_answer (Some keys) sheet made = if_judged (judged sheet) (written (with_ranks keys made))
+ranked_answer (Some keys) sheet made = if_standings (has_standings sheet) (written (with_ranks keys made))
 
 -- a report in canonical columns as it is, or with `--renumber` (true) with new start ranks; a line that names players in a way that is not
 -- read keeps it from that [with format_answer]

@@ -13,7 +13,7 @@ use common_texts::Page;
 use ranks::{ranked_text, renumbered_ranked_text};
 use requests::{FormatOptions, Keys};
 use std::alloc::{AllocError, Global};
-use tables::judged;
+use tables::has_standings;
 use trf16_report::{Counted, Failed, Report};
 use trf16_writer::{first_unread, renumbered_text, summed, write};
 
@@ -102,7 +102,7 @@ fn with_own_ranks(
 fn with_places(alloc: Global, keys: &Keys, report: &Report<'_>) -> Result<Reply, AllocError>
     ensures { IfOk result (λ reply. answer_of reply ≡ ranked_answer (Some keys.now) report.now report.now) }
 {
-    match judged(report) {
+    match has_standings(report) {
         Ok(()) => Ok(done_with(ranked_text(alloc, report, keys.as_slice())?)),
         Err(fault) => has_no_standings(alloc, fault),
     }
@@ -134,7 +134,7 @@ fn with_new_ranks_and_places(
     ensures { IfOk result (λ reply. answer_of reply
         ≡ ranked_answer (Some keys.now) report.now (renumbered report.now)) }
 {
-    match judged(report) {
+    match has_standings(report) {
         Ok(()) => Ok(done_with(renumbered_ranked_text(alloc, report, keys.as_slice())?)),
         Err(fault) => has_no_standings(alloc, fault),
     }

@@ -14,7 +14,7 @@ use Rattle.trf16_report.specs.Prelude.{AnswerEachOther, Entry, HasOwnStarts, IsA
 use Rattle.trf16_laws.proofs.MeetingLemmas.{answered}
 use Rattle.trf16_writer.proofs.StartRanks.{own_starts}
 use Rattle.report_laws.specs.EachOnOne.{EachOnOne, has, is_bye_of, is_of}
-use Rattle.tables.specs.Prelude.{board_at, board_by, boards_of, colour_by, colour_in, ranks_above, score_before, seated}
+use Rattle.tables.specs.Prelude.{board_at, board_by, boards_of, colour_by, colour_in, ranks_above, score_before, with_colour}
 use Rattle.tables.specs.Boards.{board_of_bye, board_of_two}
 use Rattle.tables.specs.declared.board.RankedBoard.{RankedBoard}
 use Rattle.report_laws.proofs.BoardCounts.{passes, count_one, count_nothing}
@@ -80,17 +80,17 @@ above_other f a b apart = grind (arith, nat_tests)
 
 -- ---- a board, whoever has white
 
-has-seated : (a high low : ℕ) (colour : Colour) → has a (seated high low colour) ≡ ((high == a) || (low == a))
-has-seated a high low White = refl
-has-seated a high low Black = or-swap (low == a) (high == a)
+has-with_colour : (a high low : ℕ) (colour : Colour) → has a (with_colour high low colour) ≡ ((high == a) || (low == a))
+has-with_colour a high low White = refl
+has-with_colour a high low Black = or-swap (low == a) (high == a)
 
-of-seated : (a b high low : ℕ) (colour : Colour) → is_of a b (seated high low colour) ≡ (((high == a) && (low == b)) || ((high == b) && (low == a)))
-of-seated a b high low White = refl
-of-seated a b high low Black = both-swap (low == a) (high == b) (low == b) (high == a)
+of-with_colour : (a b high low : ℕ) (colour : Colour) → is_of a b (with_colour high low colour) ≡ (((high == a) && (low == b)) || ((high == b) && (low == a)))
+of-with_colour a b high low White = refl
+of-with_colour a b high low Black = both-swap (low == a) (high == b) (low == b) (high == a)
 
-bye-seated : (a high low : ℕ) (colour : Colour) → (high ≡ a → ⊥) → (low ≡ a → ⊥) → is_bye_of a (seated high low colour) ≡ false
-bye-seated a high low White apart apart' = rw (differ high a apart) refl
-bye-seated a high low Black apart apart' = rw (differ low a apart') refl
+bye-with_colour : (a high low : ℕ) (colour : Colour) → (high ≡ a → ⊥) → (low ≡ a → ⊥) → is_bye_of a (with_colour high low colour) ≡ false
+bye-with_colour a high low White apart apart' = rw (differ high a apart) refl
+bye-with_colour a high low Black apart apart' = rw (differ low a apart') refl
 
 named-paired : (cell : Cell) (opponent : ℕ) → opponent_in_cell cell ≡ Some opponent → is_paired cell ≡ true
 named-paired Blank opponent e = absurd (cc)
@@ -167,7 +167,7 @@ module _ (sheet : Sheet) (round : ℕ) (more : 0 < round) (own : HasOwnStarts sh
   colour : ℕ → ℕ → Colour
   colour start opponent = colour_by (colour_in sheet round start) (colour_in sheet round opponent)
 
-  board-two : (start opponent : ℕ) → (board_of_two sheet round start opponent).board ≡ seated start opponent (colour start opponent)
+  board-two : (start opponent : ℕ) → (board_of_two sheet round start opponent).board ≡ with_colour start opponent (colour start opponent)
   unfolding board_of_two colour
   board-two start opponent = refl
 
@@ -255,7 +255,7 @@ module _ (sheet : Sheet) (round : ℕ) (more : 0 < round) (own : HasOwnStarts sh
         | inl meets ↦
             let o = meets.0 in
             ap (passes (has a)) meets.2
-            ∙ (passes-lower (has a) s o ((s == a) || (o == a)) (ap (has a) (board-two s o) ∙ has-seated a s o (colour s o))
+            ∙ (passes-lower (has a) s o ((s == a) || (o == a)) (ap (has a) (board-two s o) ∙ has-with_colour a s o (colour s o))
             ∙ host-has a b s o (above a b) (above b a) (above s o) apart (at-a s o meets.1) (at-b s o meets.1) (back-a s o meets.1) other_way)
         | inr idle ↦
             let not_a = idle-differs s a idle.0 (named-paired (cell a) b named) in
@@ -274,7 +274,7 @@ module _ (sheet : Sheet) (round : ℕ) (more : 0 < round) (own : HasOwnStarts sh
         | inl meets ↦
             let o = meets.0 in
             ap (passes (is_of a b)) meets.2
-            ∙ (passes-lower (is_of a b) s o (((s == a) && (o == b)) || ((s == b) && (o == a))) (ap (is_of a b) (board-two s o) ∙ of-seated a b s o (colour s o))
+            ∙ (passes-lower (is_of a b) s o (((s == a) && (o == b)) || ((s == b) && (o == a))) (ap (is_of a b) (board-two s o) ∙ of-with_colour a b s o (colour s o))
             ∙ host-of a b s o (above a b) (above b a) (above s o) apart (at-a s o meets.1) (at-b s o meets.1) other_way)
         | inr idle ↦
             let not_a = idle-differs s a idle.0 (named-paired (cell a) b named) in
@@ -314,7 +314,7 @@ module _ (sheet : Sheet) (round : ℕ) (more : 0 < round) (own : HasOwnStarts sh
             let tells = differ s a (not_bye s o meets.1) in
             let tells' = differ o a (not_met s o meets.1) in
             ap (passes (has a)) meets.2
-            ∙ (passes-lower (has a) s o false (ap (has a) (board-two s o) ∙ has-seated a s o (colour s o) ∙ rw (tells, tells') refl)
+            ∙ (passes-lower (has a) s o false (ap (has a) (board-two s o) ∙ has-with_colour a s o (colour s o) ∙ rw (tells, tells') refl)
             ∙ (and-no (above s o) ∙ sym tells))
         | inr idle ↦ ap (passes (has a)) idle.1 ∙ sym (differ s a (idle-differs s a idle.0 (ap is_paired bye)))
       ]
@@ -329,7 +329,7 @@ module _ (sheet : Sheet) (round : ℕ) (more : 0 < round) (own : HasOwnStarts sh
             let tells = differ s a (not_bye s o meets.1) in
             ap (passes (is_bye_of a)) meets.2
             ∙ (passes-lower (is_bye_of a) s o false
-            (ap (is_bye_of a) (board-two s o) ∙ bye-seated a s o (colour s o) (not_bye s o meets.1) (not_met s o meets.1)) ∙ (and-no (above s o) ∙ sym tells))
+            (ap (is_bye_of a) (board-two s o) ∙ bye-with_colour a s o (colour s o) (not_bye s o meets.1) (not_met s o meets.1)) ∙ (and-no (above s o) ∙ sym tells))
         | inr idle ↦ ap (passes (is_bye_of a)) idle.1 ∙ sym (differ s a (idle-differs s a idle.0 (ap is_paired bye)))
       ]
     ]
@@ -353,7 +353,7 @@ module _ (sheet : Sheet) (round : ℕ) (more : 0 < round) (own : HasOwnStarts sh
             let tells' : o ≡ a → ⊥ = λ same. idle-differs a o idle (named-paired (cell o) s (answer s o meets.1).both_ways) (sym same) in
             ap (passes (has a)) meets.2
             ∙ (passes-lower (has a) s o false
-            (ap (has a) (board-two s o) ∙ has-seated a s o (colour s o) ∙ rw (differ s a tells, differ o a tells') refl) ∙ and-no (above s o))
+            (ap (has a) (board-two s o) ∙ has-with_colour a s o (colour s o) ∙ rw (differ s a tells, differ o a tells') refl) ∙ and-no (above s o))
         | inr other ↦ ap (passes (has a)) other.1
       ]
     ]

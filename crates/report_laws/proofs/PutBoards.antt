@@ -26,7 +26,7 @@ use Rattle.trf16_laws.proofs.PairedRound.{cells-here, named_black, named_head, n
 use Rattle.trf16_report.proofs.RankLemmas.{ranked_moves, ranked_ranks}
 use Rattle.trf16_writer.proofs.RoundLemmas.{starts-with}
 use Rattle.tables.specs.declared.board.RankedBoard.{RankedBoard}
-use Rattle.tables.specs.Prelude.{board_at, board_by, boards_of, boards_unordered, colour_by, colour_in, board_goes_before, place_cmp, ranks_above, score_before, seated}
+use Rattle.tables.specs.Prelude.{board_at, board_by, boards_of, boards_unordered, colour_by, colour_in, board_goes_before, place_cmp, ranks_above, score_before, with_colour}
 use Rattle.tables.specs.Boards.{board_of_bye, board_of_two}
 use Rattle.report_laws.proofs.HostLemmas.{above_other, first-above}
 use Rattle.report_laws.proofs.BoardOrders.{In, IsStrict, in-made, in-map, in-ranked, made-in, map-in, ranked-in, same_list, strict_from}
@@ -437,8 +437,8 @@ module _ (sheet : Sheet) (boards : List (ℕ × ℕ)) (own : HasOwnStarts sheet)
       by : (t : Bool) → (board.1 == 0) ≡ t → (u : Bool)
           → (cond t (board_of_bye put round board.0) (cond u (board_of_two put round board.0 board.1) (board_of_two put round board.1 board.0))).board ≡ board
       by true e u = ap (λ n. (board.0, n)) (sym (eqb-true board.1 0 e))
-      by false e true = ap (seated board.0 board.1) (white_colour e)
-      by false e false = ap (seated board.1 board.0) (black_colour e)
+      by false e true = ap (with_colour board.0 board.1) (white_colour e)
+      by false e false = ap (with_colour board.1 board.0) (black_colour e)
 
   abbrev made : Entry → Option RankedBoard
   made entry = board_at put round entry.start

@@ -4,7 +4,7 @@ use Rattle.std.specs.Prelude.{max}
 use Rattle.std.specs.Option.{option_map_or}
 use Rattle.tables.specs.declared.fault.TieFault.{TieFault}
 use Rattle.tables.specs.declared.key.Key.{Key}
-use Rattle.tables.specs.Prelude.{RowFacts, judged, rows_of, standings_of}
+use Rattle.tables.specs.Prelude.{RowFacts, has_standings, rows_of, standings_of}
 use Rattle.tables.proofs.SameGames.{HasSameGames, rows_same}
 use Rattle.trf16_report.specs.Outcomes.{◌>>=◌}
 use Rattle.trf16_report.specs.declared.cell.Cell.{Cell}
@@ -41,16 +41,16 @@ same_games rows sheet = record {
   bye = refl;
 }
 
-judged_kept : (rows : List RowFacts) (sheet : Sheet) → judged (with_places rows sheet) ≡ judged sheet
-unfolding judged
-judged_kept rows sheet = rw (unfinished_kept rows sheet.players) refl
+has_standings_kept : (rows : List RowFacts) (sheet : Sheet) → has_standings (with_places rows sheet) ≡ has_standings sheet
+unfolding has_standings
+has_standings_kept rows sheet = rw (unfinished_kept rows sheet.players) refl
 
 pub standings_kept : (sheet : Sheet) (keys other : List Key) → standings_of (with_ranks keys sheet) other ≡ standings_of sheet other
 unfolding standings_of
 standings_kept sheet keys other =
     let ranked = with_ranks keys sheet in
-    ap (λ (first : Result (Unit {0}) TieFault). first >>= (λ _. Ok (rows_of ranked other))) (judged_kept (rows_of sheet keys) sheet)
-    ∙ ap (λ (rows : List RowFacts). judged sheet >>= (λ _. Ok rows)) (rows_same ranked sheet (same_games (rows_of sheet keys) sheet) other)
+    ap (λ (first : Result (Unit {0}) TieFault). first >>= (λ _. Ok (rows_of ranked other))) (has_standings_kept (rows_of sheet keys) sheet)
+    ∙ ap (λ (rows : List RowFacts). has_standings sheet >>= (λ _. Ok rows)) (rows_same ranked sheet (same_games (rows_of sheet keys) sheet) other)
 
 pub ranked_twice : (sheet : Sheet) (keys : List Key) → with_ranks keys (with_ranks keys sheet) ≡ with_ranks keys sheet
 ranked_twice sheet keys =

@@ -5,7 +5,7 @@ use Rattle.std.proofs.lemmas.List.Elements.{All-map}
 use Rattle.std.proofs.lemmas.List.Sorted.{All-permutation}
 use Rattle.trf16_report.specs.Prelude.{Sheet}
 use Rattle.tables.specs.declared.key.Key.{Key}
-use Rattle.tables.specs.Prelude.{RowFacts, value_of, row_goes_before, ranked, row_of, with_value, with_key, with_keys, judged, standings_of}
+use Rattle.tables.specs.Prelude.{RowFacts, value_of, row_goes_before, rows_in_order, row_of, with_value, with_key, with_keys, has_standings, standings_of}
 use Rattle.report_laws.specs.Standings.{HasEachKey}
 use Rattle.trf16_report.proofs.RankLemmas.{ranked_moves}
 use Rattle.report_laws.proofs.StandingRows.{rows-given}
@@ -30,14 +30,14 @@ have-keys sheet (key ∷ rest) rows n m e have =
 have-none : (sheet : Sheet) → Have 0 (map (row_of sheet) sheet.players)
 have-none sheet = All-map (λ (row : RowFacts). length row.values ≡ 0) (row_of sheet) sheet.players (λ k d lt. refl)
 
-have-all : (sheet : Sheet) (keys : List Key) → Have (length keys) (ranked (with_keys sheet keys (map (row_of sheet) sheet.players)))
+have-all : (sheet : Sheet) (keys : List Key) → Have (length keys) (rows_in_order (with_keys sheet keys (map (row_of sheet) sheet.players)))
 have-all sheet keys =
     let rows = with_keys sheet keys (map (row_of sheet) sheet.players) in
-    All-permutation (λ (row : RowFacts). length row.values ≡ length keys) rows (ranked rows) (ranked_moves row_goes_before rows)
+    All-permutation (λ (row : RowFacts). length row.values ≡ length keys) rows (rows_in_order rows) (ranked_moves row_goes_before rows)
     (have-keys sheet keys (map (row_of sheet) sheet.players) 0 (length keys) (omega arith) (have-none sheet))
 
 pub has_each_key : (sheet : Sheet) (keys : List Key) → HasEachKey sheet keys
 unfolding standings_of
 has_each_key sheet keys rows e =
-    let all = ranked (with_keys sheet keys (map (row_of sheet) sheet.players)) in
-    subst (λ (given : List RowFacts). Have (length keys) given) (rows-given all rows (judged sheet) e) (have-all sheet keys)
+    let all = rows_in_order (with_keys sheet keys (map (row_of sheet) sheet.players)) in
+    subst (λ (given : List RowFacts). Have (length keys) given) (rows-given all rows (has_standings sheet) e) (have-all sheet keys)

@@ -5,7 +5,7 @@ use Rattle.std.proofs.lemmas.List.Sorted.{IsPermutation-map}
 use Rattle.trf16_report.specs.Prelude.{Entry, Sheet}
 use Rattle.tables.specs.declared.key.Key.{Key}
 use Rattle.tables.specs.declared.fault.TieFault.{TieFault}
-use Rattle.tables.specs.Prelude.{RowFacts, value_of, row_goes_before, ranked, row_of, with_value, with_key, with_keys, judged, standings_of}
+use Rattle.tables.specs.Prelude.{RowFacts, value_of, row_goes_before, rows_in_order, row_of, with_value, with_key, with_keys, has_standings, standings_of}
 use Rattle.report_laws.specs.Standings.{HasEachOnce}
 use Rattle.trf16_report.proofs.RankLemmas.{ranked_moves}
 use Rattle.trf16_report.specs.Outcomes.{◌>>=◌}
@@ -25,14 +25,14 @@ starts-row_of : (sheet : Sheet) (players : List Entry) → starts (map (row_of s
 starts-row_of sheet [] = refl
 starts-row_of sheet (entry ∷ rest) = ap (λ others. entry.start ∷ others) (starts-row_of sheet rest)
 
-starts-ranked : (all : List RowFacts) → IsPermutation (starts all) (starts (ranked all))
-starts-ranked all = IsPermutation-map (λ row. row.start) all (ranked all) (ranked_moves row_goes_before all)
+starts-ranked : (all : List RowFacts) → IsPermutation (starts all) (starts (rows_in_order all))
+starts-ranked all = IsPermutation-map (λ row. row.start) all (rows_in_order all) (ranked_moves row_goes_before all)
 
-starts-all : (sheet : Sheet) (keys : List Key) → IsPermutation (map (λ entry. entry.start) sheet.players) (starts (ranked (with_keys sheet keys (map (row_of sheet) sheet.players))))
+starts-all : (sheet : Sheet) (keys : List Key) → IsPermutation (map (λ entry. entry.start) sheet.players) (starts (rows_in_order (with_keys sheet keys (map (row_of sheet) sheet.players))))
 starts-all sheet keys =
     let rows = with_keys sheet keys (map (row_of sheet) sheet.players) in
     let same : starts rows ≡ map (λ entry. entry.start) sheet.players = starts-with_keys sheet keys (map (row_of sheet) sheet.players) ∙ starts-row_of sheet sheet.players in
-    subst (λ (before : List ℕ). IsPermutation before (starts (ranked rows))) same (starts-ranked rows)
+    subst (λ (before : List ℕ). IsPermutation before (starts (rows_in_order rows))) same (starts-ranked rows)
 
 -- if a call gives rows, they are those of the definition
 pub rows-given : (all rows : List RowFacts) (first : Result (Unit {0}) TieFault) → (first >>= (λ _. Ok all)) ≡ Ok rows → all ≡ rows
@@ -42,5 +42,5 @@ rows-given all rows (Err fault) e = cc
 pub has_each_once : (sheet : Sheet) (keys : List Key) → HasEachOnce sheet keys
 unfolding standings_of
 has_each_once sheet keys rows e =
-    let all = ranked (with_keys sheet keys (map (row_of sheet) sheet.players)) in
-    subst (λ (given : List RowFacts). IsPermutation (map (λ entry. entry.start) sheet.players) (starts given)) (rows-given all rows (judged sheet) e) (starts-all sheet keys)
+    let all = rows_in_order (with_keys sheet keys (map (row_of sheet) sheet.players)) in
+    subst (λ (given : List RowFacts). IsPermutation (map (λ entry. entry.start) sheet.players) (starts given)) (rows-given all rows (has_standings sheet) e) (starts-all sheet keys)

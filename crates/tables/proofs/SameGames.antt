@@ -8,7 +8,7 @@ use Rattle.trf16_report.specs.declared.cell.Cell.TheVariants.{Blank, Bye, Game, 
 use Rattle.trf16_report.specs.Prelude.{Entry, Sheet, cell_at, cell_in, cells_of, half_points, points_upto, rounds_played, starts_of}
 use Rattle.tables.specs.declared.key.Key.{Key}
 use Rattle.tables.specs.declared.key.Key.TheVariants.{Direct, Buchholz, SonnebornBerger}
-use Rattle.tables.specs.Prelude.{RowFacts, buchholz, direct_in, group_of, have_all_met, have_met, is_game_with, opponent_score, points_against, points_among, ranked, rounds_of, row_of, rows_of, score, score_met, sonneborn_berger, value_of, virtual_score, with_key, with_keys, with_value}
+use Rattle.tables.specs.Prelude.{RowFacts, buchholz, direct_in, group_of, have_all_met, have_met, is_game_with, opponent_score, points_against, points_among, rows_in_order, rounds_of, row_of, rows_of, score, score_met, sonneborn_berger, value_of, virtual_score, with_key, with_keys, with_value}
 
 -- the players of two reports have the same start ranks and cells
 pub record HasSameGames (s t : Sheet) : Type 0 where
@@ -113,4 +113,4 @@ module _ (s t : Sheet) (same : HasSameGames s t) where
 
   pub rows_same : (keys : List Key) → rows_of s keys ≡ rows_of t keys
   rows_same keys =
-      ap ranked (ap (with_keys s keys) first_same ∙ keys_same keys (map (row_of t) t.players))
+      ap rows_in_order (ap (with_keys s keys) first_same ∙ keys_same keys (map (row_of t) t.players))

@@ -20,9 +20,9 @@ colour_by None (Some White) = Black
 colour_by own other = White
 
 -- white and black, where the higher ranked of two players has a colour
-abbrev pub seated : ℕ → ℕ → Colour → ℕ × ℕ
-seated high low White = (high, low)
-seated high low Black = (low, high)
+abbrev pub with_colour : ℕ → ℕ → Colour → ℕ × ℕ
+with_colour high low White = (high, low)
+with_colour high low Black = (low, high)
 
 -- the order of two boards: two players go before a bye, then the higher score of the higher ranked player, then the higher sum of both
 -- scores, then the smaller start rank of that player [own]
@@ -51,7 +51,7 @@ module _ (sheet : Sheet) (round : ℕ) where
   -- the board of two players, the higher ranked first
   unfoldable pub board_of_two : ℕ → ℕ → RankedBoard
   board_of_two high low = record {
-    board = seated high low (colour_by (colour_in high) (colour_in low));
+    board = with_colour high low (colour_by (colour_in high) (colour_in low));
     has_bye = false;
     score = score_before high;
     both_scores = score_before high + score_before low;

@@ -40,8 +40,8 @@ abbrev pub row_goes_before : RowFacts → RowFacts → Bool
 row_goes_before a b = is_lt (row_cmp a b)
 
 -- rows in order
-abbrev pub ranked : List RowFacts → List RowFacts
-ranked = ranked_by row_goes_before
+abbrev pub rows_in_order : List RowFacts → List RowFacts
+rows_in_order = ranked_by row_goes_before
 
 -- no row goes before one that stands in front of it [with row_cmp]
 abbrev pub IsRanked : List RowFacts → Type 0
@@ -56,23 +56,23 @@ abbrev pub row_at : List RowFacts → ℕ → RowFacts
 row_at rows place = slice_index_or rows place no_row
 
 -- a fault, if its cause is there
-abbrev pub refused : Option TieFault → Result (Unit {0}) TieFault
-refused None = Ok tt
-refused (Some fault) = Err fault
+abbrev pub fault_if : Option TieFault → Result (Unit {0}) TieFault
+fault_if None = Ok tt
+fault_if (Some fault) = Err fault
 
 -- why there are no standings: a game without a result, or a line XXS, which gives games other points; the first of these [with
 -- standings_of]
-unfoldable pub judged : Sheet → Result (Unit {0}) TieFault
-judged sheet = do
-  _ ← refused (option_map (λ at'. Unfinished at'.0 at'.1) (unfinished sheet))
-  refused (option_map (λ line. Unsupported line) (first_of (Xxs ∷ []) sheet))
+unfoldable pub has_standings : Sheet → Result (Unit {0}) TieFault
+has_standings sheet = do
+  _ ← fault_if (option_map (λ at'. Unfinished at'.0 at'.1) (unfinished sheet))
+  fault_if (option_map (λ line. Unsupported line) (first_of (Xxs ∷ []) sheet))
 
 -- the rows of all players in order, with the values of the keys [with standings_of]
 abbrev pub rows_of : Sheet → List Key → List RowFacts
-rows_of sheet keys = ranked (with_keys sheet keys (map (row_of sheet) sheet.players))
+rows_of sheet keys = rows_in_order (with_keys sheet keys (map (row_of sheet) sheet.players))
 
 -- the rows of all players in order, with the values of the keys, or why there are none [own]
 unfoldable pub standings_of : Sheet → List Key → Result (List RowFacts) TieFault
 standings_of sheet keys = do
-  _ ← judged sheet
+  _ ← has_standings sheet
   Ok (rows_of sheet keys)

@@ -1,9 +1,9 @@
 // The boards of a round, from the cells of its players.
 ghost use Rattle.std.specs.Prelude.{◌≡◌, ◌<◌, IfOk};
 ghost use Rattle.tables.specs.Boards.{board_at, board_of_bye, board_of_two, boards_of, boards_unordered};
-ghost use Rattle.tables.specs.Boards.{colour_by, colour_in, board_goes_before, ranks_above, score_before, seated};
+ghost use Rattle.tables.specs.Boards.{colour_by, colour_in, board_goes_before, ranks_above, score_before, with_colour};
 
-use crate::ranking::{Placed, ranked};
+use crate::ranking::{Placed, all_in_order};
 use std::alloc::{AllocError, Global};
 use trf16_report::{Bye, Cell, Colour, Report};
 
@@ -48,7 +48,7 @@ pub fn boards_of(alloc: Global, report: &Report<'_>, round: u8) -> Result<Vec<Bo
     requires { 0 < round }
     ensures { IfOk result (λ boards. boards.items ≡ boards_of report.now round) }
 {
-    let in_order = ranked(alloc, boards_unordered(alloc, report, round)?)?;
+    let in_order = all_in_order(alloc, boards_unordered(alloc, report, round)?)?;
     in_order.iter().map(|ranked| ranked.board).collect(alloc)
 }
 
@@ -133,7 +133,7 @@ fn board_of_two(report: &Report<'_>, round: u8, high: u16, low: u16) -> RankedBo
         colour_in(report, round, low),
     );
     RankedBoard {
-        board: seated(high, low, colour),
+        board: with_colour(high, low, colour),
         has_bye: false,
         score,
         both_scores: u32::from(score) + u32::from(score_before(report, round, low)),
@@ -161,8 +161,8 @@ fn colour_by(own: Option<Colour>, other: Option<Colour>) -> Colour
 }
 
 // White and black, where the higher ranked of two players has a colour.
-fn seated(high: u16, low: u16, colour: Colour) -> Board
-    ensures { result ≡ seated high low colour }
+fn with_colour(high: u16, low: u16, colour: Colour) -> Board
+    ensures { result ≡ with_colour high low colour }
 {
     match colour {
         Colour::White => (high, low),

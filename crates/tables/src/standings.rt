@@ -6,8 +6,8 @@ ghost use Rattle.tables.specs.Standings.{row_of, with_key, with_keys, IsRanked, 
 use crate::fault::TieFault;
 use crate::key::Key;
 use crate::keys::{SoFar, value_of};
-use crate::ranking::ranked;
-use crate::refusals::judged;
+use crate::ranking::all_in_order;
+use crate::refusals::has_standings;
 use crate::row::Row;
 use std::alloc::{AllocError, Global};
 use std::marker::Model;
@@ -89,7 +89,7 @@ fn with_keys(alloc: Global, report: &Report<'_>, keys: &[Key]) -> Result<Vec<Row
 pub fn table(alloc: Global, report: &Report<'_>, keys: &[Key]) -> Result<Standings, TieFault>
     ensures { Gives result (standings_of report.now keys.now) }
 {
-    judged(report)?;
+    has_standings(report)?;
     Ok(rows_of(alloc, report, keys)?)
 }
 
@@ -102,6 +102,6 @@ pub fn rows_of(alloc: Global, report: &Report<'_>, keys: &[Key]) -> Result<Stand
     ensures { IfOk result (λ standings. standings ≡ rows_of report.now keys.now) }
 {
     let rows = with_keys(alloc, report, keys)?;
-    let rows = ranked(alloc, rows)?;
+    let rows = all_in_order(alloc, rows)?;
     Ok(Standings { rows })
 }
