@@ -8,9 +8,9 @@ unfoldable pub halves_text : ℕ → List ℕ
 halves_text halves = decimal (halves / 2) ++ (if halves % 2 == 0 then codes ".0" else codes ".5")
 
 -- a name as it is shown: a question mark in place of each control character, and a dash where it is blank [with without_controls]
-abbrev pub shown : List ℕ → List ℕ
-shown [] = codes "-"
-shown (first ∷ rest) = without_controls (first ∷ rest)
+abbrev pub name_or_dash : List ℕ → List ℕ
+name_or_dash [] = codes "-"
+name_or_dash (first ∷ rest) = without_controls (first ∷ rest)
 
 -- the steps of a bracket reached the limit before it was decided [own]
 abbrev pub undecided_text : ℕ → ℕ → List ℕ

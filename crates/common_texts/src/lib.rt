@@ -14,7 +14,7 @@ mod too_few_steps;
 pub use cells::{RoundOf, result_mark};
 pub use controls::{put_without_controls, without_controls};
 pub use key_values::KeyValue;
-pub use names::shown;
+pub use names::name_or_dash;
 pub use page::Page;
 pub use points::HalfPoints;
 pub use too_few_steps::{put_undecided, put_undecided_words};

@@ -1,6 +1,6 @@
 // Names as text.
 ghost use Rattle.std.specs.Prelude.{◌≡◌, IfOk};
-ghost use Rattle.common_texts.specs.Texts.{shown};
+ghost use Rattle.common_texts.specs.Texts.{name_or_dash};
 
 use crate::controls::without_controls;
 use std::alloc::{AllocError, Global};
@@ -9,8 +9,8 @@ use std::alloc::{AllocError, Global};
 ///
 /// # Errors
 /// Memory was refused.
-pub fn shown(alloc: Global, name: &[u8]) -> Result<Vec<u8>, AllocError>
-    ensures { IfOk result (λ text. text.items ≡ shown name.now) }
+pub fn name_or_dash(alloc: Global, name: &[u8]) -> Result<Vec<u8>, AllocError>
+    ensures { IfOk result (λ text. text.items ≡ name_or_dash name.now) }
 {
     if name.is_empty() {
         return Vec::from_slice(alloc, b"-");

@@ -8,11 +8,11 @@ use Rattle.replies.specs.GameTexts.{games_labels}
 use Rattle.replies.specs.Tables.{LabelFacts, left, right, table_text}
 use Rattle.common_texts.specs.CellTexts.{result_mark}
 use Rattle.common_texts.specs.KeyTexts.{value_text}
-use Rattle.common_texts.specs.Texts.{halves_text, shown}
+use Rattle.common_texts.specs.Texts.{halves_text, name_or_dash}
 
 -- a player: start rank, name and score
 unfoldable pub player_labels : Sheet → ℕ → ℕ → List LabelFacts
-player_labels sheet start score = right (decimal start) ∷ left (shown (name_in sheet start)) ∷ right (halves_text score) ∷ []
+player_labels sheet start score = right (decimal start) ∷ left (name_or_dash (name_in sheet start)) ∷ right (halves_text score) ∷ []
 
 -- ---- boards
 

@@ -1,10 +1,10 @@
 // Tables: lines of labels that stand in columns, each of them as wide as the widest of its labels.
 ghost use Rattle.std.specs.Prelude.{◌≡◌, ◌++◌, ◌∷◌, [], IfOk, IfSome, OnOk};
 ghost use Rattle.replies.specs.Tables as tables;
-ghost use Rattle.common_texts.specs.Texts.{shown};
+ghost use Rattle.common_texts.specs.Texts.{name_or_dash};
 ghost use Rattle.trf16_report.specs.Prelude.{blanks};
 
-use common_texts::{Page, shown};
+use common_texts::{Page, name_or_dash};
 use std::alloc::{AllocError, Global};
 use std::fmt::Display;
 use std::marker::Model;
@@ -104,9 +104,9 @@ impl TableLine {
     /// Puts a name in the next column, at its left: with a question mark in place of each control character, or as a
     /// dash where it is blank.
     pub fn push_name(&mut self, name: &[u8]) -> Result<(), AllocError>
-        ensures { OnOk result (self.new ≡ self.old ++ tables.left (shown name.now) ∷ []) }
+        ensures { OnOk result (self.new ≡ self.old ++ tables.left (name_or_dash name.now) ∷ []) }
     {
-        let text = Page::from_bytes(shown(self.allocator(), name)?);
+        let text = Page::from_bytes(name_or_dash(self.allocator(), name)?);
         self.labels.push(Label {
             side: Alignment::Left,
             text,

@@ -7,7 +7,7 @@ use Rattle.trf16_report.specs.Prelude.{name_in, Sheet}
 use Rattle.dutch_player.specs.Prelude.{Facts, seat_at}
 use Rattle.requests.specs.declared.options.Wording.{Wording}
 use Rattle.requests.specs.declared.options.Wording.TheVariants.{Plain, Words}
-use Rattle.common_texts.specs.Prelude.{shown}
+use Rattle.common_texts.specs.Prelude.{name_or_dash}
 
 -- a round as it is told: its report, those whom it is paired from, and how the lines are worded [own]
 pub record TellingFacts : Type 0 where
@@ -29,7 +29,7 @@ rank_and_name start name = if bytes_eq name (codes "-") then decimal start else 
 module _ (sheet : Sheet) where
   -- a player in a sentence: the start rank, and behind it the name as it is shown, if there is one [own]
   abbrev pub player_words : ℕ → List ℕ
-  player_words start = rank_and_name start (shown (name_in sheet start))
+  player_words start = rank_and_name start (name_or_dash (name_in sheet start))
 
   -- players in a sentence, by start ranks, with semicolons between them, and none for nobody [with player_words]
   abbrev pub players_words : List ℕ → List ℕ

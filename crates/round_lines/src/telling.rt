@@ -4,7 +4,7 @@ ghost use Rattle.std.specs.List.{flat_map};
 ghost use Rattle.dutch_player.specs.Prelude.{seat_at};
 ghost use Rattle.round_lines.specs.Tellings.{in_wording, player_words, players_words, rank_and_name, seat_words, seats_words};
 
-use common_texts::{Page, shown};
+use common_texts::{Page, name_or_dash};
 use dutch_player::Field;
 use requests::Wording;
 use std::alloc::{AllocError, Global};
@@ -56,7 +56,7 @@ fn put_named(text: &mut Page, start: u16, name: &[u8]) -> Result<(), AllocError>
 pub fn put_one(text: &mut Page, report: &Report<'_>, start: u16) -> Result<(), AllocError>
     ensures { OnOk result (text.new ≡ text.old ++ player_words report.now start) }
 {
-    let name = shown(text.allocator(), report.name(start))?;
+    let name = name_or_dash(text.allocator(), report.name(start))?;
     put_named(text, start, name.as_slice())
 }
 

@@ -3,7 +3,7 @@ use Rattle.std.specs.Prelude.{ℕ, Bool, ◌&&◌, ◌==◌, if◌then◌else◌
 use Rattle.std.specs.Char.{is_ascii_digit}
 use Rattle.std.specs.List.{list_all}
 use Rattle.std.specs.Option.{option_map_or}
-use Rattle.common_texts.specs.Texts.{shown}
+use Rattle.common_texts.specs.Texts.{name_or_dash}
 use Rattle.trf16_report.specs.Prelude.{Sheet, columns, player_of, text, without_blanks}
 use Rattle.sheets.specs.Texts.{in_utf8, plain}
 
@@ -29,7 +29,7 @@ year_in field = if (length field == 4) && list_all is_ascii_digit field then fie
 unfoldable pub person_of : Bool → List ℕ → PersonFacts
 person_of utf8 left = record {
   title = plain utf8 (columns_in utf8 left 3 5);
-  name = shown (in_utf8 utf8 (columns_in utf8 left 7 39));
+  name = name_or_dash (in_utf8 utf8 (columns_in utf8 left 7 39));
   federation = plain utf8 (columns_in utf8 left 46 48);
   rating = plain utf8 (columns_in utf8 left 41 44);
   born = year_in (text (columns utf8 left) 62 65);

@@ -44,8 +44,8 @@ unfoldable pub game_cell : Sheet → ℕ → ℕ → Node
 game_cell sheet start round = bare DataCell (link (round_name round) (game_text (cell_in sheet start round)))
 
 -- start rank, name and score of a player of the standings
-unfoldable pub scored : Sheet → RowFacts → Node
-scored sheet facts = Beside (cell (decimal facts.start)) (Beside (name_cell (person_in sheet facts.start)) (cell (halves_text facts.score)))
+unfoldable pub scored_cells : Sheet → RowFacts → Node
+scored_cells sheet facts = Beside (cell (decimal facts.start)) (Beside (name_cell (person_in sheet facts.start)) (cell (halves_text facts.score)))
 
 -- the games of a player in all rounds that were paired
 unfoldable pub game_cells : Sheet → ℕ → Node
@@ -54,7 +54,7 @@ game_cells sheet start = each_up (game_cell sheet start) (rounds_played sheet)
 -- a player of the standings: place, start rank, name, score, the values of the keys, and the games of all rounds that were paired [own]
 unfoldable pub standings_row : Sheet → List Key → ℕ → RowFacts → Node
 standings_row sheet keys place facts =
-    row (decimal place) (Beside (scored sheet facts) (Beside (value_cells keys facts.values) (game_cells sheet facts.start)))
+    row (decimal place) (Beside (scored_cells sheet facts) (Beside (value_cells keys facts.values) (game_cells sheet facts.start)))
 
 -- the heads of the columns in front of the keys
 abbrev pub standings_heads : List (List ℕ)

@@ -108,9 +108,9 @@ fn put_games(page: &mut Markup, report: &Report<'_>, start: u16) -> Result<(), A
 }
 
 // Puts start rank, name and score of a player.
-#[tactic(auto, unfolding(crate::specs::StandingsParts::scored))]
-fn put_scored(page: &mut Markup, report: &Report<'_>, row: &Row) -> Result<(), AllocError>
-    ensures { OnOk result (page.new ≡ page.old ++ node_text (parts.scored report.now row.now)) }
+#[tactic(auto, unfolding(crate::specs::StandingsParts::scored_cells))]
+fn put_scored_cells(page: &mut Markup, report: &Report<'_>, row: &Row) -> Result<(), AllocError>
+    ensures { OnOk result (page.new ≡ page.old ++ node_text (parts.scored_cells report.now row.now)) }
 {
     let person = person_in(page.allocator(), report, row.start())?;
     put_number(page, usize::from(row.start()))?;
@@ -132,7 +132,7 @@ fn put_row(
     let (place, row) = placed;
     let text = place.to_string(page.allocator())?;
     start_row(page, text.as_bytes())?;
-    put_scored(page, report, row)?;
+    put_scored_cells(page, report, row)?;
     put_values(page, keys, row.values())?;
     put_games(page, report, row.start())?;
     page.end(Tag::Row)

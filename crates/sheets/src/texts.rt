@@ -1,10 +1,10 @@
 // Texts of a report as the page shows them: in UTF-8, whatever the report is.
 ghost use Rattle.std.specs.Prelude.{◌≡◌, ◌++◌, IfOk, OnOk};
 ghost use Rattle.std.specs.List.{flat_map};
-ghost use Rattle.common_texts.specs.Texts.{shown};
+ghost use Rattle.common_texts.specs.Texts.{name_or_dash};
 ghost use Rattle.sheets.specs.Texts.{in_utf8, joined_by, latin1_byte, phrase, plain};
 
-use common_texts::{shown, without_controls};
+use common_texts::{name_or_dash, without_controls};
 use std::alloc::{AllocError, Global};
 
 // Puts the character of a byte of a report that is not UTF-8.
@@ -50,10 +50,10 @@ pub(crate) fn plain(alloc: Global, utf8: bool, bytes: &[u8]) -> Result<Vec<u8>, 
 
 /// A name in UTF-8, with a question mark in place of each control character; a dash where it is blank.
 pub(crate) fn shown_name(alloc: Global, utf8: bool, bytes: &[u8]) -> Result<Vec<u8>, AllocError>
-    ensures { IfOk result (λ text. text.items ≡ shown (in_utf8 utf8 bytes.now)) }
+    ensures { IfOk result (λ text. text.items ≡ name_or_dash (in_utf8 utf8 bytes.now)) }
 {
     let text = in_utf8(alloc, utf8, bytes)?;
-    shown(alloc, text.as_slice())
+    name_or_dash(alloc, text.as_slice())
 }
 
 /// Two texts with a mark between them; if one is empty, the other alone.
