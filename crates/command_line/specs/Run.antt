@@ -3,7 +3,7 @@ use Rattle.std.specs.Prelude.{◌≡◌, ◌⊎◌, ◌+◌, ◌≤◌, ℕ, Lis
 use Rattle.replies.specs.Prelude.{Reading, IsUnread, Answer, out_of_memory, plain, read_fault, most_read, word_text, IsWritten}
 use Rattle.trf16_report.specs.Prelude.{Use, HasFailed, HasNotFailed}
 use Rattle.command_line.specs.Commands.{Answers}
-use Rattle.requests.specs.Prelude.{AsksFor, AsksForHelp, AsksWrongly, IsMistaken, meant}
+use Rattle.requests.specs.Prelude.{AsksFor, AsksForHelp, AsksWrongly, IsMistaken, meant_words}
 use Rattle.requests.specs.declared.options.WordFault.{WordFault}
 use Rattle.replies.specs.declared.reply.Status.{Status}
 use Rattle.replies.specs.declared.reply.Status.TheVariants.{Done, BadWords}
@@ -75,6 +75,6 @@ IsAnswer words source answer = IsCarriedOut words source answer ⊎ (IsHelped wo
 -- a run answers the words and the bytes, writes that answer, and calls the source at most 1,048,577 times [own]
 pub record IsRun (words : List (List ℕ)) (source : Reading) (out err : Use) (status : Status) : Type 0 where
   pub answer : Answer
-  pub answers : IsAnswer (meant words) source answer
+  pub answers : IsAnswer (meant_words words) source answer
   pub written : IsWritten answer out err status
   pub bounded : source.calls_after ≤ source.calls_before + most_read

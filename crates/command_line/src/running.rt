@@ -6,7 +6,7 @@ ghost use Rattle.replies.specs.Prelude.{out_of_memory, read_fault, reading_of, m
 ghost use Rattle.trf16_report.specs.Prelude.{use_of};
 ghost use Rattle.replies.specs.Prelude.{words_refusal};
 ghost use Rattle.command_line.specs.Run.{IsAnswer, IsReplyTo, IsRun};
-ghost use Rattle.requests.specs.Prelude.{meant};
+ghost use Rattle.requests.specs.Prelude.{meant_words};
 
 use crate::explain::explain;
 use common_texts::Page;
@@ -18,7 +18,7 @@ use replies::refusal::words_refused;
 use replies::sheet::sheet;
 use replies::standings::standings;
 use replies::{InputFault, Reply, Status, read_input};
-use requests::{Meaning, Request, Task, WordFault, meant, read_words};
+use requests::{Meaning, Request, Task, WordFault, meant_words, read_words};
 use round_commands::boards::boards;
 use round_commands::candidates::candidates;
 use round_commands::pair::pair;
@@ -63,11 +63,11 @@ pub fn run<'a, F: Finder, R: Source, O: Sink, E: Sink>(
 
 // What is answered to the words, as they are meant, and to what the source gives.
 fn reply<'a, F: Finder, R: Source>(alloc: Global, words: &'a [&'a str], reader: &mut R) -> Reply
-    ensures answers { IsAnswer (meant (map (λ word. word.now) words.now))
+    ensures answers { IsAnswer (meant_words (map (λ word. word.now) words.now))
         (reading_of R.left R.failures R.calls reader.old reader.new) (answer_of result) }
     ensures bounded { R.calls reader.new ≤ R.calls reader.old + most_read }
 {
-    match meant(alloc, words) {
+    match meant_words(alloc, words) {
         Ok(all) => reply_to::<F, R>(alloc, all.as_slice(), reader),
         Err(AllocError) => out_of_memory(),
     }

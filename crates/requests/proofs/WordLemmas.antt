@@ -9,7 +9,7 @@ use Rattle.std.specs.Box.{box_value}
 use Rattle.clap.specs.declared.Error.{Error}
 use Rattle.clap.specs.declared.parser.matches.ArgMatches.{ArgMatches}
 use Rattle.clap.specs.declared.parser.matches.ArgMatches.TheViews.{out-ArgMatches, out-SubCommand}
-use Rattle.requests.specs.Prelude.{rows_in, bracket_rule, by_rule, bye_rule, correct_rule, count_rule, entries_rule, from_rule, games_rule, initial_rule, instead_rule, names_rule, notes_rule, player_rule, points_rule, ranks_rule, renumber_rule, report_rule, round_rule, rounds_rule, steps_rule, words_rule, boards_app, candidates_app, enter_app, explain_app, pair_app, sheet_app, standings_app, with_bracket_rules, with_option, with_rank_rules, with_round_rules, with_table_rules, ComesTo, FitsKind, arbiter_app, asked_by, check_app, format_app, is_mistake, is_shown, settled, task_by, versioned, with_command, with_engine, with_tables}
+use Rattle.requests.specs.Prelude.{rows_in, bracket_rule, by_rule, bye_rule, correct_rule, count_rule, entries_rule, from_rule, games_rule, initial_rule, instead_rule, names_rule, notes_rule, player_rule, points_rule, ranks_rule, renumber_rule, report_rule, round_rule, rounds_rule, steps_rule, words_rule, boards_app, candidates_app, enter_app, explain_app, pair_app, sheet_app, standings_app, with_bracket_rules, with_option, with_rank_rules, with_round_rules, with_table_rules, ComesTo, FitsKind, arbiter_app, asked_by, check_app, format_app, is_mistake, is_shown, with_settings, task_by, with_version, with_command, with_engine, with_tables}
 use Rattle.clap.proofs.OnLiterals.{clap_on_literals}
 use Rattle.requests.specs.declared.options.WordFault.{WordFault}
 use Rattle.requests.specs.declared.words.Task.{Task}
@@ -23,7 +23,7 @@ options_on_literals = tt
 
 -- what a proof unfolds to see the commands of the program
 unfoldable pub commands_on_literals : ⊤
-unfolding arbiter_app with_command with_engine with_tables settled versioned check_app format_app enter_app pair_app boards_app candidates_app explain_app standings_app sheet_app with_option with_bracket_rules with_rank_rules with_round_rules with_table_rules
+unfolding arbiter_app with_command with_engine with_tables with_settings with_version check_app format_app enter_app pair_app boards_app candidates_app explain_app standings_app sheet_app with_option with_bracket_rules with_rank_rules with_round_rules with_table_rules
 commands_on_literals = tt
 
 pub simple_and_free : is_simple_and_free arbiter_app ≡ true

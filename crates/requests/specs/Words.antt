@@ -20,13 +20,13 @@ use Rattle.requests.specs.declared.words.Meaning.TheVariants.{Command, Help, Mis
 use Rattle.requests.specs.declared.options.WordFault.{WordFault}
 
 -- a command with a version
-unfoldable pub versioned : App → App
-versioned = on_top (λ top. record top { has_version = true })
+unfoldable pub with_version : App → App
+with_version = on_top (λ top. record top { has_version = true })
 
 -- a command that takes all words as its arguments, and wants a command; clap adds its own command `help`, whose words are refused or answered
 -- with help, and make no task
-unfoldable pub settled : App → App
-settled = on_top (λ top. record top {
+unfoldable pub with_settings : App → App
+with_settings = on_top (λ top. record top {
   no_binary_name = true;
   arg_required_else_help = true;
   subcommand_required = true;
@@ -53,7 +53,7 @@ with_tables app = with_command (with_command app standings_app) sheet_app
 unfoldable pub arbiter_app : App
 arbiter_app =
     with_tables
-    (with_engine (with_command (with_command (with_command (settled (versioned (new_app (codes "arbiter")))) check_app) format_app) enter_app))
+    (with_engine (with_command (with_command (with_command (with_settings (with_version (new_app (codes "arbiter")))) check_app) format_app) enter_app))
 
 -- the request of `enter`, whose options are these
 abbrev pub enter_request_with : Result EnterOptions WordFault → Result Request WordFault
@@ -140,9 +140,9 @@ without_help [] = []
 without_help (first ∷ rest) = if bytes_eq first (codes "help") then rest else first ∷ rest
 
 -- the words as clap reads them: `help` in front of some words stands for `--help` behind them, and so does `help help` [own]
-abbrev pub meant : List Text → List Text
-meant [] = []
-meant (first ∷ rest) = if bytes_eq first (codes "help") then without_help rest ++ codes "--help" ∷ [] else first ∷ rest
+abbrev pub meant_words : List Text → List Text
+meant_words [] = []
+meant_words (first ∷ rest) = if bytes_eq first (codes "help") then without_help rest ++ codes "--help" ∷ [] else first ∷ rest
 
 -- an error of clap's that shows what was asked for: help, or the version
 abbrev pub is_shown : ErrorKind → Bool

@@ -1,10 +1,7 @@
 // The options of the commands, from what clap makes of the words.
 ghost use Rattle.std.specs.Prelude.{◌≡◌, ℕ, List, Bool, option_map};
 ghost use Rattle.clap.specs.Words.{first_of};
-ghost use Rattle.requests.specs.Options.{boards_options, bye_in, candidates_options, check_options};
-ghost use Rattle.requests.specs.Options.{count_in, explain_options, flag_in, format_options, from_in, initial_in};
-ghost use Rattle.requests.specs.Options.{keys_by, number_in, pair_options, question_by, ranks_by, rows_in};
-ghost use Rattle.requests.specs.Options.{sheet_options, shown_by, standings_options, steps_in, u16_max, wording_by};
+ghost use Rattle.requests.specs.Options as options;
 ghost use Rattle.trf16_report.specs.declared.limits.TheConstants.{MOST_ROUNDS};
 
 use crate::entries_in::Entries;
@@ -210,7 +207,7 @@ pub trait CursorSyntax {
 
 /// The options of `check`.
 pub fn check_options(matches: &ArgMatches<'_>) -> CheckOptions
-    ensures { result ≡ check_options (rows_in matches.now) }
+    ensures { result ≡ options.check_options (options.rows_in matches.now) }
 {
     CheckOptions {
         notes: flag_in(matches, "notes"),
@@ -220,7 +217,7 @@ pub fn check_options(matches: &ArgMatches<'_>) -> CheckOptions
 /// The options of `format`, or what is wrong with them.
 #[tactic(auto, unfolding(crate::specs::Options::format_options))]
 pub fn format_options(matches: &ArgMatches<'_>) -> Result<FormatOptions, WordFault>
-    ensures { result ≡ format_options (rows_in matches.now) }
+    ensures { result ≡ options.format_options (options.rows_in matches.now) }
 {
     let ranks = ranks_by(flag_in(matches, "ranks"), text_in(matches, "by"))?;
     Ok(FormatOptions {
@@ -234,7 +231,7 @@ pub fn format_options(matches: &ArgMatches<'_>) -> Result<FormatOptions, WordFau
 /// The options of `pair`, or what is wrong with them.
 #[tactic(auto, unfolding(crate::specs::Options::pair_options))]
 pub fn pair_options(matches: &ArgMatches<'_>) -> Result<PairOptions, WordFault>
-    ensures { result ≡ pair_options (rows_in matches.now) }
+    ensures { result ≡ options.pair_options (options.rows_in matches.now) }
 {
     let initial = initial_in(matches)?;
     let shown = shown_by(flag_in(matches, "report"), flag_in(matches, "names"))?;
@@ -249,7 +246,7 @@ pub fn pair_options(matches: &ArgMatches<'_>) -> Result<PairOptions, WordFault>
 
 /// The options of `boards`.
 pub fn boards_options(matches: &ArgMatches<'_>) -> BoardsOptions
-    ensures { result ≡ boards_options (rows_in matches.now) }
+    ensures { result ≡ options.boards_options (options.rows_in matches.now) }
 {
     BoardsOptions {
         round: few_rounds_in(matches, "round"),
@@ -260,7 +257,7 @@ pub fn boards_options(matches: &ArgMatches<'_>) -> BoardsOptions
 /// The options of `explain`, or the first thing that is wrong with them.
 #[tactic(auto, unfolding(crate::specs::Options::explain_options))]
 pub fn explain_options(matches: &ArgMatches<'_>) -> Result<ExplainOptions, WordFault>
-    ensures { result ≡ explain_options (rows_in matches.now) }
+    ensures { result ≡ options.explain_options (options.rows_in matches.now) }
 {
     let initial = initial_in(matches)?;
     let (player, instead) = (number_in(matches, "player"), number_in(matches, "instead"));
@@ -278,7 +275,7 @@ pub fn explain_options(matches: &ArgMatches<'_>) -> Result<ExplainOptions, WordF
 /// The options of `standings`, or what is wrong with them.
 #[tactic(auto, unfolding(crate::specs::Options::standings_options))]
 pub fn standings_options(matches: &ArgMatches<'_>) -> Result<StandingsOptions, WordFault>
-    ensures { result ≡ standings_options (rows_in matches.now) }
+    ensures { result ≡ options.standings_options (options.rows_in matches.now) }
 {
     let keys = keys_by(text_in(matches, "by"))?;
     Ok(StandingsOptions {
@@ -292,7 +289,7 @@ pub fn standings_options(matches: &ArgMatches<'_>) -> Result<StandingsOptions, W
 /// The options of `sheet`, or what is wrong with them.
 #[tactic(auto, unfolding(crate::specs::Options::sheet_options))]
 pub fn sheet_options(matches: &ArgMatches<'_>) -> Result<SheetOptions, WordFault>
-    ensures { result ≡ sheet_options (rows_in matches.now) }
+    ensures { result ≡ options.sheet_options (options.rows_in matches.now) }
 {
     let keys = keys_by(text_in(matches, "by"))?;
     Ok(SheetOptions {
@@ -306,7 +303,7 @@ pub fn sheet_options(matches: &ArgMatches<'_>) -> Result<SheetOptions, WordFault
 pub fn candidates_options<'a, S: CursorSyntax>(
     matches: &ArgMatches<'a>,
 ) -> Result<CandidatesOptions<'a>, WordFault>
-    ensures { result ≡ candidates_options S.is_cursor (rows_in matches.now) }
+    ensures { result ≡ options.candidates_options S.is_cursor (options.rows_in matches.now) }
 {
     let initial = initial_in(matches)?;
     let from = from_in::<S>(matches)?;
@@ -324,7 +321,7 @@ pub fn candidates_options<'a, S: CursorSyntax>(
 
 /// `--bye`: what the pairing-allocated bye gives, in half points. No words with one above 2 come here.
 pub fn bye_in(matches: &ArgMatches<'_>) -> u16
-    ensures { result ≡ bye_in (rows_in matches.now) }
+    ensures { result ≡ options.bye_in (options.rows_in matches.now) }
 {
     number_in(matches, "bye")
         .filter(|bye| *bye <= 2)
@@ -334,7 +331,7 @@ pub fn bye_in(matches: &ArgMatches<'_>) -> u16
 // `--initial`: the colour of the higher-ranked of two players if nothing else decides and that player's start rank is
 // odd (C.04.3 E.5).
 fn initial_in(matches: &ArgMatches<'_>) -> Result<Option<Colour>, WordFault>
-    ensures { result ≡ initial_in (rows_in matches.now) }
+    ensures { result ≡ options.initial_in (options.rows_in matches.now) }
 {
     match text_in(matches, "initial") {
         None => Ok(None),
@@ -346,7 +343,7 @@ fn initial_in(matches: &ArgMatches<'_>) -> Result<Option<Colour>, WordFault>
 
 // `--player` and `--instead`: what is asked of a player.
 fn question_by(player: Option<u16>, instead: Option<u16>) -> Result<Option<Question>, WordFault>
-    ensures { result ≡ question_by player instead }
+    ensures { result ≡ options.question_by player instead }
 {
     match (player, instead) {
         (None, None) => Ok(None),
@@ -357,7 +354,7 @@ fn question_by(player: Option<u16>, instead: Option<u16>) -> Result<Option<Quest
 
 // `--words`: how the lines are worded.
 fn wording_by(words: bool) -> Wording
-    ensures { result ≡ wording_by words }
+    ensures { result ≡ options.wording_by words }
 {
     if words {
         Wording::Words
@@ -368,7 +365,7 @@ fn wording_by(words: bool) -> Wording
 
 // `--report` and `--names`: what is printed of a round.
 fn shown_by(report: bool, names: bool) -> Result<Shown, WordFault>
-    ensures { result ≡ shown_by report names }
+    ensures { result ≡ options.shown_by report names }
 {
     match (report, names) {
         (false, false) => Ok(Shown::Boards),
@@ -380,7 +377,7 @@ fn shown_by(report: bool, names: bool) -> Result<Shown, WordFault>
 
 // `--by`: the keys of the standings.
 fn keys_by(text: Option<&str>) -> Result<Keys, WordFault>
-    ensures { result ≡ keys_by (option_map (λ t. t.now) text.entry) }
+    ensures { result ≡ options.keys_by (option_map (λ t. t.now) text.entry) }
 {
     let Some(list) = text else {
         return Ok(Keys::usual());
@@ -393,7 +390,7 @@ fn keys_by(text: Option<&str>) -> Result<Keys, WordFault>
 
 // `--ranks` and `--by` of `format`: the keys by which the players' places are written, if they are wanted.
 fn ranks_by(ranks: bool, text: Option<&str>) -> Result<Option<Keys>, WordFault>
-    ensures { result ≡ ranks_by ranks (option_map (λ t. t.now) text.entry) }
+    ensures { result ≡ options.ranks_by ranks (option_map (λ t. t.now) text.entry) }
 {
     if ranks {
         return Ok(Some(keys_by(text)?));
@@ -408,7 +405,7 @@ fn ranks_by(ranks: bool, text: Option<&str>) -> Result<Option<Keys>, WordFault>
 fn from_in<'a, S: CursorSyntax>(
     matches: &ArgMatches<'a>,
 ) -> Result<Option<GivenCursor<'a>>, WordFault>
-    ensures { result ≡ from_in S.is_cursor (rows_in matches.now) }
+    ensures { result ≡ options.from_in S.is_cursor (options.rows_in matches.now) }
 {
     match text_in(matches, "from") {
         None => Ok(None),
@@ -419,14 +416,14 @@ fn from_in<'a, S: CursorSyntax>(
 
 // The number of an option of 16 bits.
 fn number_in(matches: &ArgMatches<'_>, name: &str) -> Option<u16>
-    ensures { result ≡ number_in u16_max name.now (rows_in matches.now) }
+    ensures { result ≡ options.number_in options.u16_max name.now (options.rows_in matches.now) }
 {
     matches.get_one::<u16>(name)
 }
 
 // `--count`: how many candidates are wanted.
 fn count_in(matches: &ArgMatches<'_>) -> usize
-    ensures { result ≡ count_in (rows_in matches.now) }
+    ensures { result ≡ options.count_in (options.rows_in matches.now) }
 {
     matches.get_one::<usize>("count").unwrap_or(100)
 }
@@ -434,7 +431,7 @@ fn count_in(matches: &ArgMatches<'_>) -> usize
 // `--round`, the round that is asked for, or `--rounds`, the number of rounds of the tournament. No words with a
 // greater one come here.
 pub(crate) fn few_rounds_in(matches: &ArgMatches<'_>, name: &str) -> Option<u8>
-    ensures { result ≡ number_in MOST_ROUNDS name.now (rows_in matches.now) }
+    ensures { result ≡ options.number_in MOST_ROUNDS name.now (options.rows_in matches.now) }
 {
     matches
         .get_one::<u8>(name)
@@ -443,19 +440,19 @@ pub(crate) fn few_rounds_in(matches: &ArgMatches<'_>, name: &str) -> Option<u8>
 
 // `--steps`: how many steps a bracket may take.
 fn steps_in(matches: &ArgMatches<'_>) -> u64
-    ensures { result ≡ steps_in (rows_in matches.now) }
+    ensures { result ≡ options.steps_in (options.rows_in matches.now) }
 {
     matches.get_one::<u64>("steps").unwrap_or(10_000_000)
 }
 
 pub(crate) fn flag_in(matches: &ArgMatches<'_>, name: &str) -> bool
-    ensures { result ≡ flag_in name.now (rows_in matches.now) }
+    ensures { result ≡ options.flag_in name.now (options.rows_in matches.now) }
 {
     matches!(text_in(matches, name), Some("true"))
 }
 
 fn text_in<'a>(matches: &ArgMatches<'a>, name: &str) -> Option<&'a str>
-    ensures { option_map (λ t. t.now) result ≡ first_of name.now (rows_in matches.now) }
+    ensures { option_map (λ t. t.now) result ≡ first_of name.now (options.rows_in matches.now) }
 {
     matches.get_str(name)
 }

@@ -5,22 +5,16 @@ ghost use Rattle.clap.specs.Words.{app_of, kind_of, new_app, subcommand_rows_of}
 ghost use Rattle.dutch_arrangements.specs.Prelude.{has_syntax};
 ghost use Rattle.requests.specs.CommandLine.{HasSameGlobals, app_for};
 ghost use Rattle.requests.specs.Options.{rows_in};
-ghost use Rattle.requests.specs.Words.{ComesTo, FitsKind, asked_by, candidates_request, enter_request, explain_request, format_request, meant};
-ghost use Rattle.requests.specs.Words.{other_request_of};
-ghost use Rattle.requests.specs.Words.{pair_request, request_of, sheet_request, standings_request, task_by, task_of};
-ghost use Rattle.requests.specs.Words.{with_bye};
-ghost use Rattle.requests.specs.Words.{arbiter_app, settled, versioned, with_command};
-ghost use Rattle.requests.specs.Words.{with_commands, without_help};
+ghost use Rattle.requests.specs.Words as meanings;
 
 use crate::commands::{
     COMMANDS, CommandName, CommandResult, HelpTexts, command_for, command_named,
 };
 use crate::entries_in::enter_options;
+use crate::options;
 use crate::options::{
     BoardsOptions, CandidatesOptions, CheckOptions, CursorSyntax, EnterOptions, ExplainOptions,
-    FormatOptions, PairOptions, SheetOptions, StandingsOptions, WordFault, boards_options, bye_in,
-    candidates_options, check_options, explain_options, format_options, pair_options,
-    sheet_options, standings_options,
+    FormatOptions, PairOptions, SheetOptions, StandingsOptions, WordFault,
 };
 use clap::error::ErrorKind;
 use clap::{ArgMatches, Command, Error};
@@ -77,8 +71,9 @@ pub enum Meaning<'a> {
 ///
 /// # Errors
 /// Memory was refused.
-pub fn meant<'a>(alloc: Global, words: &'a [&'a str]) -> Result<Vec<&'a str>, AllocError>
-    ensures { IfOk result (λ all. map (λ word. word.now) all.items ≡ meant (map (λ word. word.now) words.now)) }
+pub fn meant_words<'a>(alloc: Global, words: &'a [&'a str]) -> Result<Vec<&'a str>, AllocError>
+    ensures { IfOk result (λ all. map (λ word. word.now) all.items
+        ≡ meanings.meant_words (map (λ word. word.now) words.now)) }
 {
     let Some((first, rest)) = words.split_first() else {
         return Ok(Vec::new(alloc));
@@ -92,7 +87,7 @@ pub fn meant<'a>(alloc: Global, words: &'a [&'a str]) -> Result<Vec<&'a str>, Al
 // The words behind `help`, without another `help` at their front, and with `--help` behind them.
 fn with_help<'a>(alloc: Global, words: &'a [&'a str]) -> Result<Vec<&'a str>, AllocError>
     ensures { IfOk result (λ all. map (λ word. word.now) all.items
-        ≡ without_help (map (λ word. word.now) words.now) ++ codes "--help" ∷ []) }
+        ≡ meanings.without_help (map (λ word. word.now) words.now) ++ codes "--help" ∷ []) }
 {
     let Some((first, rest)) = words.split_first() else {
         return with_flag(alloc, words);
@@ -115,7 +110,7 @@ fn with_flag<'a>(alloc: Global, words: &'a [&'a str]) -> Result<Vec<&'a str>, Al
 
 /// Reads the words after the program's name.
 pub fn read_words<'a>(alloc: Global, words: &'a [&'a str]) -> Result<Meaning<'a>, AllocError>
-    ensures { IfOk result (ComesTo (map (λ word. word.now) words.now)) }
+    ensures { IfOk result (meanings.ComesTo (map (λ word. word.now) words.now)) }
 {
     match arbiter_command(alloc)?.try_get_matches_from(words) {
         Ok(matches) => {
@@ -124,7 +119,7 @@ pub fn read_words<'a>(alloc: Global, words: &'a [&'a str]) -> Result<Meaning<'a>
             };
             Ok(asked_by(task))
         }
-        Err(error) => told(alloc, &error),
+        Err(error) => meaning_of_error(alloc, &error),
     }
 }
 
@@ -133,7 +128,7 @@ fn task_in<'a>(
     alloc: Global,
     matches: &ArgMatches<'a>,
 ) -> Result<Option<Result<Task<'a>, WordFault>>, AllocError>
-    ensures { IfOk result (λ made. made ≡ task_by (subcommand_rows_of matches.now)) }
+    ensures { IfOk result (λ made. made ≡ meanings.task_by (subcommand_rows_of matches.now)) }
 {
     match matches.subcommand() {
         Some((name, options)) => task_of(alloc, name, options),
@@ -147,10 +142,10 @@ fn task_of<'a>(
     name: &str,
     options: &ArgMatches<'a>,
 ) -> Result<Option<Result<Task<'a>, WordFault>>, AllocError>
-    ensures { IfOk result (λ made. made ≡ task_of name.now (rows_in options.now)) }
+    ensures { IfOk result (λ made. made ≡ meanings.task_of name.now (rows_in options.now)) }
 {
     match request_of(alloc, name, options)? {
-        Some(request) => Ok(Some(with_bye(bye_in(options), request))),
+        Some(request) => Ok(Some(with_bye(options::bye_in(options), request))),
         None => Ok(None),
     }
 }
@@ -158,7 +153,7 @@ fn task_of<'a>(
 // A request over a report in which the pairing-allocated bye gives so many half points, or what is wrong with its
 // options.
 fn with_bye<'a>(bye: u16, request: Result<Request<'a>, WordFault>) -> Result<Task<'a>, WordFault>
-    ensures { result ≡ with_bye bye request.entry }
+    ensures { result ≡ meanings.with_bye bye request.entry }
 {
     match request {
         Ok(request) => Ok(Task { request, bye }),
@@ -172,7 +167,7 @@ fn request_of<'a>(
     name: &str,
     options: &ArgMatches<'a>,
 ) -> Result<Option<Result<Request<'a>, WordFault>>, AllocError>
-    ensures { IfOk result (λ made. made ≡ request_of name.now (rows_in options.now)) }
+    ensures { IfOk result (λ made. made ≡ meanings.request_of name.now (rows_in options.now)) }
 {
     match name {
         "enter" => Ok(Some(enter_request(alloc, options)?)),
@@ -185,13 +180,13 @@ fn other_request_of<'a>(
     name: &str,
     options: &ArgMatches<'a>,
 ) -> Option<Result<Request<'a>, WordFault>>
-    ensures { result ≡ other_request_of name.now (rows_in options.now) }
+    ensures { result ≡ meanings.other_request_of name.now (rows_in options.now) }
 {
     match name {
-        "check" => Some(Ok(Request::Check(check_options(options)))),
+        "check" => Some(Ok(Request::Check(options::check_options(options)))),
         "format" => Some(format_request(options)),
         "pair" => Some(pair_request(options)),
-        "boards" => Some(Ok(Request::Boards(boards_options(options)))),
+        "boards" => Some(Ok(Request::Boards(options::boards_options(options)))),
         "candidates" => Some(candidates_request(options)),
         "explain" => Some(explain_request(options)),
         "standings" => Some(standings_request(options)),
@@ -205,7 +200,7 @@ fn enter_request<'a>(
     alloc: Global,
     options: &ArgMatches<'a>,
 ) -> Result<Result<Request<'a>, WordFault>, AllocError>
-    ensures { IfOk result (λ made. made ≡ enter_request (rows_in options.now)) }
+    ensures { IfOk result (λ made. made ≡ meanings.enter_request (rows_in options.now)) }
 {
     match enter_options(alloc, options)? {
         Ok(options) => Ok(Ok(Request::Enter(options))),
@@ -216,49 +211,49 @@ fn enter_request<'a>(
 // The request of `format`.
 #[tactic(auto, unfolding(crate::specs::Words::format_request))]
 fn format_request<'a>(options: &ArgMatches<'a>) -> Result<Request<'a>, WordFault>
-    ensures { result ≡ format_request (rows_in options.now) }
+    ensures { result ≡ meanings.format_request (rows_in options.now) }
 {
-    Ok(Request::Format(format_options(options)?))
+    Ok(Request::Format(options::format_options(options)?))
 }
 
 // The request of `pair`.
 #[tactic(auto, unfolding(crate::specs::Words::pair_request))]
 fn pair_request<'a>(options: &ArgMatches<'a>) -> Result<Request<'a>, WordFault>
-    ensures { result ≡ pair_request (rows_in options.now) }
+    ensures { result ≡ meanings.pair_request (rows_in options.now) }
 {
-    Ok(Request::Pair(pair_options(options)?))
+    Ok(Request::Pair(options::pair_options(options)?))
 }
 
 // The request of `candidates`.
 #[tactic(auto, unfolding(crate::specs::Words::candidates_request))]
 fn candidates_request<'a>(options: &ArgMatches<'a>) -> Result<Request<'a>, WordFault>
-    ensures { result ≡ candidates_request (rows_in options.now) }
+    ensures { result ≡ meanings.candidates_request (rows_in options.now) }
 {
-    Ok(Request::Candidates(candidates_options::<Cursor>(options)?))
+    Ok(Request::Candidates(options::candidates_options::<Cursor>(options)?))
 }
 
 // The request of `explain`.
 #[tactic(auto, unfolding(crate::specs::Words::explain_request))]
 fn explain_request<'a>(options: &ArgMatches<'a>) -> Result<Request<'a>, WordFault>
-    ensures { result ≡ explain_request (rows_in options.now) }
+    ensures { result ≡ meanings.explain_request (rows_in options.now) }
 {
-    Ok(Request::Explain(explain_options(options)?))
+    Ok(Request::Explain(options::explain_options(options)?))
 }
 
 // The request of `standings`.
 #[tactic(auto, unfolding(crate::specs::Words::standings_request))]
 fn standings_request<'a>(options: &ArgMatches<'a>) -> Result<Request<'a>, WordFault>
-    ensures { result ≡ standings_request (rows_in options.now) }
+    ensures { result ≡ meanings.standings_request (rows_in options.now) }
 {
-    Ok(Request::Standings(standings_options(options)?))
+    Ok(Request::Standings(options::standings_options(options)?))
 }
 
 // The request of `sheet`.
 #[tactic(auto, unfolding(crate::specs::Words::sheet_request))]
 fn sheet_request<'a>(options: &ArgMatches<'a>) -> Result<Request<'a>, WordFault>
-    ensures { result ≡ sheet_request (rows_in options.now) }
+    ensures { result ≡ meanings.sheet_request (rows_in options.now) }
 {
-    Ok(Request::Sheet(sheet_options(options)?))
+    Ok(Request::Sheet(options::sheet_options(options)?))
 }
 
 impl CursorSyntax for Cursor {
@@ -271,7 +266,7 @@ impl CursorSyntax for Cursor {
 
 // What a task comes to, or what is wrong with its options.
 fn asked_by<'a>(task: Result<Task<'a>, WordFault>) -> Meaning<'a>
-    ensures { result ≡ asked_by task.entry }
+    ensures { result ≡ meanings.asked_by task.entry }
 {
     match task {
         Ok(task) => Meaning::Command(task),
@@ -280,8 +275,8 @@ fn asked_by<'a>(task: Result<Task<'a>, WordFault>) -> Meaning<'a>
 }
 
 // What an error of clap's comes to.
-fn told<'a>(alloc: Global, error: &Error) -> Result<Meaning<'a>, AllocError>
-    ensures { IfOk result (FitsKind (kind_of error.now)) }
+fn meaning_of_error<'a>(alloc: Global, error: &Error) -> Result<Meaning<'a>, AllocError>
+    ensures { IfOk result (meanings.FitsKind (kind_of error.now)) }
 {
     match error.kind() {
         ErrorKind::OutOfMemory => Err(AllocError),
@@ -295,7 +290,7 @@ fn told<'a>(alloc: Global, error: &Error) -> Result<Meaning<'a>, AllocError>
 // The program's command line.
 #[tactic(auto, unfolding(crate::specs::Words::arbiter_app, crate::specs::Words::with_engine, crate::specs::Words::with_tables))]
 fn arbiter_command<'a>(alloc: Global) -> CommandResult<'a>
-    ensures app { IfOk result (λ command. app_of command ≡ arbiter_app) }
+    ensures app { IfOk result (λ command. app_of command ≡ meanings.arbiter_app) }
     ensures local { IfOk result (λ command. (fields_of command).has_globals ≡ false) }
 {
     let command = with_settings(bare_command(alloc)?);
@@ -308,7 +303,7 @@ fn with_commands<'a>(
     command: Command<'a>,
     names: &[CommandName],
 ) -> CommandResult<'a>
-    ensures app { IfOk result (λ made. app_of made ≡ with_commands (app_of command.entry) names.now) }
+    ensures app { IfOk result (λ made. app_of made ≡ meanings.with_commands (app_of command.entry) names.now) }
     ensures local { IfOk result (HasSameGlobals command.entry) }
 {
     let mut made = command;
@@ -320,7 +315,7 @@ fn with_commands<'a>(
 
 // A program with one more of its commands.
 fn with_named<'a>(alloc: Global, command: Command<'a>, name: CommandName) -> CommandResult<'a>
-    ensures app { IfOk result (λ made. app_of made ≡ with_command (app_of command.entry) (app_for name)) }
+    ensures app { IfOk result (λ made. app_of made ≡ meanings.with_command (app_of command.entry) (app_for name)) }
     ensures local { IfOk result (HasSameGlobals command.entry) }
 {
     match command_for(alloc, name) {
@@ -334,9 +329,9 @@ fn with_named<'a>(alloc: Global, command: Command<'a>, name: CommandName) -> Com
 }
 
 // The name and the texts of the program.
-#[tactic(auto, unfolding(crate::specs::Words::versioned))]
+#[tactic(auto, unfolding(crate::specs::Words::with_version))]
 fn bare_command<'a>(alloc: Global) -> CommandResult<'a>
-    ensures app { IfOk result (λ command. app_of command ≡ versioned (new_app (codes "arbiter"))) }
+    ensures app { IfOk result (λ command. app_of command ≡ meanings.with_version (new_app (codes "arbiter"))) }
     ensures local { IfOk result (λ command. (fields_of command).has_globals ≡ false) }
 {
     command_named(
@@ -353,10 +348,10 @@ fn bare_command<'a>(alloc: Global) -> CommandResult<'a>
 }
 
 // A command that takes all words as arguments, and wants a command among them. clap adds the command `help` to those
-// that help lists; `meant` leaves it no words to answer.
-#[tactic(auto, unfolding(crate::specs::Words::settled))]
+// that help lists; `meant_words` leaves it no words to answer.
+#[tactic(auto, unfolding(crate::specs::Words::with_settings))]
 fn with_settings<'a>(command: Command<'a>) -> Command<'a>
-    ensures app { app_of result ≡ settled (app_of command.entry) }
+    ensures app { app_of result ≡ meanings.with_settings (app_of command.entry) }
     ensures local { (fields_of result).has_globals ≡ (fields_of command.entry).has_globals }
 {
     command

@@ -28,4 +28,4 @@ returns-in-Err c =
     let words = map (λ w. w.now) c.args.words.now in
     let app = c.in_ok-arbiter_command.ensures.app in
     let kinds = c.in-Err.ensures.kinds (ap is_simple_and_free app ∙ simple_and_free) in
-    IfOk-weaker c.told.result _ _ (λ asked h. told_of_words words c.in-Err.error asked (subst (λ (a : App). HasKind (fault_of a words) c.in-Err.error) app kinds) h) c.told.ensures
+    IfOk-weaker c.meaning_of_error.result _ _ (λ asked h. told_of_words words c.in-Err.error asked (subst (λ (a : App). HasKind (fault_of a words) c.in-Err.error) app kinds) h) c.meaning_of_error.ensures
