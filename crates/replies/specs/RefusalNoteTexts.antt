@@ -8,7 +8,7 @@ use Rattle.trf16_report.specs.declared.fault.Excess.TheVariants.{Players, Rounds
 use Rattle.trf16_report.specs.declared.fault.Fault.{Fault}
 use Rattle.trf16_report.specs.declared.fault.Fault.TheVariants.{BadExtension, Colours, Duplicate, TooMany, NoPlayers, NoSuchOpponent, NotMutual, Points, Results}
 use Rattle.trf16_report.specs.declared.limits.TheConstants.{MOST_ROUNDS}
-use Rattle.report_notes.specs.RefusalNotes.{byte_order, cell_held, columns_of, extension_at, first_kind_note, first_saying, fits_in_bytes, held, line_of}
+use Rattle.report_notes.specs.RefusalNotes.{byte_order, cell_held, columns_of, extension_at, first_kind_note, first_saying, fits_in_bytes, text_at, line_of}
 use Rattle.report_notes.specs.RefusalNotes.{opponent_held, repeated_at, sums_among, zero_byte}
 use Rattle.report_notes.specs.declared.encoding.ByteOrder.{ByteOrder}
 use Rattle.report_notes.specs.declared.encoding.ByteOrder.TheVariants.{Little, Big}
@@ -33,7 +33,7 @@ columns_text place = codes "note line " ++ (decimal place.line ++ (codes ": colu
 -- what these columns of a text hold, without its control characters; nothing where the refusal is about no columns
 abbrev pub held_text : Option Columns → List ℕ → List ℕ
 held_text None input = []
-held_text (Some place) input = columns_text place ++ (without_controls (held input place) ++ codes "\"\n")
+held_text (Some place) input = columns_text place ++ (without_controls (text_at input place) ++ codes "\"\n")
 
 -- a line fits if its columns are bytes
 unfoldable pub bytes_text : ℕ → List ℕ

@@ -16,7 +16,7 @@ use crate::reply::{Reply, Status, Text};
 use common_texts::{HalfPoints, Page, put_without_controls};
 use report_notes::{
     ByteOrder, Columns, Sums, are_lines_read, byte_order, columns_of, first_kind_note,
-    has_characters, held, line_in, line_of, sums_of, zero_byte,
+    has_characters, line_in, line_of, sums_of, text_at, zero_byte,
 };
 use std::alloc::{AllocError, Global};
 use trf16_report::{Excess, Fault, Report};
@@ -258,7 +258,7 @@ fn put_held(text: &mut Page, place: Option<Columns>, bytes: &[u8]) -> Result<(),
         return Ok(());
     };
     put_columns(text, place)?;
-    put_without_controls(text, held(bytes, place))?;
+    put_without_controls(text, text_at(bytes, place))?;
     text.push_str("\"\n")
 }
 

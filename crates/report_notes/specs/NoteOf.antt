@@ -6,7 +6,7 @@ use Rattle.report_notes.specs.Noted.{Noted, NoPlayer, PlayedLast, UnknownKind, B
 use Rattle.report_notes.specs.Noted.{LongName, RatingAbove, EarlyPoints, InRound, BehindColumn, NoGame, Byes, NobodyPresent}
 use Rattle.report_notes.specs.Noted.{StartRanks, RoundsUnknown}
 use Rattle.report_notes.specs.Notes.{absent_notes, last_column, name_notes, note_if, rating_notes, rounds_notes, same_notes}
-use Rattle.report_notes.specs.PlayerRounds.{told}
+use Rattle.report_notes.specs.PlayerRounds.{all_some}
 use Rattle.report_notes.specs.Ratings.{start_ranks_notes}
 use Rattle.report_notes.specs.Rounds.{nobody_notes, report_rounds_notes, total_notes}
 use Rattle.report_notes.specs.declared.note.Note.{Note}
@@ -53,7 +53,7 @@ noted TheRoundsUnknown = RoundsUnknown
 
 -- what is left to tell of a player's round
 abbrev pub round_left_notes : RoundLeft → List RoundNote
-round_left_notes left = told (left.result ∷ left.meeting ∷ left.bye ∷ left.points ∷ left.cell ∷ [])
+round_left_notes left = all_some (left.result ∷ left.meeting ∷ left.bye ∷ left.points ∷ left.cell ∷ [])
 
 -- what is left to tell of a player's rounds, in line n: of the one in hand, and of those behind it
 abbrev pub player_rounds_left_notes : Sheet → ℕ → PlayerRoundsLeft → List Noted
@@ -84,7 +84,7 @@ left_notes sheet n (Player left) = player_left_notes sheet n left
 -- what is left to tell of the rounds of a report: of the one in hand, and of those behind it
 abbrev pub rounds_left_notes : Sheet → RoundsLeft → List Noted
 rounds_left_notes sheet left =
-    told (then_some left.no_game (NoGame left.round) ∷ option_map (Byes left.round) left.byes ∷ []) ++ report_rounds_notes sheet left.round
+    all_some (then_some left.no_game (NoGame left.round) ∷ option_map (Byes left.round) left.byes ∷ []) ++ report_rounds_notes sheet left.round
 
 -- what is left to tell behind the lines of a report: of its rounds, of the next one, of the start ranks, and of the number of rounds
 abbrev pub closing_left_notes : Sheet → ClosingLeft → List Noted

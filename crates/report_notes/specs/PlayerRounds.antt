@@ -13,8 +13,8 @@ use Rattle.report_notes.specs.declared.note.RoundNote.TheVariants.{NoResult, Mee
 -- ---- lists
 
 -- what is there, of some things that are there or not
-abbrev pub told : {X : Type 0} → List (Option X) → List X
-told things = filter_map (λ thing. thing) things
+abbrev pub all_some : {X : Type 0} → List (Option X) → List X
+all_some things = filter_map (λ thing. thing) things
 
 -- what each of some rounds has, one after the other, of which `before` others stand in front
 abbrev pub of_rounds : {X : Type 0} → (ℕ → List X) → ℕ → ℕ → List X
@@ -90,7 +90,7 @@ cell_note sheet start cells round =
 -- of a player with a start rank and some cells, what is noted of a round
 abbrev pub notes_in : Sheet → ℕ → List Cell → ℕ → List RoundNote
 notes_in sheet start cells round =
-    told (result_note cells round ∷ meeting_note cells round ∷ bye_note cells round ∷ points_note sheet (cell_at cells round) round
+    all_some (result_note cells round ∷ meeting_note cells round ∷ bye_note cells round ∷ points_note sheet (cell_at cells round) round
     ∷ cell_note sheet start cells round ∷ [])
 
 -- of a player, what is noted of a round [own]

@@ -23,7 +23,7 @@ use Rattle.report_notes.specs.declared.repeated.Repeated.TheVariants.{StartRank,
 
 -- ---- columns
 
--- line n of a text, which counts from 1; behind the last line there is nothing [with held]
+-- line n of a text, which counts from 1; behind the last line there is nothing [with text_at]
 abbrev pub line_in : List ℕ → ℕ → List ℕ
 line_in bytes n = slice_index_or (lines (without_marks bytes)) (n - 1) []
 
@@ -56,8 +56,8 @@ columns_of (Misaligned line column) bytes = if nat_le column LAST_COLUMN then So
 columns_of fault bytes = None
 
 -- what some columns of a text hold; columns past the line's end are missing [own]
-abbrev pub held : List ℕ → Columns → List ℕ
-held bytes place = text (columns_in bytes place.line) place.first place.last
+abbrev pub text_at : List ℕ → Columns → List ℕ
+text_at bytes place = text (columns_in bytes place.line) place.first place.last
 
 -- ---- columns that were counted in bytes
 
@@ -174,11 +174,11 @@ player_columns bytes start first last =
     let utf8 = is_utf8 (without_marks bytes) in
     text (columns utf8 (line_with utf8 start (lines (without_marks bytes)))) first last
 
--- what a player's line holds of a round: opponent, colour and result [with held]
+-- what a player's line holds of a round: opponent, colour and result [with text_at]
 abbrev pub cell_held : List ℕ → ℕ → ℕ → List ℕ
 cell_held bytes start round = player_columns bytes start (82 + 10 * round) (89 + 10 * round)
 
--- the opponent whom it names in a round; 0 where it names none [with held]
+-- the opponent whom it names in a round; 0 where it names none [with text_at]
 abbrev pub opponent_held : List ℕ → ℕ → ℕ → ℕ
 opponent_held bytes start round = option_map_or (λ n. n) (number_in (words (player_columns bytes start (82 + 10 * round) (85 + 10 * round)))) 0
 

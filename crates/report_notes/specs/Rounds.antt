@@ -6,7 +6,7 @@ use Rattle.std.specs.Option.{option_map_or}
 use Rattle.trf16_report.specs.Prelude.{Entry, Sheet, absent, cell_at, opponent_in_cell, rounds_played}
 use Rattle.trf16_report.specs.declared.limits.TheConstants.{MOST_ROUNDS}
 use Rattle.report_notes.specs.Noted.{Noted, NoGame, Byes, NobodyPresent, RoundsUnknown}
-use Rattle.report_notes.specs.PlayerRounds.{is_allocated, of_rounds_behind, told}
+use Rattle.report_notes.specs.PlayerRounds.{is_allocated, of_rounds_behind, all_some}
 
 -- a player has an opponent in a round
 abbrev pub has_opponent : ℕ → Entry → Bool
@@ -30,7 +30,7 @@ several_byes sheet round = then_some (nat_lt 1 (byes_in sheet round)) (byes_in s
 
 -- of a round: that nobody has an opponent in it; how many have the pairing-allocated bye, if several do [own]
 abbrev pub report_round_notes : Sheet → ℕ → List Noted
-report_round_notes sheet round = told (then_some (has_no_game sheet round) (NoGame round) ∷ option_map (Byes round) (several_byes sheet round) ∷ [])
+report_round_notes sheet round = all_some (then_some (has_no_game sheet round) (NoGame round) ∷ option_map (Byes round) (several_byes sheet round) ∷ [])
 
 -- a round can be played: a report has so many rounds at most, and no line XXR names fewer
 abbrev pub can_be_played : Sheet → ℕ → Bool
@@ -42,7 +42,7 @@ are_all_absent sheet = list_all (λ entry. absent sheet entry.start) sheet.playe
 
 -- of a round, which comes next: that it can be played, and every player is absent from it
 abbrev pub absence_notes : Sheet → ℕ → List Noted
-absence_notes sheet round = told (then_some (can_be_played sheet round && are_all_absent sheet) (NobodyPresent round) ∷ [])
+absence_notes sheet round = all_some (then_some (can_be_played sheet round && are_all_absent sheet) (NobodyPresent round) ∷ [])
 
 -- that nobody is present in the round that comes next [with notes_of]
 abbrev pub nobody_notes : Sheet → List Noted
@@ -50,7 +50,7 @@ nobody_notes sheet = absence_notes sheet (rounds_played sheet + 1)
 
 -- no line XXR says how many rounds there are
 abbrev pub total_notes : Sheet → List Noted
-total_notes sheet = told (then_some (not (is_some sheet.total)) RoundsUnknown ∷ [])
+total_notes sheet = all_some (then_some (not (is_some sheet.total)) RoundsUnknown ∷ [])
 
 -- the rounds that were paired, behind a given one
 abbrev pub report_rounds_notes : Sheet → ℕ → List Noted

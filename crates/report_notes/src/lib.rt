@@ -43,7 +43,7 @@ pub use first_kind::first_kind_note;
 pub use note::{Note, RoundNote};
 pub use place::Place;
 pub use refusal::{
-    Columns, Sums, are_lines_read, columns_of, has_characters, held, line_in, line_of, sums_of,
+    Columns, Sums, are_lines_read, columns_of, has_characters, line_in, line_of, sums_of, text_at,
 };
 pub use repeated::{Repeated, first_saying, repeated_at};
 pub use two_cells::{cell_held, opponent_held};

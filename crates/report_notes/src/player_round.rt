@@ -2,9 +2,7 @@
 ghost use Rattle.std.specs.Prelude.{◌≡◌, ◌<◌, ◌∷◌, [], MatchOption};
 ghost use Rattle.std.specs.List.{list_any};
 ghost use Rattle.trf16_report.specs.Prelude.{cells_of, is_unfinished};
-ghost use Rattle.report_notes.specs.PlayerRounds.{bars_bye, bye_note, cell_note, cells_before, is_allocated};
-ghost use Rattle.report_notes.specs.PlayerRounds.{is_filled, is_game_against, meeting_note, opponent_of_game};
-ghost use Rattle.report_notes.specs.PlayerRounds.{points_note, round_notes};
+ghost use Rattle.report_notes.specs.PlayerRounds as rounds;
 ghost use Rattle.report_notes.specs.NoteOf.{round_left_notes};
 
 use crate::note::RoundNote;
@@ -82,7 +80,7 @@ pub(crate) fn next_of_round(left: RoundLeft) -> Option<(RoundNote, RoundLeft)>
 /// All that is to be told of a round of a player.
 pub(crate) fn round_left(report: &Report<'_>, start: u16, round: u8) -> RoundLeft
     requires { 0 < round }
-    ensures { round_left_notes result ≡ round_notes report.now start round }
+    ensures { round_left_notes result ≡ rounds.round_notes report.now start round }
 {
     let cells = cells_of(report, start);
     let cell = cell_at(cells, round);
@@ -108,14 +106,14 @@ fn cells_of<'a>(report: &'a Report<'_>, start: u16) -> &'a [Cell]
 // The cells of the rounds before a given one.
 fn cells_before(cells: &[Cell], round: u8) -> &[Cell]
     requires { 0 < round }
-    ensures { result.now ≡ cells_before round cells.now }
+    ensures { result.now ≡ rounds.cells_before round cells.now }
 {
     front(cells, round - 1)
 }
 
 // The opponent of a game, with a result or without.
 fn opponent_of_game(cell: &Cell) -> Option<u16>
-    ensures { result ≡ opponent_of_game cell.now }
+    ensures { result ≡ rounds.opponent_of_game cell.now }
 {
     match cell {
         Cell::Game { opponent, .. } | Cell::Unfinished { opponent, .. } => Some(*opponent),
@@ -124,7 +122,7 @@ fn opponent_of_game(cell: &Cell) -> Option<u16>
 }
 
 fn is_game_against(cell: &Cell, player: u16) -> bool
-    ensures { result ≡ is_game_against player cell.now }
+    ensures { result ≡ rounds.is_game_against player cell.now }
 {
     match opponent_of_game(cell) {
         Some(opponent) => opponent == player,
@@ -135,7 +133,7 @@ fn is_game_against(cell: &Cell, player: u16) -> bool
 // That the game of a round is against a player whom an earlier one was against too.
 fn meeting_note(cells: &[Cell], round: u8) -> Option<RoundNote>
     requires { 0 < round }
-    ensures { result ≡ meeting_note cells.now round }
+    ensures { result ≡ rounds.meeting_note cells.now round }
 {
     let player = opponent_of_game(&cell_at(cells, round))?;
     if is_met(cells_before(cells, round), player) {
@@ -146,14 +144,14 @@ fn meeting_note(cells: &[Cell], round: u8) -> Option<RoundNote>
 }
 
 fn is_met(cells: &[Cell], player: u16) -> bool
-    ensures { result ≡ list_any (is_game_against player) cells.now }
+    ensures { result ≡ list_any (rounds.is_game_against player) cells.now }
 {
     cells.iter().any(|cell| is_game_against(cell, player))
 }
 
 // By C.2 such a cell bars its player from the pairing-allocated bye.
 fn bars_bye(cell: &Cell) -> bool
-    ensures { result ≡ bars_bye cell.now }
+    ensures { result ≡ rounds.bars_bye cell.now }
 {
     match cell {
         Cell::Bye(Bye::Full | Bye::Allocated) => true,
@@ -163,7 +161,7 @@ fn bars_bye(cell: &Cell) -> bool
 }
 
 pub(crate) fn is_allocated(cell: &Cell) -> bool
-    ensures { result ≡ is_allocated cell.now }
+    ensures { result ≡ rounds.is_allocated cell.now }
 {
     match cell {
         Cell::Bye(Bye::Allocated) => true,
@@ -174,7 +172,7 @@ pub(crate) fn is_allocated(cell: &Cell) -> bool
 // That a round is the pairing-allocated bye, and C.2 does not allow it behind the earlier rounds.
 fn bye_note(cells: &[Cell], round: u8) -> Option<RoundNote>
     requires { 0 < round }
-    ensures { result ≡ bye_note cells.now round }
+    ensures { result ≡ rounds.bye_note cells.now round }
 {
     if is_allocated(&cell_at(cells, round)) && has_bar(cells_before(cells, round)) {
         Some(RoundNote::AnotherBye)
@@ -184,7 +182,7 @@ fn bye_note(cells: &[Cell], round: u8) -> Option<RoundNote>
 }
 
 fn has_bar(cells: &[Cell]) -> bool
-    ensures { result ≡ list_any bars_bye cells.now }
+    ensures { result ≡ list_any rounds.bars_bye cells.now }
 {
     cells.iter().any(|cell| bars_bye(cell))
 }
@@ -192,7 +190,7 @@ fn has_bar(cells: &[Cell]) -> bool
 // That a game that was played gives both players together less than a point.
 fn points_note(report: &Report<'_>, cell: &Cell, round: u8) -> Option<RoundNote>
     requires { 0 < round }
-    ensures { result ≡ points_note report.now cell.now round }
+    ensures { result ≡ rounds.points_note report.now cell.now round }
 {
     let Cell::Game { opponent, .. } = cell else {
         return None;
@@ -206,7 +204,7 @@ fn points_note(report: &Report<'_>, cell: &Cell, round: u8) -> Option<RoundNote>
 }
 
 fn is_filled(cell: &Cell) -> bool
-    ensures { result ≡ is_filled cell.now }
+    ensures { result ≡ rounds.is_filled cell.now }
 {
     match cell {
         Cell::Blank => false,
@@ -218,7 +216,7 @@ fn is_filled(cell: &Cell) -> bool
 // the player.
 fn cell_note(report: &Report<'_>, start: u16, cells: &[Cell], round: u8) -> Option<RoundNote>
     requires { 0 < round }
-    ensures { result ≡ cell_note report.now start cells.now round }
+    ensures { result ≡ rounds.cell_note report.now start cells.now round }
 {
     if round != report.rounds_played() || is_filled(&cell_at(cells, round)) {
         return None;
@@ -231,7 +229,7 @@ fn cell_note(report: &Report<'_>, start: u16, cells: &[Cell], round: u8) -> Opti
 }
 
 fn has_filled(cells: &[Cell]) -> bool
-    ensures { result ≡ list_any is_filled cells.now }
+    ensures { result ≡ list_any rounds.is_filled cells.now }
 {
     cells.iter().any(|cell| is_filled(cell))
 }

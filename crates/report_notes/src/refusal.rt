@@ -4,8 +4,8 @@ ghost use Rattle.std.specs.Prelude.{◌≡◌, ◌≤◌, Err};
 ghost use Rattle.std.specs.Str.{is_utf8};
 ghost use Rattle.trf16_report.specs.Prelude.{columns, text, without_marks};
 ghost use Rattle.trf16_report.specs.declared.limits.TheConstants.{LAST_COLUMN};
-ghost use Rattle.report_notes.specs.RefusalNotes.{are_lines_read, columns_around, columns_of, held, line_in, line_of};
-ghost use Rattle.report_notes.specs.RefusalNotes.{number_columns, sums_among};
+ghost use Rattle.report_notes.specs.RefusalNotes.{are_lines_read, columns_around, columns_of, line_in, line_of};
+ghost use Rattle.report_notes.specs.RefusalNotes.{number_columns, sums_among, text_at};
 
 use crate::fields::start_in;
 use std::str;
@@ -130,8 +130,8 @@ pub(crate) fn columns_in(line: &[u8], utf8: bool, first: usize, last: usize) -> 
 }
 
 /// What some columns of a text hold; columns behind the line's end are missing.
-pub fn held(bytes: &[u8], place: Columns) -> &[u8]
-    ensures { result.now ≡ held bytes.now place }
+pub fn text_at(bytes: &[u8], place: Columns) -> &[u8]
+    ensures { result.now ≡ text_at bytes.now place }
 {
     let Columns { line, first, last } = place;
     columns_in(line_in(bytes, line), has_characters(bytes), first, last)
