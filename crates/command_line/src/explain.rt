@@ -16,7 +16,7 @@ use dutch_choice::finder::Finder;
 use dutch_player::{Field, FieldFault};
 use dutch_rounds::{AllStages, stages};
 use player_lines::{put_absent, put_player};
-use replies::refusal::{cannot_be_asked, cannot_be_paired, refused, round_not_reached};
+use replies::refusal::{cannot_be_asked, cannot_be_paired, report_refused, round_not_reached};
 use replies::{Reply, Status, question_fault};
 use requests::{ExplainOptions, Question, Wording};
 use round_lines::telling::{Telling, in_wording};
@@ -40,7 +40,7 @@ pub fn explain<F: Finder>(
     match trf16_reader::read_with(alloc, bytes, bye) {
         Ok(report) => of_report::<F>(alloc, options, &report),
         Err(Fault::OutOfMemory) => Err(AllocError),
-        Err(fault) => refused(alloc, fault),
+        Err(fault) => report_refused(alloc, fault),
     }
 }
 
@@ -173,7 +173,7 @@ fn tell_all(alloc: Global, round: &Paired<'_>) -> Result<Reply, AllocError>
 {
     let mut text = Page::new(alloc);
     put_all(&mut text, round)?;
-    Ok(Reply::made(Status::Done, text))
+    Ok(Reply::of_page(Status::Done, text))
 }
 
 // Puts the line of a round and all its brackets.
@@ -228,7 +228,7 @@ fn tell_asked<F: Finder>(
             let asked = Asked { player, number };
             tell_behind::<F>(alloc, round, AskedInSteps { asked, steps }, front)
         }
-        None => Ok(Reply::made(Status::Done, front)),
+        None => Ok(Reply::of_page(Status::Done, front)),
     }
 }
 

@@ -110,7 +110,7 @@ fn of_meeting<F: Finder>(
     }
     match decided_in(telling.field, round.stages, meeting) {
         Some(decided) => by_wish::<F>(alloc, telling, decided, asking),
-        None => Ok(Reply::fixed(Status::Done, "")),
+        None => Ok(Reply::of_str(Status::Done, "")),
     }
 }
 
@@ -159,7 +159,7 @@ fn stands_against(
 {
     let mut text = Page::new(alloc);
     put_against(&mut text, telling, asked, obstacle)?;
-    Ok(Reply::made(Status::Done, text))
+    Ok(Reply::of_page(Status::Done, text))
 }
 
 // Puts that the player does not get it, and what stands against it.
@@ -304,7 +304,7 @@ fn by_wish<F: Finder>(
     if decided.1.is_granted(decided.0.candidate()) {
         let mut text = Page::new(alloc);
         put_granted(&mut text, telling, asking.asked)?;
-        return Ok(Reply::made(Status::Done, text));
+        return Ok(Reply::of_page(Status::Done, text));
     }
     by_search::<F>(alloc, telling, decided, asking)
 }
@@ -371,7 +371,7 @@ fn in_bracket(
 {
     let mut text = Page::new(alloc);
     put_searched(&mut text, telling, asked, searched)?;
-    Ok(Reply::made(Status::Done, text))
+    Ok(Reply::of_page(Status::Done, text))
 }
 
 // Puts that the player does not get it, and what a search in a bracket found.

@@ -9,6 +9,7 @@ ghost use Rattle.replies.specs.Prelude.{answer_of};
 use common_texts::{Page, put_undecided, put_undecided_words};
 use dutch_rounds::{Barrier, barrier_of};
 use player_lines::{put_absent, put_player};
+use replies::refusal::NO_PAIRING;
 use replies::{Reply, Status};
 use requests::{Question, Wording};
 use round_lines::telling::{Telling, in_wording};
@@ -41,7 +42,7 @@ fn tell_no_pairing(
 {
     let mut text = Page::new(alloc);
     put_no_pairing(&mut text, telling, question, found)?;
-    Ok(Reply::made(Status::NoPairing, text))
+    Ok(Reply::of_page(Status::NoPairing, text))
 }
 
 // Puts that there is no pairing, why, and what the player who is asked about would bring to the round.
@@ -56,7 +57,7 @@ fn put_no_pairing(
 {
     text.push_str(in_wording(
         telling.wording,
-        "no pairing\n",
+        NO_PAIRING,
         "There is no pairing of the present players.\n",
     ))?;
     put_reason(text, telling, found)?;
@@ -116,5 +117,5 @@ pub fn tell_undecided(
         Wording::Plain => put_undecided(&mut text, number, used)?,
         Wording::Words => put_undecided_words(&mut text, number, used)?,
     }
-    Ok(Reply::made(Status::Undecided, text))
+    Ok(Reply::of_page(Status::Undecided, text))
 }

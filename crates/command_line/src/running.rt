@@ -81,9 +81,12 @@ fn reply_to<'a, F: Finder, R: Source>(alloc: Global, words: &'a [&'a str], reade
 {
     match read_words(alloc, words) {
         Ok(Meaning::Command(task)) => reply_to_task::<F, R>(alloc, task, reader),
-        Ok(Meaning::Help(text)) => Reply::made(Status::Done, Page::from_bytes(text.into_bytes())),
+        Ok(Meaning::Help(text)) => Reply::of_page(
+            Status::Done,
+            Page::from_bytes(text.into_bytes()),
+        ),
         Ok(Meaning::Mistake(text)) => {
-            Reply::made(Status::BadWords, Page::from_bytes(text.into_bytes()))
+            Reply::of_page(Status::BadWords, Page::from_bytes(text.into_bytes()))
         }
         Ok(Meaning::Refused(fault)) => reply_to_fault(alloc, fault),
         Err(AllocError) => out_of_memory(),
@@ -143,12 +146,12 @@ fn answer<F: Finder>(alloc: Global, task: Task<'_>, input: &[u8]) -> Result<Repl
 fn read_fault() -> Reply
     ensures { answer_of result ≡ read_fault }
 {
-    Reply::fixed(Status::Trouble, "device: read failed\n")
+    Reply::of_str(Status::Trouble, "device: read failed\n")
 }
 
 // Memory was refused.
 fn out_of_memory() -> Reply
     ensures { answer_of result ≡ out_of_memory }
 {
-    Reply::fixed(Status::Trouble, "memory: refused\n")
+    Reply::of_str(Status::Trouble, "memory: refused\n")
 }

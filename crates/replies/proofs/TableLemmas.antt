@@ -3,7 +3,7 @@ use Rattle.std.proofs.Common.{◌≡◌, ◌∙◌, ◌≤◌, ◌<◌, ◌+◌,
 use Rattle.std.specs.Prelude.{slice_index_or, None}
 use Rattle.std.proofs.lemmas.List.{drop_all, drop_more}
 use Rattle.tables.specs.declared.key.Key.{Key}
-use Rattle.replies.specs.Prelude.{values_text, LabelFacts, gap, labels_text, padded, values_labels}
+use Rattle.replies.specs.Prelude.{values_text, LabelFacts, gap, labels_text, padded_label, values_labels}
 
 no_values : (keys : List Key) → values_text keys [] ≡ []
 no_values [] = refl
@@ -41,10 +41,10 @@ labels_end keys values i old line e end =
 
 -- one more label, and what parts it from those behind it
 pub label_more : (utf8 : Bool) (wide : List ℕ) (i : ℕ) (labels : List LabelFacts) (d : LabelFacts) (old put text whole : List ℕ) → i < length labels
-    → put ≡ old ++ padded utf8 (slice_index_or wide i 0) (get_or labels i d) → text ≡ put ++ gap (drop (i + 1) labels)
+    → put ≡ old ++ padded_label utf8 (slice_index_or wide i 0) (get_or labels i d) → text ≡ put ++ gap (drop (i + 1) labels)
     → old ++ labels_text utf8 wide i (drop i labels) ≡ whole → text ++ labels_text utf8 wide (i + 1) (drop (i + 1) labels) ≡ whole
 label_more utf8 wide i labels d old put text whole lt e e' so_far =
-    let label = padded utf8 (slice_index_or wide i 0) (get_or labels i d) in
+    let label = padded_label utf8 (slice_index_or wide i 0) (get_or labels i d) in
     let part = gap (drop (i + 1) labels) in
     let rest = labels_text utf8 wide (i + 1) (drop (i + 1) labels) in
     let here : labels_text utf8 wide i (drop i labels) ≡ label ++ (part ++ rest) = rw (drop_more labels i d lt) refl in

@@ -136,24 +136,24 @@ extension_note input line = option_map_or (extension_text line) (extension_at in
 -- of a points field its sums and the first game without a result, or why the report would be refused next; of an extension what it wants;
 -- of a start rank or number of rounds that stands twice its first line; of a missing player, of two cells or of a line what they hold [with
 -- refusal_note]
-abbrev pub found : Fault → List ℕ → ℕ → List ℕ
-found (Points player) input bye = points_note player (verdict_unsummed input bye)
-found (BadExtension line) input bye = extension_note input line
-found (Duplicate line) input bye = repeated_note input line
-found (Colours player round) input bye = cells_note input player round
-found (Results player round) input bye = cells_note input player round
-found (NotMutual player round) input bye = kind_or input (cells_note input player round)
-found (NoSuchOpponent player round) input bye = kind_or input []
-found (TooMany Players) input bye = kind_or input []
-found (TooMany Rounds) input bye = kind_or input []
-found NoPlayers input bye = kind_or input []
-found fault input bye = line_note fault input bye
+abbrev pub found_note : Fault → List ℕ → ℕ → List ℕ
+found_note (Points player) input bye = points_note player (verdict_unsummed input bye)
+found_note (BadExtension line) input bye = extension_note input line
+found_note (Duplicate line) input bye = repeated_note input line
+found_note (Colours player round) input bye = cells_note input player round
+found_note (Results player round) input bye = cells_note input player round
+found_note (NotMutual player round) input bye = kind_or input (cells_note input player round)
+found_note (NoSuchOpponent player round) input bye = kind_or input []
+found_note (TooMany Players) input bye = kind_or input []
+found_note (TooMany Rounds) input bye = kind_or input []
+found_note NoPlayers input bye = kind_or input []
+found_note fault input bye = line_note fault input bye
 
 -- the same, or that the text may be UTF-16 without a mark in front
 abbrev pub unmarked_note : Fault → List ℕ → ℕ → List ℕ
-unmarked_note fault input bye = option_map_or zero_text (zero_byte input) (found fault input bye)
+unmarked_note fault input bye = option_map_or zero_text (zero_byte input) (found_note fault input bye)
 
--- the note of a refusal, or nothing: that the text is UTF-16, or may be; else what was `found` [own]
+-- the note of a refusal, or nothing: that the text is UTF-16, or may be; else what was `found_note` [own]
 abbrev pub refusal_note : Fault → List ℕ → ℕ → List ℕ
 refusal_note fault input bye = option_map_or order_text (byte_order input) (unmarked_note fault input bye)
 

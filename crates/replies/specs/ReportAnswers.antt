@@ -29,9 +29,9 @@ check_answer (Ok sheet) false input bye = done (size_text sheet)
 check_answer (Ok sheet) true input bye = done (size_text sheet ++ notes_text (notes_of sheet input))
 
 -- the report that `format` writes: as it was read, or with `--points` (true) with its points fields summed
-abbrev pub formatted : Bool → Sheet → Sheet
-formatted false sheet = sheet
-formatted true sheet = summed sheet
+abbrev pub with_points : Bool → Sheet → Sheet
+with_points false sheet = sheet
+with_points true sheet = summed sheet
 
 -- a text, unless there are no standings
 abbrev pub if_standings : Result (Unit {0}) TieFault → List ℕ → Answer
@@ -52,7 +52,7 @@ written_answer true ranks sheet = option_map_or unread_refusal (first_unread she
 
 -- `format`: the report in canonical columns, however long, or why there is none [own]
 abbrev pub format_answer : FormatOptions → Result Sheet Unseen → Answer
-format_answer options (Ok sheet) = written_answer options.renumber options.ranks (formatted options.points sheet)
+format_answer options (Ok sheet) = written_answer options.renumber options.ranks (with_points options.points sheet)
 format_answer options (Err why) = unseen_answer why
 
 -- the verdict that `format` goes by: with `--points` (true) no points field is compared [with format_answer]

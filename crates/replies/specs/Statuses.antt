@@ -85,8 +85,8 @@ abbrev pub no_pairing : Answer
 no_pairing = plain NoPairing (codes "no pairing\n")
 
 -- the steps of a bracket reached the limit before it was decided [with refusal]
-abbrev pub undecided : ℕ → ℕ → Answer
-undecided number used = plain Undecided (undecided_text number used)
+abbrev pub bracket_undecided : ℕ → ℕ → Answer
+bracket_undecided number used = plain Undecided (undecided_text number used)
 
 -- the round ends before the bracket that is asked for
 abbrev pub not_reached : ℕ → Answer

@@ -43,8 +43,8 @@ padded_by utf8 wide Left text = left_in utf8 wide text
 padded_by utf8 wide Right text = blanks (wide - width utf8 text) ++ text
 
 -- a label with blanks up to a width
-abbrev pub padded : Bool → ℕ → LabelFacts → List ℕ
-padded utf8 wide label = padded_by utf8 wide label.side label.text
+abbrev pub padded_label : Bool → ℕ → LabelFacts → List ℕ
+padded_label utf8 wide label = padded_by utf8 wide label.side label.text
 
 -- what parts a label from those behind it: two blanks, and behind the last one the line ends
 abbrev pub gap : List LabelFacts → List ℕ
@@ -54,7 +54,7 @@ gap (label ∷ rest) = codes "  "
 -- the labels of a line from a column on, each as wide as its column
 abbrev pub labels_text : Bool → List ℕ → ℕ → List LabelFacts → List ℕ
 labels_text utf8 wide column [] = []
-labels_text utf8 wide column (label ∷ rest) = padded utf8 (slice_index_or wide column 0) label ++ (gap rest ++ labels_text utf8 wide (column + 1) rest)
+labels_text utf8 wide column (label ∷ rest) = padded_label utf8 (slice_index_or wide column 0) label ++ (gap rest ++ labels_text utf8 wide (column + 1) rest)
 
 -- a table of so many columns: a line for each row of labels, each at the left or at the right of its column, which is as wide as the widest
 -- of its labels, with two blanks between columns [own]

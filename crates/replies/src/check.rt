@@ -5,7 +5,7 @@ ghost use Rattle.replies.specs.ReportAnswers.{check_answer};
 ghost use Rattle.replies.specs.Replies.{answer_of};
 
 use crate::notes::put_notes;
-use crate::refusal::refused;
+use crate::refusal::report_refused;
 use crate::refusal_notes::refused_with_note;
 use crate::reply::{Reply, Status};
 use common_texts::Page;
@@ -28,7 +28,7 @@ pub fn check(
         Ok(report) => of_report(alloc, options, &report, bytes),
         Err(Fault::OutOfMemory) => Err(AllocError),
         Err(fault) if options.notes => refused_with_note(alloc, fault, bytes, bye),
-        Err(fault) => refused(alloc, fault),
+        Err(fault) => report_refused(alloc, fault),
     }
 }
 
@@ -48,5 +48,5 @@ fn of_report(
     if options.notes {
         put_notes(&mut text, report, bytes)?;
     }
-    Ok(Reply::made(Status::Done, text))
+    Ok(Reply::of_page(Status::Done, text))
 }

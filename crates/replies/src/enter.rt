@@ -7,7 +7,7 @@ ghost use Rattle.replies.specs.EnterAnswers.{player_words, round_words};
 ghost use Rattle.replies.specs.Replies.{answer_of};
 
 use crate::format::reply_with_report;
-use crate::refusal::refused;
+use crate::refusal::report_refused;
 use crate::refusal_texts::put_fault;
 use crate::reply::{Reply, Status};
 use crate::texts::put_round_not_reached;
@@ -30,7 +30,7 @@ pub fn enter(
     match trf16_reader::read_unsummed(alloc, bytes, bye) {
         Ok(report) => with_entries(alloc, options, &report),
         Err(Fault::OutOfMemory) => Err(AllocError),
-        Err(fault) => refused(alloc, fault),
+        Err(fault) => report_refused(alloc, fault),
     }
 }
 
@@ -60,11 +60,11 @@ fn cannot_be_entered(alloc: Global, fault: EntryFault) -> Result<Reply, AllocErr
 {
     match fault {
         EntryFault::OutOfMemory => Err(AllocError),
-        EntryFault::Refused(fault) => refused(alloc, fault),
+        EntryFault::Refused(fault) => report_refused(alloc, fault),
         _ => {
             let mut text = Page::new(alloc);
             put_entry_fault(&mut text, fault)?;
-            Ok(Reply::made(Status::BadWords, text))
+            Ok(Reply::of_page(Status::BadWords, text))
         }
     }
 }

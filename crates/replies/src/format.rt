@@ -155,5 +155,5 @@ pub fn reply_with_report(alloc: Global, report: &Report<'_>) -> Result<Reply, Al
 fn done_with(report: Vec<u8>) -> Reply
     ensures { answer_of result ≡ done report.items }
 {
-    Reply::made(Status::Done, Page::from_bytes(report))
+    Reply::of_page(Status::Done, Page::from_bytes(report))
 }

@@ -3,7 +3,7 @@
 ghost use Rattle.std.specs.Prelude.{◌≡◌, IfOk};
 ghost use Rattle.replies.specs.Statuses.{field_refusal, no_pairing, question_refusal, refusal, round_not_reached};
 ghost use Rattle.replies.specs.Statuses.{unread_refusal, words_refusal};
-ghost use Rattle.replies.specs.Statuses.{tie_refusal, undecided};
+ghost use Rattle.replies.specs.Statuses.{tie_refusal, bracket_undecided};
 ghost use Rattle.replies.specs.Replies.{answer_of};
 
 use crate::question::QuestionFault;
@@ -16,8 +16,11 @@ use std::alloc::{AllocError, Global};
 use tables::TieFault;
 use trf16_report::Fault;
 
+/// What is said where no pairing meets the absolute criteria.
+pub const NO_PAIRING: &str = "no pairing\n";
+
 /// Why a report is refused, unless memory was.
-pub fn refused(alloc: Global, fault: Fault) -> Result<Reply, AllocError>
+pub fn report_refused(alloc: Global, fault: Fault) -> Result<Reply, AllocError>
     ensures { IfOk result (λ reply. answer_of reply ≡ refusal fault) }
 {
     match fault {
@@ -25,7 +28,7 @@ pub fn refused(alloc: Global, fault: Fault) -> Result<Reply, AllocError>
         _ => {
             let mut text = Page::new(alloc);
             refusal_texts::put_fault(&mut text, fault)?;
-            Ok(Reply::made(Status::Refused, text))
+            Ok(Reply::of_page(Status::Refused, text))
         }
     }
 }
@@ -36,7 +39,7 @@ pub fn cannot_be_renumbered(alloc: Global, line: usize) -> Result<Reply, AllocEr
 {
     let mut text = Page::new(alloc);
     refusal_texts::put_line(&mut text, line, ": unsupported\n")?;
-    Ok(Reply::made(Status::Refused, text))
+    Ok(Reply::of_page(Status::Refused, text))
 }
 
 /// Why the next round cannot be paired from a report, unless memory was refused.
@@ -48,7 +51,7 @@ pub fn cannot_be_paired(alloc: Global, fault: FieldFault) -> Result<Reply, Alloc
         _ => {
             let mut text = Page::new(alloc);
             refusal_texts::put_field_fault(&mut text, fault)?;
-            Ok(Reply::made(Status::Refused, text))
+            Ok(Reply::of_page(Status::Refused, text))
         }
     }
 }
@@ -62,7 +65,7 @@ pub fn has_no_standings(alloc: Global, fault: TieFault) -> Result<Reply, AllocEr
         _ => {
             let mut text = Page::new(alloc);
             refusal_texts::put_tie_fault(&mut text, fault)?;
-            Ok(Reply::made(Status::Refused, text))
+            Ok(Reply::of_page(Status::Refused, text))
         }
     }
 }
@@ -73,7 +76,7 @@ pub fn cannot_be_asked(alloc: Global, fault: QuestionFault) -> Result<Reply, All
 {
     let mut text = Page::new(alloc);
     texts::put_bad_question(&mut text, fault)?;
-    Ok(Reply::made(Status::BadWords, text))
+    Ok(Reply::of_page(Status::BadWords, text))
 }
 
 /// What is wrong with words that clap lets pass.
@@ -82,7 +85,7 @@ pub fn words_refused(alloc: Global, fault: WordFault) -> Result<Reply, AllocErro
 {
     let mut text = Page::new(alloc);
     texts::put_bad_words(&mut text, fault)?;
-    Ok(Reply::made(Status::BadWords, text))
+    Ok(Reply::of_page(Status::BadWords, text))
 }
 
 /// The report does not reach a round.
@@ -91,21 +94,21 @@ pub fn round_not_reached(alloc: Global, round: u8) -> Result<Reply, AllocError>
 {
     let mut text = Page::new(alloc);
     texts::put_round_not_reached(&mut text, round)?;
-    Ok(Reply::made(Status::BadWords, text))
+    Ok(Reply::of_page(Status::BadWords, text))
 }
 
 /// No pairing meets the absolute criteria.
 pub fn no_pairing() -> Reply
     ensures { answer_of result ≡ no_pairing }
 {
-    Reply::fixed(Status::NoPairing, "no pairing\n")
+    Reply::of_str(Status::NoPairing, NO_PAIRING)
 }
 
 /// The steps of a bracket reached the limit before it was decided.
-pub fn undecided(alloc: Global, number: u16, used: u64) -> Result<Reply, AllocError>
-    ensures { IfOk result (λ reply. answer_of reply ≡ undecided number used) }
+pub fn bracket_undecided(alloc: Global, number: u16, used: u64) -> Result<Reply, AllocError>
+    ensures { IfOk result (λ reply. answer_of reply ≡ bracket_undecided number used) }
 {
     let mut text = Page::new(alloc);
     put_undecided(&mut text, number, used)?;
-    Ok(Reply::made(Status::Undecided, text))
+    Ok(Reply::of_page(Status::Undecided, text))
 }

@@ -92,7 +92,7 @@ fn order_text(order: ByteOrder) -> &'static str
 // Puts what was found in a text that is not UTF-16.
 fn put_found(text: &mut Page, fault: Fault, bytes: &[u8], bye: u16) -> Result<(), AllocError>
     requires { bye ≤ 2 }
-    ensures { OnOk result (text.new ≡ text.old ++ texts.found fault bytes.now bye) }
+    ensures { OnOk result (text.new ≡ text.old ++ texts.found_note fault bytes.now bye) }
 {
     match fault {
         Fault::Points { player } => put_points_note(text, player, bytes, bye),

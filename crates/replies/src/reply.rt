@@ -98,7 +98,7 @@ pub struct Reply {
 
 impl Reply {
     /// A status, and a text that was made for it.
-    pub fn made(status: Status, text: Page) -> Reply
+    pub fn of_page(status: Status, text: Page) -> Reply
         ensures { answer_of result ≡ plain status text }
     {
         Reply {
@@ -108,7 +108,7 @@ impl Reply {
     }
 
     /// A status, and a text that the program has.
-    pub fn fixed(status: Status, text: &'static str) -> Reply
+    pub fn of_str(status: Status, text: &'static str) -> Reply
         ensures { answer_of result ≡ plain status text.entry.now }
     {
         Reply {
@@ -126,7 +126,7 @@ impl Reply {
     {
         let mut both = text;
         both.push_bytes(self.text.as_bytes())?;
-        Ok(Reply::made(self.status, both))
+        Ok(Reply::of_page(self.status, both))
     }
 
     // Writes the text to standard error, which may fail, and then the note to standard output, if there is one.

@@ -39,5 +39,5 @@ fn of_report(
     ensures { IfOk result (λ reply. answer_of reply ≡ sheet_answer options.now (Ok report.now)) }
 {
     let text = document(alloc, report, options.keys.as_slice())?;
-    Ok(Reply::made(Status::Done, Page::from_bytes(text)))
+    Ok(Reply::of_page(Status::Done, Page::from_bytes(text)))
 }

@@ -64,7 +64,7 @@ fn of_rows(
     }
     let mut text = Page::new(alloc);
     put_rows(&mut text, options, report, rows)?;
-    Ok(Reply::made(Status::Done, text))
+    Ok(Reply::of_page(Status::Done, text))
 }
 
 // Puts the lines of all players without names.

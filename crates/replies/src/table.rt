@@ -42,7 +42,7 @@ impl Label {
 
     // Puts the label, with blanks up to a width.
     fn put(&self, text: &mut Page, utf8: bool, wide: usize) -> Result<(), AllocError>
-        ensures { OnOk result (text.new ≡ text.old ++ tables.padded utf8 wide self.now) }
+        ensures { OnOk result (text.new ≡ text.old ++ tables.padded_label utf8 wide self.now) }
     {
         let missing = wide.saturating_sub(self.width(utf8));
         match self.side {
@@ -88,7 +88,7 @@ impl TableLine {
         *self.labels.allocator()
     }
 
-    /// What `write!` calls: puts a text in the next column, at its right.
+    /// What `write!` calls: puts a text in the next column, at its right. Each `write!` fills a column of its own.
     pub fn write_fmt<D: Display + Drop>(&mut self, value: D) -> Result<(), AllocError>
         ensures { OnOk result (IfSome (D.output value) (λ text. self.new ≡ self.old ++ tables.right text ∷ [])) }
     {

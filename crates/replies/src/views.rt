@@ -4,7 +4,7 @@ ghost use Rattle.trf16_report.specs.Prelude.{verdict, verdict_unsummed};
 ghost use Rattle.replies.specs.Replies.{answer_of};
 ghost use Rattle.replies.specs.Views.{seen_before, unseen_answer};
 
-use crate::refusal::{refused, round_not_reached};
+use crate::refusal::{report_refused, round_not_reached};
 use crate::reply::Reply;
 use std::alloc::{AllocError, Global};
 use trf16_report::{Fault, Report};
@@ -92,7 +92,7 @@ pub fn not_seen(alloc: Global, why: Unseen) -> Result<Reply, AllocError>
     ensures { IfOk result (λ reply. answer_of reply ≡ unseen_answer why) }
 {
     match why {
-        Unseen::Refused(fault) => refused(alloc, fault),
+        Unseen::Refused(fault) => report_refused(alloc, fault),
         Unseen::NotReached(round) => round_not_reached(alloc, round),
     }
 }

@@ -139,7 +139,7 @@ fn in_columns(
 {
     let mut text = Page::new(alloc);
     put_table(&mut text, lines, report.is_utf8(), columns)?;
-    Ok(Reply::made(Status::Done, text))
+    Ok(Reply::of_page(Status::Done, text))
 }
 
 // A line that begins with its number.

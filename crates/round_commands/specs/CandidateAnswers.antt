@@ -10,7 +10,7 @@ use Rattle.dutch_rounds.specs.declared.round.BracketAt.TheVariants.{Bracket, Not
 use Rattle.dutch_player.specs.Prelude.{Facts, facts_of}
 use Rattle.dutch_player.specs.declared.fault.FieldFault.{FieldFault}
 use Rattle.trf16_report.specs.Prelude.{Sheet}
-use Rattle.replies.specs.Prelude.{Answer, field_refusal, no_pairing, not_of_bracket, not_reached, undecided, unseen_answer}
+use Rattle.replies.specs.Prelude.{Answer, field_refusal, no_pairing, not_of_bracket, not_reached, bracket_undecided, unseen_answer}
 use Rattle.replies.specs.declared.views.Unseen.{Unseen}
 use Rattle.round_lines.specs.CandidateTexts.{bracket_text, line_text}
 use Rattle.round_lines.specs.Listings.{IsListing, ending_text}
@@ -55,7 +55,7 @@ abbrev pub AnswersFound : CandidatesOptions → Facts → BracketAt → Answer �
 AnswersFound options facts (Bracket reached shape) answer = Lists options facts reached shape (coming_of facts reached shape options.from) answer
 AnswersFound options facts NotReached answer = answer ≡ not_reached options.bracket
 AnswersFound options facts NoPairingAt answer = answer ≡ no_pairing
-AnswersFound options facts (UndecidedAt number used) answer = answer ≡ undecided number used
+AnswersFound options facts (UndecidedAt number used) answer = answer ≡ bracket_undecided number used
 
 -- the bracket that is asked for is found, or not, and that is answered [with AnswersCandidates]
 pub record IsAnswerToField (options : CandidatesOptions) (facts : Facts) (answer : Answer) : Type 0 where

@@ -8,7 +8,7 @@ use Rattle.dutch_rounds.specs.declared.round.Outcome.TheVariants.{Paired, NoPair
 use Rattle.dutch_player.specs.Prelude.{Facts, facts_of}
 use Rattle.dutch_player.specs.declared.fault.FieldFault.{FieldFault}
 use Rattle.trf16_report.specs.Prelude.{with_round, Sheet, written}
-use Rattle.replies.specs.Prelude.{Answer, done, field_refusal, no_pairing, undecided, named_boards_text, unseen_answer}
+use Rattle.replies.specs.Prelude.{Answer, done, field_refusal, no_pairing, bracket_undecided, named_boards_text, unseen_answer}
 use Rattle.replies.specs.declared.views.Unseen.{Unseen}
 use Rattle.requests.specs.declared.options.PairOptions.{PairOptions}
 use Rattle.requests.specs.declared.options.Shown.{Shown}
@@ -36,7 +36,7 @@ TellsBoards Report sheet boards answer = TellsReport sheet boards answer
 abbrev pub TellsOutcome : PairOptions → Sheet → Outcome → Answer → Type 0
 TellsOutcome options sheet (Paired all) answer = TellsBoards options.shown sheet all.items answer
 TellsOutcome options sheet NoPairing answer = answer ≡ no_pairing
-TellsOutcome options sheet (Undecided number used) answer = answer ≡ undecided number used
+TellsOutcome options sheet (Undecided number used) answer = answer ≡ bracket_undecided number used
 
 -- a field is paired, and its outcome is answered [with AnswersPair]
 pub record IsPaired (options : PairOptions) (sheet : Sheet) (facts : Facts) (answer : Answer) : Type 0 where

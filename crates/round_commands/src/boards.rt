@@ -5,7 +5,7 @@ ghost use Rattle.round_commands.specs.BoardsAnswers.{boards_answer, boards_at, r
 ghost use Rattle.replies.specs.Prelude.{answer_of, done};
 
 use crate::pair::tell_ranks;
-use replies::refusal::{refused, round_not_reached};
+use replies::refusal::{report_refused, round_not_reached};
 use replies::{Reply, wall};
 use requests::BoardsOptions;
 use std::alloc::{AllocError, Global};
@@ -26,7 +26,7 @@ pub fn boards(
     match trf16_reader::read_with(alloc, bytes, bye) {
         Ok(report) => of_report(alloc, options, &report),
         Err(Fault::OutOfMemory) => Err(AllocError),
-        Err(fault) => refused(alloc, fault),
+        Err(fault) => report_refused(alloc, fault),
     }
 }
 

@@ -13,7 +13,7 @@ use dutch_choice::finder::Finder;
 use dutch_listing::Candidates;
 use dutch_player::{Field, FieldFault};
 use dutch_rounds::{BracketAt, Reached, bracket_at};
-use replies::refusal::{cannot_be_paired, no_pairing, undecided};
+use replies::refusal::{bracket_undecided, cannot_be_paired, no_pairing};
 use replies::views::{not_seen, read_before};
 use replies::{Reply, Status, texts};
 use requests::CandidatesOptions;
@@ -90,7 +90,7 @@ fn tell(
         }
         BracketAt::NotReached => tell_not_reached(alloc, options.bracket),
         BracketAt::NoPairing => Ok(no_pairing()),
-        BracketAt::Undecided { bracket, used } => undecided(alloc, *bracket, *used),
+        BracketAt::Undecided { bracket, used } => bracket_undecided(alloc, *bracket, *used),
     }
 }
 
@@ -208,7 +208,7 @@ fn list_coming<'a, R: Rule>(
     )?;
     let ending = put_candidates(&mut text, coming, options.count, &mut budget)?;
     put_ending(&mut text, options.bracket, ending)?;
-    Ok(Reply::made(status_of(ending), text))
+    Ok(Reply::of_page(status_of(ending), text))
 }
 
 // The status of a listing that ended so.
@@ -227,7 +227,7 @@ fn tell_not_reached(alloc: Global, number: u16) -> Result<Reply, AllocError>
 {
     let mut text = Page::new(alloc);
     texts::put_not_reached(&mut text, number)?;
-    Ok(Reply::made(Status::BadWords, text))
+    Ok(Reply::of_page(Status::BadWords, text))
 }
 
 // The cursor is not one of the bracket that is asked for.
@@ -236,5 +236,5 @@ fn tell_not_of_bracket(alloc: Global, number: u16) -> Result<Reply, AllocError>
 {
     let mut text = Page::new(alloc);
     texts::put_not_of_bracket(&mut text, number)?;
-    Ok(Reply::made(Status::BadWords, text))
+    Ok(Reply::of_page(Status::BadWords, text))
 }

@@ -15,7 +15,7 @@ use dutch_rounds::boards::Board;
 use dutch_rounds::laws::boards_can_be_the_next_round;
 use dutch_rounds::{Outcome, pair_round};
 use replies::format::reply_with_report;
-use replies::refusal::{cannot_be_paired, no_pairing, undecided};
+use replies::refusal::{bracket_undecided, cannot_be_paired, no_pairing};
 use replies::views::{not_seen, read_before};
 use replies::{Reply, Status, wall};
 use requests::{PairOptions, Shown};
@@ -91,7 +91,7 @@ fn tell(
     match outcome {
         Outcome::Paired(boards) => tell_boards(alloc, options.shown, report, boards.as_slice()),
         Outcome::NoPairing => Ok(no_pairing()),
-        Outcome::Undecided { bracket, used } => undecided(alloc, *bracket, *used),
+        Outcome::Undecided { bracket, used } => bracket_undecided(alloc, *bracket, *used),
     }
 }
 
@@ -118,7 +118,7 @@ pub(crate) fn tell_ranks(alloc: Global, boards: &[Board]) -> Result<Reply, Alloc
 {
     let mut text = Page::new(alloc);
     put_boards(&mut text, boards)?;
-    Ok(Reply::made(Status::Done, text))
+    Ok(Reply::of_page(Status::Done, text))
 }
 
 // The report whose next round the boards are.

@@ -31,16 +31,16 @@ pub returns-in-Ok-Help-clause-answers : goal.returns-in-Ok-Help-clause-answers
 returns-in-Ok-Help-clause-answers g c = inr (inl (record {
   asked = rw c.in-Ok-Help.field-0-is at c.in-Ok-Help.ensures;
   unread = record { calls = refl; kept = record { kept = kept _; sound = refl } };
-  status = ap (λ (answer : Answer). answer.status) c.made.ensures;
-  plain = ap (λ (answer : Answer). answer.note) c.made.ensures;
+  status = ap (λ (answer : Answer). answer.status) c.of_page.ensures;
+  plain = ap (λ (answer : Answer). answer.note) c.of_page.ensures;
 }))
 
 pub returns-in-Ok-Mistake-clause-answers : goal.returns-in-Ok-Mistake-clause-answers
 returns-in-Ok-Mistake-clause-answers g c = inr (inr (inl (record {
   mistaken = rw c.in-Ok-Mistake.field-0-is at c.in-Ok-Mistake.ensures;
   unread = record { calls = refl; kept = record { kept = kept _; sound = refl } };
-  status = ap (λ (answer : Answer). answer.status) c.made-in-Ok-Mistake.ensures;
-  plain = ap (λ (answer : Answer). answer.note) c.made-in-Ok-Mistake.ensures;
+  status = ap (λ (answer : Answer). answer.status) c.of_page-in-Ok-Mistake.ensures;
+  plain = ap (λ (answer : Answer). answer.note) c.of_page-in-Ok-Mistake.ensures;
 })))
 
 pub returns-in-Ok-Refused-clause-answers : goal.returns-in-Ok-Refused-clause-answers
