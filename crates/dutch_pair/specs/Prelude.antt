@@ -23,6 +23,6 @@ pub use Rattle.dutch_rounds.specs.Barriers.{Barrier, Blocks, has_blockers, label
 pub use Rattle.dutch_rounds.specs.Boards.{boards}
 unfoldable pub use Rattle.dutch_rounds.specs.Instead.{IsInstead}
 pub use Rattle.dutch_rounds.specs.Lower.{above_lower, lower_of}
-pub use Rattle.dutch_rounds.specs.Outcomes.{AreStages, IsBracketAt, IsOutcome, IsStage, IsStoppedIn, TellsCompletion, TellsCompletionAt, shown, visit, visit_of}
+pub use Rattle.dutch_rounds.specs.Outcomes.{AreStages, IsBracketAt, IsOutcome, IsStage, IsStoppedIn, TellsCompletion, TellsCompletionAt, bracket_and_shape, visit, visit_of}
 pub use Rattle.dutch_rounds.specs.Round.{Pairing, Round, Visit, round}
 pub use Rattle.dutch_rounds.specs.Stages.{own_pairs}

@@ -10,7 +10,7 @@ use Rattle.trf16_report.specs.declared.cell.Colour.{Colour}
 use Rattle.trf16_report.specs.declared.cell.Colour.TheVariants.{White, Black}
 use Rattle.trf16_report.specs.Prelude.{named_by}
 use Rattle.dutch_player.specs.Prelude.{SeatFacts, Facts, seat_at, no_seat, colours, with_colour, colour_of_higher, start_ranks, CountFromOne}
-use Rattle.dutch_rounds.specs.Prelude.{goes_before, placed, ordered, board_of, bye_of, boards, NameEverybodyOnce, Pairing, everybody, round}
+use Rattle.dutch_rounds.specs.Prelude.{goes_before, with_pair, pairs_in_order, board_of, bye_of, boards, NameEverybodyOnce, Pairing, everybody, round}
 use Rattle.dutch_bracket.specs.Prelude.{IsPair}
 use Rattle.dutch_rounds.proofs.BoardLemmas.{colours_pair, pairs_ordered}
 use Rattle.dutch_bracket.proofs.Totals.{total, total_map, same_members}
@@ -23,15 +23,15 @@ module _ (facts : Facts) where
 
   -- ---- the order of the boards
 
-  placed_total : (w : ℕ → ℕ) (pair : ℕ × ℕ) (all : List (ℕ × ℕ)) → pairs_total w (placed facts pair all) ≡ (w pair.0 + w pair.1) + pairs_total w all
+  placed_total : (w : ℕ → ℕ) (pair : ℕ × ℕ) (all : List (ℕ × ℕ)) → pairs_total w (with_pair facts pair all) ≡ (w pair.0 + w pair.1) + pairs_total w all
   placed_total w pair [] = refl
   placed_total w pair (first ∷ rest) =
-      cond_both (goes_before facts first pair) (first ∷ placed facts pair rest) (pair ∷ first ∷ rest)
+      cond_both (goes_before facts first pair) (first ∷ with_pair facts pair rest) (pair ∷ first ∷ rest)
       (λ (all : List (ℕ × ℕ)). pairs_total w all ≡ (w pair.0 + w pair.1) + pairs_total w (first ∷ rest)) (λ e. omega (arith, placed_total w pair rest)) (λ e. refl)
 
-  ordered_total : (w : ℕ → ℕ) (all : List (ℕ × ℕ)) → pairs_total w (ordered facts all) ≡ pairs_total w all
+  ordered_total : (w : ℕ → ℕ) (all : List (ℕ × ℕ)) → pairs_total w (pairs_in_order facts all) ≡ pairs_total w all
   ordered_total w [] = refl
-  ordered_total w (pair ∷ rest) = omega (arith, ordered_total w rest, placed_total w pair (ordered facts rest))
+  ordered_total w (pair ∷ rest) = omega (arith, ordered_total w rest, placed_total w pair (pairs_in_order facts rest))
 
   -- ---- whom a board names
 
@@ -136,7 +136,7 @@ module _ (facts : Facts) where
   boards_weighed pairing from e w =
       let by_start : ℕ → ℕ = λ seat. w (start_of seat) in
       let inside : AllByRecursion (IsPair facts) pairing.pairs = pairs_of_seats pairing e in
-      let all : List (ℕ × ℕ) = ordered facts pairing.pairs in
+      let all : List (ℕ × ℕ) = pairs_in_order facts pairing.pairs in
       let in_order : AllByRecursion (IsPair facts) all = pairs_ordered facts pairing.pairs inside in
       let whole = weighed by_start pairing e in
       let starts = ap (total w) (sym all_starts) ∙ total_map w start_of (everybody facts) in

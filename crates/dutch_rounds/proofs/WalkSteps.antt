@@ -8,7 +8,7 @@ use Rattle.dutch_bracket.specs.declared.reached.BracketKind.{BracketKind}
 use Rattle.dutch_bracket.specs.declared.reached.BracketKind.TheVariants.{Ordinary, Last, Penultimate, Collapsed}
 use Rattle.dutch_rounds.specs.Stage.{Stage}
 use Rattle.dutch_bracket.specs.Prelude.{Context, frame_here, quality_here, quality_in, Reached, IsAbove, frame_of, Choice, bracket, choice, completable, downfloaters, quality_of, scoregroups, shape_of, seat_of}
-use Rattle.dutch_rounds.specs.Prelude.{lower_of, IsStage, shown, visit_at, Round, brackets, passing, pairing_in, penultimate_bracket, paired_again, IsSettled, choice_of, group_kind, is_again, round_by, Goes, GoesOut, HasWayOut, StandsBefore}
+use Rattle.dutch_rounds.specs.Prelude.{lower_of, IsStage, bracket_and_shape, visit_at, Round, brackets, passing, pairing_in, penultimate_bracket, paired_again, IsSettled, choice_of, group_kind, is_again, round_by, Goes, GoesOut, HasWayOut, StandsBefore}
 use Rattle.dutch_rounds.proofs.RoundBy.{final_by, ordinary_by, penultimate_by}
 use Rattle.dutch_choice.proofs.BestLemmas.{choice_of_shape}
 use Rattle.dutch_rounds.proofs.GroupWalk.{IsParted}
@@ -94,18 +94,18 @@ is_kept facts lower stage settled e kind =
 
 module _ (facts : Facts) (reached : Reached) (lower : List ℕ) (made : Choice) (e : choice facts reached lower ≡ Some made) where
   shown_by : (kind : BracketKind) (number : ℕ) (md residents : List ℕ) → HasWayOut facts kind number md residents lower
-      → shown (visit_at 0 (round_by facts kind reached lower).reached) ≡ Some (reached, made.shape)
+      → bracket_and_shape (visit_at 0 (round_by facts kind reached lower).reached) ≡ Some (reached, made.shape)
   shown_by Ordinary number md residents out =
       let goes_on' : List ℕ → Round = λ left. brackets facts (reached.number + 1) left (scoregroups facts lower) in
-      ap (λ (c : Option Choice). shown (visit_at 0 (ordinary_by facts reached lower goes_on' c).reached)) e
+      ap (λ (c : Option Choice). bracket_and_shape (visit_at 0 (ordinary_by facts reached lower goes_on' c).reached)) e
       ∙ cond_both (completable facts (downfloaters facts reached made.lists ++ lower)) (pairing_in facts reached made (goes_on' (downfloaters facts reached made.lists)))
-      (passing facts reached made (penultimate_bracket facts (paired_again reached) lower)) (λ (r : Round). shown (visit_at 0 r.reached) ≡ Some (reached, made.shape)) (λ t. refl) (λ t. refl)
-  shown_by Penultimate number md residents out = ap (λ (c : Option Choice). shown (visit_at 0 (penultimate_by facts reached lower c).reached)) e
-  shown_by Last number md residents out = ap (λ (c : Option Choice). shown (visit_at 0 (final_by facts reached c).reached)) (ap (choice facts reached) (sym out.1) ∙ e)
-  shown_by Collapsed number md residents out = ap (λ (c : Option Choice). shown (visit_at 0 (final_by facts reached c).reached)) (ap (choice facts reached) (sym out.1) ∙ e)
+      (passing facts reached made (penultimate_bracket facts (paired_again reached) lower)) (λ (r : Round). bracket_and_shape (visit_at 0 r.reached) ≡ Some (reached, made.shape)) (λ t. refl) (λ t. refl)
+  shown_by Penultimate number md residents out = ap (λ (c : Option Choice). bracket_and_shape (visit_at 0 (penultimate_by facts reached lower c).reached)) e
+  shown_by Last number md residents out = ap (λ (c : Option Choice). bracket_and_shape (visit_at 0 (final_by facts reached c).reached)) (ap (choice facts reached) (sym out.1) ∙ e)
+  shown_by Collapsed number md residents out = ap (λ (c : Option Choice). bracket_and_shape (visit_at 0 (final_by facts reached c).reached)) (ap (choice facts reached) (sym out.1) ∙ e)
 
 pub stands_shown : (facts : Facts) (number : ℕ) (reached : Reached) (lower : List ℕ) (shape : Shape) → StandsBefore facts number reached lower → shape_of facts reached lower ≡ Some shape
-    → shown (visit_at 0 (round_by facts reached.kind reached lower).reached) ≡ Some (reached, shape)
+    → bracket_and_shape (visit_at 0 (round_by facts reached.kind reached lower).reached) ≡ Some (reached, shape)
 stands_shown facts number reached lower shape s e =
     let one = choice_of_shape facts reached lower shape e in
     shown_by facts reached lower (record { shape = shape; lists = one.0 }) one.1 reached.kind number s.md s.residents s.out

@@ -29,8 +29,8 @@ visit_of zero visits = None
 visit_of (suc place) visits = visit_at place visits
 
 -- a bracket that was reached, with its shape [with IsBracketAt]
-abbrev pub shown : Option Visit → Option (Reached × Shape)
-shown found = option_map (λ visit. (visit.bracket, visit.shape)) found
+abbrev pub bracket_and_shape : Option Visit → Option (Reached × Shape)
+bracket_and_shape found = option_map (λ visit. (visit.bracket, visit.shape)) found
 
 -- a call was stopped at its limit, in one of the brackets reached or in the one behind them [own]
 abbrev pub IsStoppedIn : Facts → ℕ → ℕ → ℕ → Type 0
@@ -74,7 +74,7 @@ TellsCompletion facts (Undecided bracket used) = Unit {0}
 -- number; that there is no pairing, and none of that number; or that it stopped [own]
 abbrev pub IsBracketAt : Facts → ℕ → ℕ → BracketAt → Type 0
 IsBracketAt facts limit number (Bracket reached shape) =
-    (reached.number ≡ number) × (shown (visit_of number (round facts).reached) ≡ Some (reached, shape))
+    (reached.number ≡ number) × (bracket_and_shape (visit_of number (round facts).reached) ≡ Some (reached, shape))
     × IsOf facts reached × Fits (frame_of facts reached) shape
 IsBracketAt facts limit number NotReached = (visit_of number (round facts).reached ≡ None) × (is_some (round facts).pairing ≡ true)
 IsBracketAt facts limit number NoPairingAt = (visit_of number (round facts).reached ≡ None) × ((round facts).pairing ≡ None)

@@ -12,7 +12,7 @@ use Rattle.dutch_rounds.specs.declared.walk.Halt.{Halt}
 use Rattle.dutch_rounds.specs.declared.walk.Halt.TheVariants.{NoPairing, Undecided, Fault}
 use Rattle.dutch_bracket.specs.Prelude.{quality_in, Reached, IsOf, frame_of, Choice, choice, completable, quality_of, scoregroups, AreSeats, all_pairs, seat_of}
 use Rattle.dutch_rounds.specs.Round.{Round, Pairing, Visit, brackets, everybody, round, ending, final_bracket, ordinary_bracket, passing, pairing_in, penultimate_bracket}
-use Rattle.dutch_rounds.specs.Outcomes.{IsStage, IsStoppedIn, shown, visit_of}
+use Rattle.dutch_rounds.specs.Outcomes.{IsStage, IsStoppedIn, bracket_and_shape, visit_of}
 use Rattle.dutch_rounds.specs.WaysOut.{StandsBefore}
 
 -- where a walk stands in a field: the most steps of a bracket, those used for the one that comes next, its number, the round from there
@@ -127,7 +127,7 @@ ArePairs facts pairs bye = (round facts).pairing ≡ Some (record { pairs = pair
 abbrev pub IsFound : Facts → ℕ → Option (Reached × Shape) → Type 0
 IsFound facts number None = visit_of number (round facts).reached ≡ None
 IsFound facts number (Some (reached, shape)) =
-    (reached.number ≡ number) × (shown (visit_of number (round facts).reached) ≡ Some (reached, shape))
+    (reached.number ≡ number) × (bracket_and_shape (visit_of number (round facts).reached) ≡ Some (reached, shape))
     × IsOf facts reached × Fits (frame_of facts reached) shape
 
 -- why a question ends before the walk does

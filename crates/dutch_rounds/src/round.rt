@@ -88,7 +88,7 @@ pub fn pair_round<F: Finder>(alloc: Global, field: &Field, limit: u64) -> Result
 }
 
 /// The bracket of a number, if the round reaches it, and its shape.
-fn found<F: Finder>(
+fn bracket_and_shape<F: Finder>(
     alloc: Global,
     field: &Field,
     limit: u64,
@@ -121,7 +121,7 @@ pub fn bracket_at<F: Finder>(
     ensures bracket { IfOk result (IsBracketAt field.now limit number) }
     ensures completion { IfOk result (TellsCompletionAt field.now) }
 {
-    match found::<F>(alloc, field, limit, number) {
+    match bracket_and_shape::<F>(alloc, field, limit, number) {
         Ok(Some((reached, shape))) => Ok(BracketAt::Bracket { reached, shape }),
         Ok(None) => Ok(BracketAt::NotReached),
         Err(Halt::NoPairing) => Ok(BracketAt::NoPairing),

@@ -7,7 +7,7 @@ use Rattle.dutch_player.specs.Prelude.{Facts}
 use Rattle.dutch_bracket.specs.declared.reached.BracketKind.{BracketKind}
 use Rattle.dutch_bracket.specs.declared.reached.BracketKind.TheVariants.{Ordinary, Last, Penultimate, Collapsed}
 use Rattle.dutch_bracket.specs.Prelude.{Reached, IsAbove, Choice, bracket, choice, completable, downfloaters, first_group, scoregroups, shape_of}
-use Rattle.dutch_rounds.specs.Prelude.{Goes, GoesOut, StandsBefore, lower_of, shown, visit_at, visit_of, group_kind, Round, Visit, everybody, no_pairing, passing, pairing_in, penultimate_bracket, paired_again, brackets, round}
+use Rattle.dutch_rounds.specs.Prelude.{Goes, GoesOut, StandsBefore, lower_of, bracket_and_shape, visit_at, visit_of, group_kind, Round, Visit, everybody, no_pairing, passing, pairing_in, penultimate_bracket, paired_again, brackets, round}
 use Rattle.dutch_rounds.proofs.RoundBy.{final_by, penultimate_by, ordinary_by}
 use Rattle.dutch_choice.proofs.BestLemmas.{chosen_is}
 use Rattle.dutch_bracket.proofs.GroupLemmas.{concat_scoregroups}
@@ -129,13 +129,13 @@ module _ (facts : Facts) where
           ap (shape_of facts visit.bracket) below ∙ (chosen_is facts visit.bracket p.lower (record { shape = visit.shape; lists = visit.lists }) p.is).0,
         )
 
-    shown_stands : (number : ℕ) (reached : Reached) (shape : Shape) (found : Option Visit) → found ≡ visit_of number (round facts).reached → shown found ≡ Some (reached, shape) → StandsAbove (reached, shape)
-    shown_stands number reached shape None e is' = let bad : shown None ≡ Some (reached, shape) = is' in absurd (cc)
+    shown_stands : (number : ℕ) (reached : Reached) (shape : Shape) (found : Option Visit) → found ≡ visit_of number (round facts).reached → bracket_and_shape found ≡ Some (reached, shape) → StandsAbove (reached, shape)
+    shown_stands number reached shape None e is' = let bad : bracket_and_shape None ≡ Some (reached, shape) = is' in absurd (cc)
     shown_stands zero reached shape (Some visit) e is' = let bad : Some visit ≡ None = e in absurd (cc)
     shown_stands (suc place) reached shape (Some visit) e is' =
         let same : (visit.bracket, visit.shape) ≡ (reached, shape) = cc in
         subst StandsAbove same (passed_above visit (at_place place (round facts).reached visit all_passed (sym e)))
 
-    pub bracket_stands : (number : ℕ) (reached : Reached) (shape : Shape) → shown (visit_of number (round facts).reached) ≡ Some (reached, shape)
+    pub bracket_stands : (number : ℕ) (reached : Reached) (shape : Shape) → bracket_and_shape (visit_of number (round facts).reached) ≡ Some (reached, shape)
         → IsAbove facts reached (lower_of facts reached) × (shape_of facts reached (lower_of facts reached) ≡ Some shape)
     bracket_stands number reached shape = shown_stands number reached shape (visit_of number (round facts).reached) refl

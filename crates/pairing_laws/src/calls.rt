@@ -3,7 +3,7 @@ ghost use Rattle.std.specs.Prelude.{◌≡◌, Some};
 ghost use Rattle.dutch_arrangements.specs.Prelude.{IsIn, down};
 ghost use Rattle.dutch_bracket.specs.Prelude.{HasCandidate, IsAbove, IsNext, IsOfBracket, candidates_of, first_group, frame_of};
 ghost use Rattle.dutch_bracket.specs.Prelude.{scoregroups, shape_of};
-ghost use Rattle.dutch_rounds.specs.Prelude.{IsStage, lower_of, round, shown, visit_of};
+ghost use Rattle.dutch_rounds.specs.Prelude.{IsStage, lower_of, round, bracket_and_shape, visit_of};
 
 use dutch_arrangements::{Candidate, Shape};
 use dutch_player::Field;
@@ -13,7 +13,7 @@ use dutch_rounds::{Reached, Stage};
 /// A bracket of a round stands above the players below it, and above them it has its shape: whoever has asked for the
 /// bracket can ask for its choice.
 pub fn a_bracket_stands_above_the_lower(field: &Field, number: u16, reached: &Reached, shape: Shape)
-    requires { shown (visit_of number (round field.now).reached) ≡ Some (reached.now, shape) }
+    requires { bracket_and_shape (visit_of number (round field.now).reached) ≡ Some (reached.now, shape) }
     ensures above { IsAbove field.now reached.now (lower_of field.now reached.now) }
     ensures shape { shape_of field.now reached.now (lower_of field.now reached.now) ≡ Some shape }
     ensures candidate { HasCandidate field.now reached.now (lower_of field.now reached.now) }

@@ -7,9 +7,9 @@ ghost use Rattle.dutch_player.specs.Prelude.{Facts, CountFromOne};
 ghost use Rattle.dutch_bracket.specs.Prelude.{completable, downfloaters, seats_meet, seats_may_be_left};
 ghost use Rattle.dutch_bracket.specs.Completion.{Completable};
 ghost use Rattle.dutch_bracket.specs.declared.reached.BracketKind.TheVariants.{Collapsed, Penultimate};
-ghost use Rattle.dutch_rounds.specs.Prelude.{Pairing, Visit, round, everybody, lower_of, AreInOrder, boards, ordered, Barrier};
+ghost use Rattle.dutch_rounds.specs.Prelude.{Pairing, Visit, round, everybody, lower_of, AreInOrder, boards, pairs_in_order};
 ghost use Rattle.dutch_rounds.specs.Prelude.{NameEverybodyOnce, is_reached, HasNoPairOf, NoTwoMayMeet, PairOut, moved_down};
-ghost use Rattle.dutch_rounds.specs.Prelude.{Blocks};
+ghost use Rattle.dutch_rounds.specs.Prelude.{Barrier, Blocks};
 ghost use Rattle.pairing_laws.specs.SharedBrackets.{ArePaired, pairs_in, shares};
 
 use dutch_player::Field;
@@ -38,7 +38,7 @@ pub fn at_most_one_has_the_bye()
 /// The pairs of a round stand in the order of their boards: none goes before one that stands in front of it.
 #[tactic(auto, using(dutch_rounds::proofs::BoardOrder::boards_in_order))]
 pub fn boards_stand_in_order()
-    ensures { (facts : Facts) (pairs : List (ℕ × ℕ)) → AreInOrder facts (ordered facts pairs) }
+    ensures { (facts : Facts) (pairs : List (ℕ × ℕ)) → AreInOrder facts (pairs_in_order facts pairs) }
 {}
 
 /// No two players who were moved down into a bracket that a round reaches may meet, but in the collapsed one (A.9).

@@ -32,7 +32,7 @@ use Rattle.dutch_player.specs.Facts as fields
 use Rattle.dutch_player.proofs.PresentLemmas.{field_of}
 use Rattle.dutch_player.proofs.RankLemmas.{goes_behind, ranked_IsRanked}
 use Rattle.dutch_bracket.specs.Prelude.{IsPair, score_at}
-use Rattle.dutch_rounds.specs.Prelude.{AreInOrder, NoneBefore, Pairing, both_scores, boards, bye_of, higher, ordered, round}
+use Rattle.dutch_rounds.specs.Prelude.{AreInOrder, NoneBefore, Pairing, both_scores, boards, bye_of, higher, pairs_in_order, round}
 use Rattle.dutch_rounds.specs.Boards.{board_of, goes_before as is_before, goes_before_by_sum}
 use Rattle.dutch_rounds.proofs.BoardLemmas.{colours_pair, pairs_ordered}
 use Rattle.dutch_rounds.proofs.BoardOrder.{boards_in_order}
@@ -398,7 +398,7 @@ module _ (sheet : Sheet) (facts : Facts) (pairing : Pairing) (own : HasOwnStarts
   same_boards can paired =
       let inside = pairs_ordered facts pairing.pairs (pairs_of_seats facts pairing paired) in
       round_boards sheet all_boards own can
-      (strict_pairs (ordered facts pairing.pairs) inside (boards_in_order facts pairing.pairs) (one_bye facts pairing paired) can.once)
+      (strict_pairs (pairs_in_order facts pairing.pairs) inside (boards_in_order facts pairing.pairs) (one_bye facts pairing paired) can.once)
 
 pub paired_boards : (sheet : Sheet) (asked : Option ℕ) (initial : Option Colour) (facts : Facts) (pairing : Pairing)
     → HasOwnStarts sheet → IfSome asked (λ total. total ≤ MOST_ROUNDS) → facts_of sheet asked initial ≡ Ok facts → (round facts).pairing ≡ Some pairing

@@ -3,7 +3,7 @@ use Rattle.std.proofs.Common.{◌≡◌, Some, None, ap, sym, ◌∙◌, subst}
 use Rattle.dutch_arrangements.specs.Prelude.{Fits}
 use Rattle.dutch_bracket.specs.Prelude.{Context, HasCandidate, shape_of, Reached, frame_of}
 use Rattle.dutch_rounds.specs.declared.walk.Next.{Next}
-use Rattle.dutch_rounds.specs.Prelude.{shown, visit_at, visit_of, round, IsFound, StandsAt, Walk, round_from, StandsBefore}
+use Rattle.dutch_rounds.specs.Prelude.{bracket_and_shape, visit_at, visit_of, round, IsFound, StandsAt, Walk, round_from, StandsBefore}
 use Rattle.dutch_rounds.proofs.NoDeadEnd.{stands_has}
 use Rattle.dutch_rounds.proofs.RoundEnds.{visit_here}
 use Rattle.dutch_rounds.proofs.WalkSteps.{stands_above, stands_number, stands_shown}
@@ -51,4 +51,4 @@ returns-clause-found c =
     ∙ ap (λ (next : Next). visit_at 0 (round_from facts next).reached) c.in-Bracket.is in
     subst (λ (b : Reached). IsFound c.args.self.now.facts c.args.self.now.number (Some (b, shape))) (sym c.copied.ensures)
     (subst (λ (walk : Walk). IsFound walk.facts walk.number (Some (reached, shape))) c.self.view_is
-    (stands_number facts w.number reached lower s, ap shown here ∙ stands_shown facts w.number reached lower shape s fits.0, above.bracket, fits.1))
+    (stands_number facts w.number reached lower s, ap bracket_and_shape here ∙ stands_shown facts w.number reached lower shape s fits.0, above.bracket, fits.1))

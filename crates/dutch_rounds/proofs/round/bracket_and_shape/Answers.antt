@@ -4,7 +4,7 @@ use Rattle.dutch_player.specs.Prelude.{Facts}
 use Rattle.dutch_rounds.specs.Stage.{Stage}
 use Rattle.dutch_rounds.specs.Prelude.{round, GoesOn}
 use Rattle.dutch_rounds.proofs.RoundEnds.{none_past}
-use Rattle.dutch_rounds.proofs.round.found.Goals as goal
+use Rattle.dutch_rounds.proofs.round.bracket_and_shape.Goals as goal
 
 none_by : (found : Option Stage) → is_some found ≡ false → found ≡ None
 none_by None e = refl

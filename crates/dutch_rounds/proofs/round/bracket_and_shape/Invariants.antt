@@ -1,6 +1,6 @@
 -- The bracket that is asked for is not passed.
 use Rattle.std.proofs.Common.{◌≡◌, ◌<◌, ◌≤◌, length}
-use Rattle.dutch_rounds.proofs.round.found.Given as goal
+use Rattle.dutch_rounds.proofs.round.bracket_and_shape.Given as goal
 
 abbrev pub invariant-loop-walk : goal.invariant-loop-walk
 invariant-loop-walk g l = record {
