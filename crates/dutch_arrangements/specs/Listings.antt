@@ -19,11 +19,6 @@ pub record Listing (R : Type 0) : Type 0 where
   pub latest : Option Arrangement
   pub ended : Bool
 
--- what there is, as a list [own]
-abbrev pub listed : {T : Type 0} → Option T → List T
-listed None = []
-listed (Some x) = x ∷ []
-
 -- what a place holds, if it holds anything
 abbrev pub only_if : {T : Type 0} → Bool → T → Option T
 only_if true x = Some x

@@ -24,7 +24,7 @@ pub use Rattle.dutch_arrangements.specs.Arrangements.{Arrangement, Fits, Frame, 
 pub use Rattle.dutch_arrangements.specs.Candidates.{Candidate}
 pub use Rattle.dutch_arrangements.specs.Levels.{HasS1r, HasS2, HasS2r, Of, arranged, blocks_from, choices_from, if_own, pairs_meet, s1_blocks, s1r_blocks, s2_blocks, within, without_own}
 unfoldable pub use Rattle.dutch_arrangements.specs.Levels.{in_bracket, in_s1, in_s1r, in_s2, may_leave}
-pub use Rattle.dutch_arrangements.specs.Listings.{Ends, EndsAtOnce, EndsPast, Gives, GivesPast, Listing, Stops, StopsPast, TellsEnd, candidates_from, leaves_too_many, listed, only_if, still_coming}
+pub use Rattle.dutch_arrangements.specs.Listings.{Ends, EndsAtOnce, EndsPast, Gives, GivesPast, Listing, Stops, StopsPast, TellsEnd, candidates_from, leaves_too_many, only_if, still_coming}
 unfoldable pub use Rattle.dutch_arrangements.specs.Listings.{AreCandidates}
 pub use Rattle.dutch_arrangements.specs.Cursors.{are_different, are_of, arrangement_of, ascends_above, cursor_of, cursor_text, has_syntax, is_among, is_numeral, is_of, is_set_of, is_tuple_of, list_of, list_text, moved_down_of, number_after, number_of, of_bracket, onto_first, parsed, parts}
 pub use Rattle.dutch_arrangements.specs.CursorLists.{IsLong, is_short}

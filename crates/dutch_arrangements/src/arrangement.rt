@@ -1,6 +1,5 @@
 // An arrangement of a bracket, specified by its four lists of numbers.
-ghost use Rattle.std.specs.Prelude.{◌≡◌, ◌∷◌, [], Some, None, cond, is_some, option_copied};
-ghost use Rattle.dutch_arrangements.specs.Listings.{listed};
+ghost use Rattle.std.specs.Prelude.{◌≡◌, Some, None, is_some, option_copied};
 
 use crate::cursor::Cursor;
 use arrayvec::ArrayVec;
@@ -125,19 +124,6 @@ impl LastArrangement {
     {
         self.is_held = true;
         self.lists.fill(lists);
-    }
-
-    /// Takes out what stands there, if anything does.
-    pub fn take(&mut self, lists: &mut Arrangement) -> bool
-        ensures taken { listed self.old ≡ cond result (lists.new ∷ []) [] }
-        ensures emptied { self.new ≡ None }
-    {
-        if !self.is_held {
-            return false;
-        }
-        lists.fill(&self.lists);
-        self.is_held = false;
-        true
     }
 
     /// What stands there, as a cursor.
