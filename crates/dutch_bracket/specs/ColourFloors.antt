@@ -69,8 +69,8 @@ suits facts reached x y =
     (count_in facts (misses Preference) (seat_of reached.seats x, seat_of reached.seats y) == 0) && numbers_meet facts reached x y
 
 -- the players whom S1R still has to pair
-abbrev pub waiting : Arrangement → List ℕ
-waiting b = beyond b.s2r b.s1r
+abbrev pub rest_of_s1r : Arrangement → List ℕ
+rest_of_s1r b = beyond b.s2r b.s1r
 
 -- and those with whom it can pair them
 abbrev pub pool : Facts → Reached → Arrangement → List ℕ
@@ -78,11 +78,11 @@ pool facts reached b = left_of (left_of (left_of (residents_of (frame_of facts r
 
 -- of those who wait how many suit nobody of the pool
 unfoldable pub lonely_first : Facts → Reached → Arrangement → ℕ
-lonely_first facts reached b = length (filter (λ x. not (list_any (suits facts reached x) (pool facts reached b))) (waiting b))
+lonely_first facts reached b = length (filter (λ x. not (list_any (suits facts reached x) (pool facts reached b))) (rest_of_s1r b))
 
 -- of the pool how many suit nobody who waits
 unfoldable pub lonely_second : Facts → Reached → Arrangement → ℕ
-lonely_second facts reached b = length (filter (λ y. not (list_any (λ x. suits facts reached x y) (waiting b))) (pool facts reached b))
+lonely_second facts reached b = length (filter (λ y. not (list_any (λ x. suits facts reached x y) (rest_of_s1r b))) (pool facts reached b))
 
 -- the residents who go down with a shape [with psd_with]
 abbrev pub residents_down : Reached → Shape → ℕ

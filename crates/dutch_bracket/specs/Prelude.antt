@@ -29,7 +29,7 @@ pub use Rattle.dutch_bracket.specs.Groups.{IsScoregroup, NeighboursDiffer, front
 pub use Rattle.dutch_bracket.specs.SeatLaws.{equal_sym, numbers_meet_sym, seats_meet_sym}
 pub use Rattle.dutch_bracket.specs.Eligible.{HasCandidate}
 pub use Rattle.dutch_bracket.specs.Beginnings.{HasFewPairs, HasPairsOf, LacksEndOfS2r, fixed, fixed_lists, free, has_s1, in_both, is_of_shape, lists_by, most_served, seated_so}
-pub use Rattle.dutch_bracket.specs.ColourFloors.{adds_top, beyond, collide, is_firm, more_missed, more_missed_strong, pool, residents_down, surplus, surplus_firm, waiting, wants, wants_firmly}
+pub use Rattle.dutch_bracket.specs.ColourFloors.{adds_top, beyond, collide, is_firm, more_missed, more_missed_strong, pool, residents_down, rest_of_s1r, surplus, surplus_firm, wants, wants_firmly}
 unfoldable pub use Rattle.dutch_bracket.specs.ColourFloors.{lonely, lonely_first, lonely_second, suits}
 pub use Rattle.dutch_bracket.specs.PsdFloors.{IsUniform, floor_psd, is_uniform, repeated}
 unfoldable pub use Rattle.dutch_bracket.specs.PsdFloors.{psd_with}

@@ -13,6 +13,7 @@ use crate::reached::push_all;
 use crate::seated::Seated;
 use dutch_arrangements::{Candidate, LIMIT, Numbers};
 use dutch_player::Field;
+use dutch_sequence::numbers::refill;
 use std::cmp::Reverse;
 use std::marker::Model;
 
@@ -109,23 +110,39 @@ impl Quality {
         push_all(psd, &mut self.next_psd);
     }
 
-    /// A quality that is worse than this one by one player at C.15, and has no differences of C.16 to C.19.
-    pub fn without_differences(self) -> Quality {
-        let mut quality = self;
-        quality.up_again_before = quality.up_again_before.saturating_add(1);
-        quality.down_again_by.clear();
-        quality.up_again_by.clear();
-        quality.down_again_before_by.clear();
-        quality.up_again_before_by.clear();
-        quality
+    /// Becomes the same as another one. (It is large: so no more is copied than its lists have.)
+    pub fn fill(&mut self, other: &Quality)
+        ensures { self.new ≡ other.now }
+    {
+        refill(&mut self.psd, &other.psd);
+        self.next_pairs = other.next_pairs;
+        refill(&mut self.next_psd, &other.next_psd);
+        self.wide_differences = other.wide_differences;
+        self.third_colours = other.third_colours;
+        self.missed_preferences = other.missed_preferences;
+        self.missed_strong = other.missed_strong;
+        self.down_again = other.down_again;
+        self.up_again = other.up_again;
+        self.down_again_before = other.down_again_before;
+        self.up_again_before = other.up_again_before;
+        refill(&mut self.down_again_by, &other.down_again_by);
+        refill(&mut self.up_again_by, &other.up_again_by);
+        refill(&mut self.down_again_before_by, &other.down_again_before_by);
+        refill(&mut self.up_again_before_by, &other.up_again_before_by);
     }
 
-    /// The same quality, but worse than any other one in the first item that floats decide (C.12), so that none of
-    /// those counts.
-    pub fn with_the_worst_floats(self) -> Quality {
-        let mut worst = self;
-        worst.down_again = usize::MAX;
-        worst
+    /// Leaves out the differences of C.16 to C.19, and becomes worse by one player at C.15.
+    pub fn drop_differences(&mut self) {
+        self.up_again_before = self.up_again_before.saturating_add(1);
+        self.down_again_by.clear();
+        self.up_again_by.clear();
+        self.down_again_before_by.clear();
+        self.up_again_before_by.clear();
+    }
+
+    /// Becomes worse than any other one in the first item that floats decide (C.12), so that none of those counts.
+    pub fn put_worst_floats(&mut self) {
+        self.down_again = usize::MAX;
     }
 
     /// C.6: the PSD, the differences of all pairs and all downfloaters in half points, the highest first.

@@ -228,10 +228,30 @@ pub fn greatest_shape<R: Rule, S: Shapes<R>>(
     }
 }
 
-/// The greatest shape of a bracket that has a legal arrangement by a rule; none if no shape has one. (It stands apart
-/// from its caller, since a lister is large.)
+/// The greatest shape that has a legal arrangement, with a lister on the stack, where memory is refused. (Apart from its
+/// caller, as a lister is large.)
 #[inline(never)]
+fn greatest_on_stack<R: Rule>(
+    legal: &Legal<'_, R>,
+    budget: &mut Budget,
+) -> Result<Option<Shape>, Stopped>
+    ensures answer { MatchFound result
+        (λ shape. greatest_shape (candidates (R.meets legal.now.rule.now) (R.may_be_left legal.now.rule.now)
+        legal.now.bracket.now) legal.now.bracket.now ≡ Some shape)
+        (greatest_shape (candidates (R.meets legal.now.rule.now) (R.may_be_left legal.now.rule.now)
+        legal.now.bracket.now) legal.now.bracket.now ≡ None)
+        (budget.new.used ≡ budget.new.limit) }
+    ensures spends { Spends budget.old budget.new }
+{
+    let mut lister = Lister::new(legal.bracket, legal.rule);
+    let found = greatest_shape(legal, &mut lister, budget)?;
+    Ok(found)
+}
+
+/// The greatest shape of a bracket that has a legal arrangement by a rule; none if no shape has one. Its lister is on
+/// the heap, if that has room for it.
 pub fn greatest_legal<R: Rule>(
+    alloc: Global,
     bracket: &Bracket,
     rule: &R,
     budget: &mut Budget,
@@ -244,7 +264,9 @@ pub fn greatest_legal<R: Rule>(
     ensures spends { Spends budget.old budget.new }
 {
     let legal = Legal { bracket, rule };
-    let mut lister = Lister::new(bracket, rule);
-    let found = greatest_shape(&legal, &mut lister, budget)?;
+    let Ok(mut lister) = Lister::boxed(alloc, bracket, rule) else {
+        return greatest_on_stack(&legal, budget);
+    };
+    let found = greatest_shape(&legal, &mut *lister, budget)?;
     Ok(found)
 }

@@ -9,13 +9,12 @@ use Rattle.dutch_arrangements.specs.declared.prefix.Filling.TheVariants.{Choosin
 use Rattle.dutch_arrangements.specs.Prelude.{Arrangement, Fits, arrangements, down, IsIn, BeginsAt}
 use Rattle.dutch_sequence.proofs.FromOn.{is_same-true}
 use Rattle.dutch_player.specs.Prelude.{Facts}
-use Rattle.dutch_floors.specs.declared.outlook.Outlook.{Outlook}
 use Rattle.dutch_bracket.specs.declared.reached.BracketKind.{BracketKind}
 use Rattle.dutch_bracket.specs.declared.reached.BracketKind.TheVariants.{Ordinary, Last, Penultimate, Collapsed}
 use Rattle.dutch_floors.specs.FloorOf.{is_flat, residents_score, s1_by}
 use Rattle.dutch_bracket.specs.Prelude.{is_uniform, has_s1, lists_by, IsNotBetter, pairs_by_counts, IsFlat, is_lower, next_bracket, no_value, value_in, quality, HasNoBetter, NextValue, quality_with, IsAbove, IsOf, Reached, frame_of, downfloaters, first_group, quality_of, scoregroups, score_at, seat_of}
 use Rattle.dutch_floors.specs.GhostValues.{first_limbo, ghost_value}
-use Rattle.dutch_floors.specs.Outlooks.{IsOutlook, best_next_for, first_or_any, limbo_scores, leaves_first}
+use Rattle.dutch_floors.specs.Outlooks.{IsOutlook, Outlook, best_next_for, first_or_any, limbo_scores, leaves_first}
 use Rattle.dutch_candidates.proofs.C06Psd.{flat_by_ends, uniform_of}
 use Rattle.dutch_bracket.proofs.GhostPairs.{down_count}
 use Rattle.dutch_floors.proofs.C07Ghosts.{no_value_has_more_than_half_the_players_in_pairs}
@@ -102,12 +101,12 @@ module _ (facts : Facts) (reached : Reached) (lower : List ℕ) (shape : Shape) 
     first = λ value some. let bad : None ≡ Some value = sym first ∙ some in absurd (cc);
   }
 
-  -- and by ghosts, where all residents have one score
-  pub by_ghosts : (outlook : Outlook) (value : NextValue) → IsAbove facts reached lower → Fits (frame_of facts reached) shape
-      → reached.kind ≡ Ordinary → IsFlat facts reached → value ≡ ghost_value facts reached shape group → outlook.first ≡ Some value
-      → outlook.any ≡ record { pairs = pairs_by_counts reached shape group; psd = [] } → IsOutlook facts reached lower shape outlook
-  by_ghosts outlook value above fits ordinary flat by first any = record {
-    any = λ a m. counts_hold a outlook.any above.bracket fits ordinary any m;
+  -- and with ghosts, where all residents have one score
+  pub with_ghosts : (before outlook : Outlook) (value : NextValue) → IsAbove facts reached lower → reached.kind ≡ Ordinary → IsFlat facts reached
+      → IsOutlook facts reached lower shape before → value ≡ ghost_value facts reached shape group → outlook.first ≡ Some value
+      → outlook.any ≡ before.any → IsOutlook facts reached lower shape outlook
+  with_ghosts before outlook value above ordinary flat is by first any = record {
+    any = λ a m. subst (HasNoBetter (quality_of facts reached lower a)) (sym any) (is.any a m);
     first = λ found some.
         let same : found ≡ ghost_value facts reached shape group = (let one : Some value ≡ Some found = sym first ∙ some in let v : found ≡ value = cc in v) ∙ by in (
           flat,

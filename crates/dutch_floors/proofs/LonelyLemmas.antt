@@ -8,7 +8,7 @@ use Rattle.dutch_sequence.proofs.Members.{numbers-append}
 use Rattle.dutch_player.specs.Prelude.{Facts}
 use Rattle.dutch_sequence.specs.declared.numbers.TheConstants.{LIMIT}
 use Rattle.dutch_arrangements.specs.declared.bracket.Shape.{Shape}
-use Rattle.dutch_bracket.specs.Prelude.{Reached, score_at, has_bit, beyond, lonely, lonely_first, lonely_second, pool, residents_down, suits, waiting}
+use Rattle.dutch_bracket.specs.Prelude.{Reached, score_at, has_bit, beyond, lonely, lonely_first, lonely_second, pool, residents_down, suits, rest_of_s1r}
 use Rattle.dutch_sequence.proofs.Skipping.{filter-keeps, filter-drops}
 
 three : (p q r : ℕ → Bool) (x : ℕ) (xs ys : List ℕ) (a b c : Bool) → p x ≡ not a → q x ≡ not b → r x ≡ not c
@@ -63,7 +63,7 @@ beyond_is (y ∷ part) [] = refl
 beyond_is (y ∷ part) (x ∷ xs) = beyond_is part xs
 
 -- lonely players by the lists in which they were counted
-pub lonely_few : (facts : Facts) (reached : Reached) (shape : Shape) (b : Arrangement) (waits others : List ℕ) (first second : ℕ) → waits ≡ waiting b → others ≡ pool facts reached b
+pub lonely_few : (facts : Facts) (reached : Reached) (shape : Shape) (b : Arrangement) (waits others : List ℕ) (first second : ℕ) → waits ≡ rest_of_s1r b → others ≡ pool facts reached b
     → first ≤ length (filter (λ x. not (list_any (suits facts reached x) others)) waits)
     → second ≤ length (filter (λ y. not (list_any (λ x. suits facts reached x y) waits)) others)
     → max first (second - residents_down reached shape) ≤ lonely facts reached shape b

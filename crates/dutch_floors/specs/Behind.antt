@@ -5,7 +5,7 @@ use Rattle.dutch_arrangements.specs.Prelude.{Arrangement, Beginning, Begins, IsI
 use Rattle.dutch_player.specs.Prelude.{Facts}
 use Rattle.dutch_bracket.specs.declared.shaped.ShapedBracket.{ShapedBracket}
 use Rattle.dutch_bracket.specs.Prelude.{HasNoBetter, IsOf, NextValue, Quality, Reached, candidates_of, is_better, quality_of}
-use Rattle.dutch_floors.specs.declared.outlook.Outlook.{Outlook}
+use Rattle.dutch_floors.specs.Outlooks.{Outlook}
 
 -- what floors stand on: a bracket of a field above lower seats, the shape of its arrangements, and what is known of the next bracket [own]
 pub record Basis : Type 0 where

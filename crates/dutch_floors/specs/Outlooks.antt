@@ -3,10 +3,14 @@ use Rattle.std.specs.Prelude.{◌≡◌, ℕ, Bool, if◌then◌else◌, List, m
 use Rattle.dutch_arrangements.specs.declared.bracket.Shape.{Shape}
 use Rattle.dutch_arrangements.specs.Prelude.{Arrangement, arrangements, left_of, is_same, numbers_from, IsIn}
 use Rattle.dutch_player.specs.Prelude.{Facts}
-use Rattle.dutch_floors.specs.declared.outlook.Outlook.{Outlook}
 use Rattle.dutch_floors.specs.GhostValues.{first_limbo}
 use Rattle.dutch_bracket.specs.declared.shaped.ShapedBracket.{ShapedBracket}
 use Rattle.dutch_bracket.specs.Prelude.{IsFlat, HasNoBetter, NextValue, Reached, frame_of, quality_of, seat_of, score_at}
+
+-- what the next bracket can be at best: if the Limbo has the scores of the first one, if that is known; and in any case [with IsOutlook]
+pub record Outlook : Type 0 where
+  pub first : Option NextValue
+  pub any : NextValue
 
 -- the scores of the moved-down players who are not in an S1
 abbrev pub limbo_scores : Facts → Reached → List ℕ → List ℕ

@@ -85,7 +85,7 @@ pub(crate) fn wants_in(context: &Context<'_>, firm: bool) -> Wants
 
 /// How many of a bracket's players who want one colour can get it at most, or need none, outside of so many pairs: one
 /// in each pair that is still to be made, and each downfloater.
-pub(crate) fn served(context: &Context<'_>, shape: Shape, pairs: usize) -> usize
+pub(crate) fn colour_places(context: &Context<'_>, shape: Shape, pairs: usize) -> usize
     requires small { shape.pairs ≤ LIMIT }
     ensures { result ≡ (shape.pairs - pairs) + (length context.now.reached.seats - 2 * shape.pairs) }
 {
@@ -95,19 +95,19 @@ pub(crate) fn served(context: &Context<'_>, shape: Shape, pairs: usize) -> usize
 
 /// How many of those who want a colour cannot be served: all of them, without those in some pairs, and without as many
 /// as can be served outside of these.
-fn surplus(wanted: usize, in_pairs: usize, served: usize) -> usize
-    ensures { result ≡ (wanted - in_pairs) - served }
+fn surplus(wanted: usize, in_pairs: usize, places: usize) -> usize
+    ensures { result ≡ (wanted - in_pairs) - places }
 {
-    wanted.saturating_sub(in_pairs).saturating_sub(served)
+    wanted.saturating_sub(in_pairs).saturating_sub(places)
 }
 
 /// How many players outside of some pairs miss their preference at least (C.10): by how many of all want each colour,
 /// how many of those in the pairs do, and how many of one colour can be served outside of the pairs. With counts of
 /// firm preferences, how many miss a firm one (C.11).
-pub(crate) fn more_missed(all: Wants, in_pairs: Wants, served: usize) -> usize
-    ensures { result ≡ max ((all.white - in_pairs.white) - served) ((all.black - in_pairs.black) - served) }
+pub(crate) fn more_missed(all: Wants, in_pairs: Wants, places: usize) -> usize
+    ensures { result ≡ max ((all.white - in_pairs.white) - places) ((all.black - in_pairs.black) - places) }
 {
-    surplus(all.white, in_pairs.white, served).max(surplus(all.black, in_pairs.black, served))
+    surplus(all.white, in_pairs.white, places).max(surplus(all.black, in_pairs.black, places))
 }
 
 /// How many players miss their preference (C.10), and how many a strong one (C.11).

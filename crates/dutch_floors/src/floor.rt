@@ -1,6 +1,6 @@
 // The floor of a beginning: a quality that no candidate with this beginning is better than (C.04.3 C.6 to C.19). It is
 // asked for at each beginning that a choice comes to, so it takes no memory and looks at each player only a few times.
-ghost use Rattle.std.specs.Prelude.{◌≡◌, ◌≤◌, ◌||◌, ◌&&◌, ℕ, [], true, filter, length};
+ghost use Rattle.std.specs.Prelude.{◌≡◌, ◌≤◌, IfOk, ◌||◌, ◌&&◌, ℕ, [], true, filter, length};
 ghost use Rattle.std.specs.Result.{MatchResult};
 ghost use Rattle.dutch_arrangements.specs.Prelude.{Fits, Spends};
 ghost use Rattle.dutch_arrangements.specs.declared.prefix.Filling.TheVariants.{S2r};
@@ -8,24 +8,27 @@ ghost use Rattle.dutch_sequence.specs.declared.numbers.TheConstants.{LIMIT};
 ghost use Rattle.dutch_bracket.specs.Prelude.{all_pairs, fixed, fixed_lists, frame_of, has_s1, is_uneven, is_uniform};
 ghost use Rattle.dutch_bracket.specs.Prelude.{HasFewPairs, IsOf, next_in, psd_with, quality_in, seated_so};
 ghost use Rattle.dutch_bracket.specs.Prelude.{IsNoBetter};
-ghost use Rattle.dutch_floors.specs.Outlooks.{IsOutlook, IsOutlookFrom, best_next_for};
+ghost use Rattle.dutch_bracket.specs.declared.shaped.ShapedBracket.{ShapedBracket};
+ghost use Rattle.dutch_floors.specs.Outlooks.{IsOutlook, best_next_for};
 ghost use Rattle.dutch_floors.specs.FloorOf.{AreWants, is_flat, is_known, residents_score, psd_over, more_by, more_in};
 ghost use Rattle.dutch_floors.specs.FloorOf.{floor_with, s1_of};
 ghost use Rattle.dutch_floors.specs.KnownPairs.{AreKnown, by_seat, number_pairs};
 ghost use Rattle.dutch_floors.specs.Missed.{AreMissed};
 ghost use Rattle.dutch_floors.specs.Behind.{IsBasisFor, NoneBeats, NoneHasBetterNext};
 
-use crate::colour_floor::{Wants, more_missed, served, wants_in};
+use crate::colour_floor::{Wants, colour_places, more_missed, wants_in};
 use crate::known_pairs::{KnownPairs, PairSums, fill_uneven};
 use crate::lonely::{lonely, most_lonely};
 use crate::notes::{FloorNotes, FloorQuestion};
-use crate::outlook::{Outlook, is_flat, leaves_first};
-use dutch_arrangements::{Budget, Filling, LIMIT, Numbers, Prefix, Shape, Stopped, numbered_from};
+use crate::outlook::{Outlook, is_flat};
+use dutch_arrangements::{Budget, Filling, LIMIT, Numbers, Prefix, Shape, Stopped};
 use dutch_bracket::differences::fill_psd;
 use dutch_bracket::quality::{NextValue, Quality, QualityLists, fill_floats};
 use dutch_bracket::shaped::ShapedBracket;
 use dutch_candidates::fixed_lists::{FixedLists, fill_fixed, fixed_lists, has_s1, is_of_shape};
 use dutch_candidates::psd_floor::{FlatShape, is_uniform};
+use dutch_sequence::numbers::put_numbered;
+use std::alloc::AllocError;
 use std::marker::Model;
 
 /// What the floors of a bracket and a shape stand on, read once for a choice.
@@ -38,8 +41,8 @@ pub struct Floors<'a> {
     flat: bool,
     // all S1 leave moved-down players with the same scores
     uniform: bool,
-    // the first S1
-    first: Numbers,
+    // the first S1 (on the heap, as it is large)
+    first: Box<Numbers>,
     // how many of the bracket's players want each colour, and how many of them firmly (C.10, C.11)
     wants: Wants,
     firm_wants: Wants,
@@ -61,46 +64,39 @@ impl<'a> Model for Floors<'a> {
         × (IsOutlookFrom f.shaped f.outlook)
         × (f.flat ≡ is_flat context.facts context.reached)
         × (f.uniform ≡ is_uniform context.facts context.reached f.shaped.shape)
-        × (f.first.items ≡ numbers_from 1 f.shaped.shape.mdps)
+        × (f.first.value.items ≡ numbers_from 1 f.shaped.shape.mdps)
         × (AreWants context.facts context.reached f.wants × (f.wants.firm ≡ false))
         × (AreWants context.facts context.reached f.firm_wants × (f.firm_wants.firm ≡ true)) };
 }
 
 impl<'a> Floors<'a> {
-    /// The floors of a shape, for what the next bracket can be at best.
+    /// The floors of a shape, where counts alone tell of the next bracket.
     #[tactic(auto, using(dutch_candidates::proofs::ShapeNumbers::small_mdps))]
-    fn new(shaped: &ShapedBracket<'a>, outlook: Outlook) -> Floors<'a>
-        requires { IsOutlookFrom shaped.now outlook }
-        ensures { IsBasisFor shaped.now result }
+    pub fn by_counts(shaped: &ShapedBracket<'a>) -> Result<Floors<'a>, AllocError>
+        ensures { IfOk result (IsBasisFor shaped.now) }
     {
         let context = shaped.context;
         let flat = is_flat(context);
-        let uniform = is_uniform(context.rule(), shaped.shape);
-        Floors {
+        let mut first = Box::new(context.alloc(), Numbers::new())?;
+        put_numbered(1, shaped.shape.mdps, &mut *first);
+        Ok(Floors {
             shaped: *shaped,
-            outlook,
+            outlook: Outlook::by_counts(shaped)?,
             flat,
-            uniform,
-            first: numbered_from(1, shaped.shape.mdps),
+            uniform: is_uniform(context.rule(), shaped.shape),
+            first,
             wants: wants_in(context, false),
             firm_wants: wants_in(context, true),
-        }
+        })
     }
 
-    /// The floors of a shape. What the next bracket can be at best is looked for first.
-    pub fn find(shaped: &ShapedBracket<'a>, budget: &mut Budget) -> Result<Floors<'a>, Stopped>
-        ensures answer { MatchResult result (IsBasisFor shaped.now) (λ _. budget.new.used ≡ budget.new.limit) }
+    /// Looks for what the next bracket can be at best (C.7). If the steps end, less is known of it.
+    pub fn look_below(&mut self, budget: &mut Budget) -> Result<(), Stopped>
+        ensures floors { (shaped : ShapedBracket) → IsBasisFor shaped self.old → IsBasisFor shaped self.new }
+        ensures stopped { MatchResult result (λ _. Unit {0}) (λ _. budget.new.used ≡ budget.new.limit) }
         ensures spends { Spends budget.old budget.new }
     {
-        let outlook = Outlook::find(shaped, budget)?;
-        Ok(Floors::new(shaped, outlook))
-    }
-
-    /// The floors of a shape, where counts alone tell of the next bracket.
-    pub fn by_counts(shaped: &ShapedBracket<'a>) -> Floors<'a>
-        ensures { IsBasisFor shaped.now result }
-    {
-        Floors::new(shaped, Outlook::by_counts(shaped))
+        self.outlook.look_below(&self.shaped, budget)
     }
 
     /// The shape, and that the bracket has room for it.
@@ -152,15 +148,7 @@ impl<'a> Floors<'a> {
     fn best_next_for(&self, s1: &[u16]) -> &NextValue
         ensures { result.now ≡ best_next_for self.now.facts self.now.reached self.now.shape self.now.outlook s1.now }
     {
-        match &self.outlook.first {
-            Some(first) => {
-                if leaves_first(&self.shaped, s1) {
-                    return first;
-                }
-                return &self.outlook.any;
-            }
-            None => return &self.outlook.any,
-        }
+        self.outlook.best_for(&self.shaped, s1)
     }
 
     /// The best that the next bracket can be behind arrangements with the first S1 (C.7).
@@ -203,8 +191,8 @@ impl<'a> Floors<'a> {
         ensures few { result ≤ LIMIT }
         ensures room { length known.now.pairs.items ≤ LIMIT }
     {
-        let served = served(self.shaped.context, self.shape(), known.pairs.len());
-        more_missed(self.wants(firm), known.sums.wants(firm), served)
+        let places = colour_places(self.shaped.context, self.shape(), known.pairs.len());
+        more_missed(self.wants(firm), known.sums.wants(firm), places)
     }
 
     /// Yes if lonely players may make a difference: S1R is chosen, it is not yet plain that the floor loses, and with
@@ -353,13 +341,13 @@ impl<'a> Floors<'a> {
         true
     }
 
-    /// The quality that a first pass has as its target, if all residents have one score: what a beginning with the
-    /// first S1 promises up to C.11. Any target may be taken: what is chosen among the candidates that it is not better
-    /// than is what is chosen among all.
+    /// Fills the quality that a first pass has as its target, if all residents have one score: what a beginning with
+    /// the first S1 promises up to C.11. A no says that there is none. Any target may be taken: what is chosen among
+    /// the candidates that it is not better than is what is chosen among all.
     #[tactic(auto, using(dutch_candidates::proofs::ShapeNumbers::first_length))]
-    pub fn target(&self) -> Option<Quality> {
+    pub fn fill_target(&self, notes: &mut FloorNotes, room: &mut QualityLists) -> bool {
         if !self.flat {
-            return None;
+            return false;
         }
         let lists = FixedLists {
             s1: &[],
@@ -367,12 +355,12 @@ impl<'a> Floors<'a> {
             s1r: &[],
             s2r: &[],
         };
-        let (mut known, mut room) = (KnownPairs::default(), QualityLists::default());
-        known.clear();
-        let more = self.more_missed(&known, false);
-        let sums = self.sums_with(&known, more);
-        self.fill_first(&self.first, &lists, &mut room);
-        self.fill_counted(&lists, sums, &mut room);
-        Some(room.quality.with_the_worst_floats())
+        notes.known.clear();
+        let more = self.more_missed(&notes.known, false);
+        let sums = self.sums_with(&notes.known, more);
+        self.fill_first(&self.first, &lists, room);
+        self.fill_counted(&lists, sums, room);
+        room.quality.put_worst_floats();
+        true
     }
 }

@@ -1,25 +1,24 @@
 // What the next bracket can be at best, as ghosts tell it (C.04.3 C.7): the most pairs that ghosts with the scores of
 // the downfloaters find there, and the floor of its PSD. It is looked for once a bracket, before any candidate is
 // looked at.
-ghost use Rattle.std.specs.Prelude.{◌≡◌, ◌+◌, ◌-◌, ◌*◌, ◌<◌, ◌≤◌, ◌++◌, None, Some, false, length, map};
+ghost use Rattle.std.specs.Prelude.{◌≡◌, ◌+◌, ◌-◌, ◌*◌, ◌<◌, ◌≤◌, ◌++◌, length, map};
 ghost use Rattle.std.specs.Result.{MatchResult};
 ghost use Rattle.arrayvec.specs.ArrayVec.{array_vec_len};
-ghost use Rattle.dutch_arrangements.specs.Prelude.{IsBracket, MatchFound, Spends, candidates, left_of};
+ghost use Rattle.dutch_arrangements.specs.Prelude.{IsBracket, Spends, left_of};
 ghost use Rattle.dutch_bracket.specs.declared.reached.BracketKind.TheVariants.{Ordinary};
-ghost use Rattle.dutch_bracket.specs.Prelude.{ghost_frame, greatest_shape, group_here, IsFlat, placed_all, seat_of};
+ghost use Rattle.dutch_bracket.specs.Prelude.{ghost_frame, group_here, IsFlat, placed_all, seat_of};
 ghost use Rattle.dutch_bracket.specs.Prelude.{score_at};
 ghost use Rattle.dutch_floors.specs.GhostValues.{first_limbo, first_ghosts, floor_held, ghost_value};
 
 use crate::ghosts::Ghosts;
 use arrayvec::ArrayVec;
-use dutch_arrangements::{Bracket, Budget, LIMIT, Numbers, Rule, Shape, Stopped, numbered_from};
+use dutch_arrangements::{Bracket, Budget, LIMIT, Numbers, Stopped, numbered_from};
 use dutch_bracket::context::Context;
 use dutch_bracket::differences::{push_times, put, put_times};
 use dutch_bracket::quality::NextValue;
 use dutch_bracket::reached::{push_all, push_scores};
 use dutch_bracket::shaped::ShapedBracket;
-use dutch_candidates::greatest::{Legal, Lister, greatest_legal, greatest_shape};
-use std::alloc::Global;
+use dutch_candidates::greatest::greatest_legal;
 
 /// Adds the scores of those numbers that are not in S1.
 pub(crate) fn push_left(context: &Context<'_>, numbers: &[u16], s1: &[u16], scores: &mut Numbers)
@@ -108,28 +107,6 @@ fn floor_held(ghosts: &[u16], least: u16, residents: usize, pairs: usize) -> Num
     numbers
 }
 
-/// The greatest shape of a bracket that has a legal arrangement by a rule; none if no shape has one. Its lister is on
-/// the heap, if that has room for it.
-fn greatest_of<R: Rule>(
-    alloc: Global,
-    bracket: &Bracket,
-    rule: &R,
-    budget: &mut Budget,
-) -> Result<Option<Shape>, Stopped>
-    ensures answer { MatchFound result
-        (λ shape. greatest_shape (candidates (R.meets rule.now) (R.may_be_left rule.now) bracket.now) bracket.now
-        ≡ Some shape)
-        (greatest_shape (candidates (R.meets rule.now) (R.may_be_left rule.now) bracket.now) bracket.now ≡ None)
-        (budget.new.used ≡ budget.new.limit) }
-    ensures spends { Spends budget.old budget.new }
-{
-    let Ok(mut lister) = Lister::boxed(alloc, bracket, rule) else {
-        return greatest_legal(bracket, rule, budget);
-    };
-    let found = greatest_shape(&Legal { bracket, rule }, &mut *lister, budget)?;
-    Ok(found)
-}
-
 /// A value that no value of the next bracket is better than (C.7), behind an arrangement of an ordinary bracket's shape
 /// whose Limbo has the scores of the first one. A step is a player of the bracket with one of the next scoregroup, or
 /// one number tried at one place in the ghosts' bracket.
@@ -150,7 +127,7 @@ pub(crate) fn ghost_value(
     let scores = ghost_scores(shaped);
     let bracket = ghost_bracket(context, &scores);
     let rule = ghosts.rule(scores.len());
-    let Some(most) = greatest_of(context.alloc(), &bracket, &rule, budget)? else {
+    let Some(most) = greatest_legal(context.alloc(), &bracket, &rule, budget)? else {
         return Ok(NextValue::none());
     };
     let next = context.next();

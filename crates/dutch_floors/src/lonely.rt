@@ -4,7 +4,7 @@ ghost use Rattle.std.specs.Prelude.{◌≡◌, ◌+◌, ◌-◌, ◌≤◌, ◌|
 ghost use Rattle.std.specs.List.{list_any};
 ghost use Rattle.dutch_sequence.specs.declared.numbers.TheConstants.{LIMIT};
 ghost use Rattle.dutch_arrangements.specs.Prelude.{is_member, numbers_from};
-ghost use Rattle.dutch_bracket.specs.Prelude.{has_bit, suits, waiting, pool, lonely, HasFewPairs};
+ghost use Rattle.dutch_bracket.specs.Prelude.{has_bit, suits, rest_of_s1r, pool, lonely, HasFewPairs};
 
 use dutch_arrangements::{LIMIT, Numbers, Shape};
 use dutch_bracket::context::Context;
@@ -175,9 +175,9 @@ fn put_pool(context: &Context<'_>, lists: &FixedLists<'_>, left: &mut Numbers)
 
 /// The players of S1R who have no opponent yet.
 #[tactic(auto, using(crate::proofs::LonelyLemmas::beyond_is))]
-fn waiting<'a>(lists: &FixedLists<'a>) -> &'a [u16]
+fn rest_of_s1r<'a>(lists: &FixedLists<'a>) -> &'a [u16]
     requires { length lists.now.s2r ≤ length lists.now.s1r }
-    ensures items { result.now ≡ waiting lists.now }
+    ensures items { result.now ≡ rest_of_s1r lists.now }
     ensures few { length result.now ≤ length lists.now.s1r }
 {
     lists.s1r.split_at(lists.s2r.len()).1
@@ -227,14 +227,14 @@ fn is_suited(context: &Context<'_>, x: u16, pool: &Marked<'_>, leaning: &mut Lea
 }
 
 /// A no says that one of a pool suits nobody who waits.
-fn suits_one(context: &Context<'_>, y: u16, waiting: &Marked<'_>, leaning: &mut Leaning) -> bool
+fn suits_one(context: &Context<'_>, y: u16, rest: &Marked<'_>, leaning: &mut Leaning) -> bool
     ensures { result ≡ false
-        → list_any (λ x. suits context.now.facts context.now.reached x y) waiting.now.numbers.now ≡ false }
+        → list_any (λ x. suits context.now.facts context.now.reached x y) rest.now.numbers.now ≡ false }
 {
-    if waiting.has(leaning.suitor(y)) {
+    if rest.has(leaning.suitor(y)) {
         return true;
     }
-    let numbers = waiting.numbers;
+    let numbers = rest.numbers;
     let mut left = numbers.len();
     while left > 0 {
         left -= 1;
@@ -249,16 +249,16 @@ fn suits_one(context: &Context<'_>, y: u16, waiting: &Marked<'_>, leaning: &mut 
 /// How many of those who wait suit nobody of the pool, at least.
 fn lonely_first(
     context: &Context<'_>,
-    waiting: &[u16],
+    rest: &[u16],
     pool: &Marked<'_>,
     leaning: &mut Leaning,
 ) -> usize
     ensures value { result ≤ length (filter
-        (λ x. not (list_any (suits context.now.facts context.now.reached x) pool.now.numbers.now)) waiting.now) }
-    ensures few { result ≤ length waiting.now }
+        (λ x. not (list_any (suits context.now.facts context.now.reached x) pool.now.numbers.now)) rest.now) }
+    ensures few { result ≤ length rest.now }
 {
     let mut count = 0;
-    for x in waiting {
+    for x in rest {
         if !is_suited(context, *x, pool, leaning) {
             count += 1;
         }
@@ -269,17 +269,17 @@ fn lonely_first(
 /// How many of the pool suit nobody who waits, at least.
 fn lonely_second(
     context: &Context<'_>,
-    waiting: &Marked<'_>,
+    rest: &Marked<'_>,
     pool: &[u16],
     leaning: &mut Leaning,
 ) -> usize
     ensures value { result ≤ length (filter
-        (λ y. not (list_any (λ x. suits context.now.facts context.now.reached x y) waiting.now.numbers.now)) pool.now) }
+        (λ y. not (list_any (λ x. suits context.now.facts context.now.reached x y) rest.now.numbers.now)) pool.now) }
     ensures few { result ≤ length pool.now }
 {
     let mut count = 0;
     for y in pool {
-        if !suits_one(context, *y, waiting, leaning) {
+        if !suits_one(context, *y, rest, leaning) {
             count += 1;
         }
     }
@@ -309,9 +309,9 @@ pub(crate) fn lonely(
         return 0;
     }
     put_pool(context, lists, &mut room.pool);
-    let (waiting, pool) = (waiting(lists), room.pool.as_slice());
-    let first = lonely_first(context, waiting, &Marked::new(pool), &mut room.leaning);
-    let second = lonely_second(context, &Marked::new(waiting), pool, &mut room.leaning);
+    let (rest, pool) = (rest_of_s1r(lists), room.pool.as_slice());
+    let first = lonely_first(context, rest, &Marked::new(pool), &mut room.leaning);
+    let second = lonely_second(context, &Marked::new(rest), pool, &mut room.leaning);
     room.is_clear = first + second == 0;
     more_lonely(first, second, context.residents_down(shape))
 }
@@ -321,12 +321,12 @@ pub(crate) fn lonely(
 pub(crate) fn most_lonely(context: &Context<'_>, shape: Shape, lists: &FixedLists<'_>) -> usize
     ensures few { result ≤ LIMIT }
 {
-    let waiting = lists.s1r.len().saturating_sub(lists.s2r.len());
+    let rest = lists.s1r.len().saturating_sub(lists.s2r.len());
     let pool = context
         .len()
         .saturating_sub(context.reached().mdps())
         .saturating_sub(lists.s2.len())
         .saturating_sub(lists.s1r.len())
         .saturating_sub(lists.s2r.len());
-    more_lonely(waiting, pool, context.residents_down(shape)).min(LIMIT)
+    more_lonely(rest, pool, context.residents_down(shape)).min(LIMIT)
 }

@@ -1,32 +1,42 @@
 // The best that the next bracket can be, found before any candidate is looked at (C.04.3 C.7): by ghosts if the
 // bracket's residents have one score, otherwise by counting players.
-ghost use Rattle.std.specs.Prelude.{◌≡◌, []};
+ghost use Rattle.std.specs.Prelude.{◌≡◌, IfOk};
 ghost use Rattle.std.specs.Result.{MatchResult};
-ghost use Rattle.dutch_bracket.specs.declared.reached.BracketKind.TheVariants.{Ordinary};
 ghost use Rattle.dutch_floors.specs.FloorOf.{is_flat};
 ghost use Rattle.dutch_bracket.specs.Prelude.{pairs_by_counts, group_here, IsAbove, IsOf};
-ghost use Rattle.dutch_floors.specs.Outlooks.{IsOutlookFrom, leaves_first};
+ghost use Rattle.dutch_floors.specs.Outlooks.{IsOutlookFrom, best_next_for, leaves_first};
 ghost use Rattle.dutch_arrangements.specs.Prelude.{Spends};
 
 use crate::ghost_value::ghost_value;
-use dutch_arrangements::{Budget, Numbers, Stopped};
+use dutch_arrangements::{Budget, Stopped};
 use dutch_bracket::context::Context;
 use dutch_bracket::quality::NextValue;
 use dutch_bracket::reached::BracketKind;
 use dutch_bracket::shaped::ShapedBracket;
+use std::alloc::AllocError;
+use std::marker::Model;
 
-/// What the next bracket can be at best.
+/// What the next bracket can be at best. (Values are large, so they stand on the heap.)
 #[derive(Drop)]
 pub(crate) struct Outlook {
-    /// What it can be at best if the Limbo has the scores of the first one; none if that is not known.
-    pub(crate) first: Option<NextValue>,
-    /// What it can be at best in any case.
-    pub(crate) any: NextValue,
+    // what it can be at best if the Limbo has the scores of the first one; none if that is not known
+    first: Option<Box<NextValue>>,
+    // what it can be at best in any case
+    any: Box<NextValue>,
 }
 
-/// Yes if the Limbo of an S1 has the scores of the first Limbo of the shape: then `Outlook::first` holds behind the S1.
+impl Model for Outlook {
+    ghost use Rattle.std.specs.Prelude.{option_map};
+    ghost use Rattle.dutch_floors.specs.Outlooks.{Outlook};
+
+    ghost Value = { Outlook };
+
+    ghost view = { λ o. record { first = option_map (λ first. first.value) o.first; any = o.any.value } };
+}
+
+/// Yes if the Limbo of an S1 has the scores of the first Limbo of the shape: then what is known of the first one holds behind the S1.
 #[tactic(auto, using(dutch_bracket::proofs::ArrangementParts::next_number), unfolding(crate::specs::Outlooks::leaves_first))]
-pub(crate) fn leaves_first(shaped: &ShapedBracket<'_>, s1: &[u16]) -> bool
+fn leaves_first(shaped: &ShapedBracket<'_>, s1: &[u16]) -> bool
     ensures { let context = shaped.now.context.now
         in result ≡ leaves_first context.facts context.reached shaped.now.shape s1.now }
 {
@@ -48,19 +58,15 @@ pub(crate) fn leaves_first(shaped: &ShapedBracket<'_>, s1: &[u16]) -> bool
     passed == moved_down
 }
 
-/// The value of the next bracket by counts: as many pairs as half of those who go down and of the next lower
-/// scoregroup.
+/// The most pairs of the next bracket by counts: half of those who go down and of the next lower scoregroup.
 #[tactic(auto, using(crate::proofs::C07Outlook::few_pairs))]
-fn value_by_counts(shaped: &ShapedBracket<'_>) -> NextValue
-    ensures value { let context = shaped.now.context.now in result
-        ≡ record { pairs = pairs_by_counts context.reached shaped.now.shape (group_here context); psd = [] } }
+fn pairs_by_counts(shaped: &ShapedBracket<'_>) -> usize
+    ensures value { let context = shaped.now.context.now
+        in result ≡ pairs_by_counts context.reached shaped.now.shape (group_here context) }
     ensures above { let context = shaped.now.context.now in IsAbove context.facts context.reached context.lower }
 {
     let down = shaped.context.reached().seats().len() - 2 * shaped.shape.pairs;
-    NextValue {
-        pairs: (down + shaped.context.next().len()) / 2,
-        psd: Numbers::new(),
-    }
+    (down + shaped.context.next().len()) / 2
 }
 
 /// Yes if a bracket has residents, and all of them have one score. (They stand by score, so the first and the last of
@@ -78,61 +84,54 @@ pub(crate) fn is_flat(context: &Context<'_>) -> bool
 }
 
 impl Outlook {
-    /// The best that the next bracket can be below candidates of a shape. It counts only below an ordinary bracket.
-    #[tactic(auto, using(crate::proofs::C07Outlook::none_counts))]
-    pub(crate) fn find(shaped: &ShapedBracket<'_>, budget: &mut Budget) -> Result<Outlook, Stopped>
-        ensures answer { MatchResult result (IsOutlookFrom shaped.now) (λ _. budget.new.used ≡ budget.new.limit) }
-        ensures spends { Spends budget.old budget.new }
+    /// What counts alone tell of the next bracket below candidates of a shape. It counts only below an ordinary
+    /// bracket.
+    #[tactic(auto, using(crate::proofs::C07Outlook::none_counts, crate::proofs::C07Outlook::by_counts))]
+    pub(crate) fn by_counts(shaped: &ShapedBracket<'_>) -> Result<Outlook, AllocError>
+        ensures { IfOk result (IsOutlookFrom shaped.now) }
     {
+        let mut any = Box::new(shaped.context.alloc(), NextValue::none())?;
         match shaped.context.reached().kind() {
-            BracketKind::Ordinary => Outlook::below_ordinary(shaped, budget),
-            BracketKind::Last | BracketKind::Penultimate | BracketKind::Collapsed => Ok(Outlook {
-                first: None,
-                any: NextValue::none(),
-            }),
+            BracketKind::Ordinary => any.pairs = pairs_by_counts(shaped),
+            BracketKind::Last | BracketKind::Penultimate | BracketKind::Collapsed => {}
         }
+        Ok(Outlook { first: None, any })
     }
 
-    /// What counts alone tell of the next bracket.
-    #[tactic(auto, using(crate::proofs::C07Outlook::none_counts))]
-    pub(crate) fn by_counts(shaped: &ShapedBracket<'_>) -> Outlook
-        ensures { IsOutlookFrom shaped.now result }
-    {
-        match shaped.context.reached().kind() {
-            BracketKind::Ordinary => Outlook::ordinary_by_counts(shaped),
-            BracketKind::Last | BracketKind::Penultimate | BracketKind::Collapsed => Outlook {
-                first: None,
-                any: NextValue::none(),
-            },
-        }
-    }
-
-    /// What counts alone tell of the next bracket, below an ordinary one.
-    #[tactic(auto, using(crate::proofs::C07Outlook::by_counts))]
-    fn ordinary_by_counts(shaped: &ShapedBracket<'_>) -> Outlook
-        requires { shaped.now.context.now.reached.kind ≡ Ordinary }
-        ensures { IsOutlookFrom shaped.now result }
-    {
-        let any = value_by_counts(shaped);
-        Outlook { first: None, any }
-    }
-
-    /// The best that the next bracket can be, below an ordinary one.
+    /// Looks by ghosts for the best that the next bracket can be, below an ordinary bracket whose residents have one
+    /// score. If memory is refused, counts alone tell of it. (Apart from its caller, as not all brackets are so.)
     #[inline(never)]
-    #[tactic(auto, using(crate::proofs::C07Outlook::by_counts, crate::proofs::C07Outlook::by_ghosts, crate::proofs::C07Outlook::flat_residents))]
-    fn below_ordinary(shaped: &ShapedBracket<'_>, budget: &mut Budget) -> Result<Outlook, Stopped>
-        requires { shaped.now.context.now.reached.kind ≡ Ordinary }
-        ensures answer { MatchResult result (IsOutlookFrom shaped.now) (λ _. budget.new.used ≡ budget.new.limit) }
+    #[tactic(auto, using(crate::proofs::C07Outlook::with_ghosts, crate::proofs::C07Outlook::flat_residents))]
+    pub(crate) fn look_below(
+        &mut self,
+        shaped: &ShapedBracket<'_>,
+        budget: &mut Budget,
+    ) -> Result<(), Stopped>
+        requires { IsOutlookFrom shaped.now self.old }
+        ensures outlook { IsOutlookFrom shaped.now self.new }
+        ensures stopped { MatchResult result (λ _. Unit {0}) (λ _. budget.new.used ≡ budget.new.limit) }
         ensures spends { Spends budget.old budget.new }
     {
-        let any = value_by_counts(shaped);
-        if !is_flat(shaped.context) {
-            return Ok(Outlook { first: None, any });
+        match shaped.context.reached().kind() {
+            BracketKind::Ordinary if is_flat(shaped.context) => {
+                let value = ghost_value(shaped, budget)?;
+                self.first = Box::new(shaped.context.alloc(), value).ok();
+                Ok(())
+            }
+            _ => Ok(()),
         }
-        let first = ghost_value(shaped, budget)?;
-        Ok(Outlook {
-            first: Some(first),
-            any,
-        })
+    }
+
+    /// The best that the next bracket can be behind arrangements with an S1 (C.7).
+    pub(crate) fn best_for(&self, shaped: &ShapedBracket<'_>, s1: &[u16]) -> &NextValue
+        ensures { let context = shaped.now.context.now
+            in result.now ≡ best_next_for context.facts context.reached shaped.now.shape self.now s1.now }
+    {
+        if let Some(first) = &self.first
+            && leaves_first(shaped, s1)
+        {
+            return &**first;
+        }
+        &*self.any
     }
 }

@@ -12,7 +12,8 @@ ghost use Rattle.dutch_arrangements.specs.declared.bracket.Shape.{Shape};
 
 use crate::pass::PassSoFar;
 use dutch_arrangements::{Budget, Stopped};
-use dutch_bracket::quality::{Quality, QualityLists};
+use dutch_bracket::quality::QualityLists;
+use dutch_bracket::reached::Seats;
 use dutch_candidates::greatest::Lister;
 use dutch_candidates::narrowed::NarrowedRule;
 use dutch_candidates::wish::Wish;
@@ -21,6 +22,8 @@ use dutch_candidates::wish::Wish;
 #[derive(Default, Drop)]
 pub struct Workroom<N: Drop> {
     pub room: QualityLists,
+    /// Those whom a candidate leaves over and all lower players, filled anew for each candidate.
+    pub left: Seats,
     pub notes: N,
 }
 
@@ -60,14 +63,15 @@ pub trait Guide {
     fn can_weigh(&self, next: bool) -> bool;
 
     /// Weighs the pairs of the bracket, and of the next one, if that is wanted (C.7), so that it knows more of the
-    /// candidates that grant what is wished. It answers what a pass may have as its target. Nothing is promised of a
-    /// target.
+    /// candidates that grant what is wished. A yes says that a pass may have the quality in the workroom as its target,
+    /// of which nothing is promised.
     fn weigh(
         &mut self,
         wish: Option<Wish>,
         next: bool,
+        work: &mut Workroom<Self::Notes>,
         budget: &mut Budget,
-    ) -> Result<Option<Quality>, Stopped>
+    ) -> Result<bool, Stopped>
         ensures known { (context : Context) (shape : Shape) → knows self.old context shape wish
             → knows self.new context shape wish }
         ensures stopped { MatchResult result (λ _. Unit {0}) (λ _. budget.new.used ≡ budget.new.limit) }

@@ -1,6 +1,5 @@
 // The best candidate that a pass has found so far, if it has found one. Its place is on the heap, as it is large.
 ghost use Rattle.std.specs.Prelude.{◌≡◌, None, Some, IfOk, option_copied, option_map};
-ghost use Rattle.std.specs.Result.{MatchResult};
 
 use dutch_arrangements::Candidate;
 use dutch_bracket::fault::PairFault;
@@ -8,7 +7,6 @@ use dutch_bracket::quality::Quality;
 use dutch_choice::finder::Best;
 use std::alloc::Global;
 use std::marker::Model;
-use std::mem::{replace, swap};
 
 /// A place for the best candidate so far, with its quality.
 #[derive(Drop)]
@@ -56,28 +54,19 @@ impl Incumbent {
         self.is_there = false;
     }
 
-    /// Keeps a candidate and the quality that was worked out for it, in place of the one before.
-    pub fn keep(&mut self, candidate: &Candidate, quality: &mut Quality)
-        ensures { self.new ≡ Some (record { candidate = candidate.now; quality = quality.old }) }
+    /// Keeps a candidate and its quality, in place of the one before.
+    pub fn keep(&mut self, candidate: &Candidate, quality: &Quality)
+        ensures { self.new ≡ Some (record { candidate = candidate.now; quality = quality.now }) }
     {
         self.best.candidate.fill(candidate);
-        swap(&mut self.best.quality, quality);
+        self.best.quality.fill(quality);
         self.is_there = true;
     }
 
-    /// Takes out the incumbent, if there is one, and leaves an empty place.
-    ///
-    /// # Errors
-    /// Memory for another place was refused; then the incumbent stays.
-    pub fn take(&mut self, alloc: Global) -> Result<Option<Box<Best>>, PairFault>
-        ensures taken { IfOk result (λ taken. option_map (λ best. best.value) taken ≡ self.old) }
-        ensures left { MatchResult result (λ _. self.new ≡ None) (λ _. self.new ≡ self.old) }
+    /// Hands out the incumbent in its place, if there is one.
+    pub fn into_best(self) -> Option<Box<Best>>
+        ensures { option_map (λ best. best.value) result ≡ self }
     {
-        if !self.is_there {
-            return Ok(None);
-        }
-        let place = Box::new(alloc, Best::empty())?;
-        self.is_there = false;
-        Ok(Some(replace(&mut self.best, place)))
+        if self.is_there { Some(self.best) } else { None }
     }
 }

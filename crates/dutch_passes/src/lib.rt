@@ -10,9 +10,11 @@ mod incumbent;
 mod pass;
 mod passes;
 mod remembered;
+mod target;
 
 pub use guide::{Guide, Workroom};
 pub use incumbent::Incumbent;
 pub use pass::{Pass, PassSoFar, is_barred, is_barred_with, loses};
 pub use passes::{PassRoom, best_in_time};
 pub use remembered::{Look, LookAhead, PassState, look_below};
+pub use target::Target;

@@ -6,6 +6,7 @@ ghost use Rattle.dutch_candidates.specs.Wishes.{is_wished};
 ghost use Rattle.dutch_passes.specs.Targets.{target_in, loses};
 
 use crate::incumbent::Incumbent;
+use crate::target::Target;
 use dutch_arrangements::{Exchange, Prefix};
 use dutch_bracket::quality::Quality;
 use dutch_bracket::shaped::ShapedBracket;
@@ -18,7 +19,7 @@ use dutch_choice::barred::{rules_out, rules_out_with};
 pub struct Pass<'a> {
     pub shaped: ShapedBracket<'a>,
     pub wish: Option<Wish>,
-    pub target: Option<Quality>,
+    pub target: Target,
 }
 
 /// A pass, and its incumbent so far.
@@ -30,10 +31,10 @@ pub struct PassSoFar<'a, 'k> {
 
 /// Yes if the target is better, or if the quality is not better than that of the incumbent: then no candidate
 /// with it takes the place of that one.
-pub fn loses(quality: &Quality, target: &Option<Quality>, incumbent: &Incumbent) -> bool
+pub fn loses(quality: &Quality, target: &Target, incumbent: &Incumbent) -> bool
     ensures { result ≡ loses (target_in target.now) incumbent.now (quality_in quality.now) }
 {
-    if let Some(target) = target {
+    if let Some(target) = target.quality() {
         if target.is_better(quality) {
             return true;
         }

@@ -6,6 +6,8 @@ ghost use Rattle.std.specs.Prelude.{◌≡◌, None, IfSome, true};
 ghost use Rattle.std.specs.Option.{MatchOption};
 ghost use Rattle.std.specs.Result.{MatchResult};
 ghost use Rattle.dutch_arrangements.specs.Prelude.{Spends};
+ghost use Rattle.dutch_arrangements.specs.declared.bracket.Shape.{Shape};
+ghost use Rattle.dutch_bracket.specs.Prelude.{Context};
 ghost use Rattle.dutch_choice.specs.Prelude.{IsBest};
 ghost use Rattle.dutch_choice.specs.declared.start.Start.TheVariants.{Anew};
 ghost use Rattle.dutch_passes.specs.Incumbent.{IsIncumbent};
@@ -61,8 +63,8 @@ fn consider<G: Guide>(
     if loses(&work.room.quality, &pass.target, &state.incumbent) {
         return Ok(());
     }
-    if can_be_chosen(pass.shaped.context, candidate, &mut state.left, budget)? {
-        state.incumbent.keep(candidate, &mut work.room.quality);
+    if can_be_chosen(pass.shaped.context, candidate, &mut work.left, budget)? {
+        state.incumbent.keep(candidate, &work.room.quality);
     }
     Ok(())
 }
@@ -180,7 +182,7 @@ fn best_by_target<'a, G: Guide>(
         pass.now.wish }
     ensures spends { Spends budget.old budget.new }
 {
-    if pass.target.is_none() {
+    if pass.target.quality().is_none() {
         search.state.incumbent.clear();
         return Ok(());
     }
@@ -211,7 +213,7 @@ fn best_in_passes<G: Guide>(
     if search.state.incumbent.best().is_some() {
         return Ok(());
     }
-    pass.target = None;
+    pass.target.clear();
     best_near(pass, search, budget)
 }
 
@@ -254,6 +256,31 @@ fn best_within<G: Guide>(
     }
 }
 
+/// Weighs the pairs anew for a pass, with those of the next bracket if that is wanted (C.7). The pass then has the
+/// target that the weights tell, if they tell one.
+fn weigh_pairs<G: Guide>(
+    pass: &mut Pass<'_>,
+    next: bool,
+    state: &mut PassState<'_, G>,
+    budget: &mut Budget,
+) -> Result<(), Stopped>
+    ensures known { (context : Context) (shape : Shape)
+        → G.knows state.old.guide.value context shape pass.old.wish
+        → G.knows state.new.guide.value context shape pass.old.wish }
+    ensures look { state.new.look ≡ state.old.look }
+    ensures pass { passes.SeeksTheSame pass.old pass.new }
+    ensures stopped { MatchResult result (λ _. Unit {0}) (λ _. budget.new.used ≡ budget.new.limit) }
+    ensures spends { Spends budget.old budget.new }
+{
+    let work = &mut *state.work;
+    if state.guide.weigh(pass.wish, next, work, budget)? {
+        pass.target.keep(&work.room.quality);
+    } else {
+        pass.target.clear();
+    }
+    Ok(())
+}
+
 /// Weighs the pairs, and keeps what the passes end with. If weights can tell of the next bracket too (C.7), the first
 /// ones leave it out, and the passes have `TIMES_BY_WEIGHT` times the few steps with them. If these do not suffice, the
 /// pairs are weighed with C.7, and the passes have all steps that are left. (Apart from its caller, as most brackets do
@@ -273,12 +300,12 @@ fn best_by_weight<G: Guide>(
         (λ _. budget.new.used ≡ budget.new.limit) }
     ensures spends { Spends budget.old budget.new }
 {
-    pass.target = search.state.guide.weigh(pass.wish, false, budget)?;
+    weigh_pairs(pass, false, &mut *search.state, budget)?;
     if tells_next(pass, &*search.state.guide) {
         if best_within(pass, search, few.saturating_mul(TIMES_BY_WEIGHT), budget)? {
             return Ok(());
         }
-        pass.target = search.state.guide.weigh(pass.wish, true, budget)?;
+        weigh_pairs(pass, true, &mut *search.state, budget)?;
     }
     best_in_passes(pass, search, budget)
 }

@@ -18,11 +18,11 @@ ghost use Rattle.dutch_arrangements.specs.Prelude.{Spends};
 
 use crate::guide::{Guide, Workroom};
 use crate::incumbent::Incumbent;
-use dutch_arrangements::{Budget, Candidate, LIMIT, Numbers, Stopped};
+use dutch_arrangements::{Budget, Candidate, Numbers, Stopped};
 use dutch_bracket::context::Context;
 use dutch_bracket::fault::PairFault;
 use dutch_bracket::quality::{NextValue, Quality, QualityLists, fill_quality};
-use dutch_bracket::reached::{BracketKind, Reached, Seats, copied, push_all};
+use dutch_bracket::reached::{BracketKind, Reached, copied};
 use dutch_choice::lookahead::{BracketAboveGroup, value_below};
 use dutch_player::Field;
 use lru::LruCache;
@@ -52,12 +52,10 @@ pub struct LookAhead<'a> {
     alloc: Global,
     field: &'a Field,
     reached: &'a Reached,
-    next: Seats,
+    next: &'a [u16],
     values: Values,
     // memory was refused for a value
     is_short: bool,
-    // the downfloaters who are asked about, filled anew for each question
-    key: Numbers,
 }
 
 impl<'a> Model for LookAhead<'a> {
@@ -68,21 +66,12 @@ impl<'a> Model for LookAhead<'a> {
     ghost view = { λ a. record {
       facts = a.field.now;
       reached = a.reached.now;
-      next = a.next.items;
+      next = a.next.now;
       kept = lists_kept a.values.entries;
       is_short = a.is_short;
     } };
 
-    ghost invariant = { λ a. AreValues a.field.now a.reached.now a.next.items a.values };
-}
-
-/// Fills a key with downfloaters.
-fn fill_key(down: &[u16], key: &mut Numbers)
-    requires { length down.now ≤ LIMIT }
-    ensures { key.new.items ≡ down.now }
-{
-    key.clear();
-    push_all(down, key);
+    ghost invariant = { λ a. AreValues a.field.now a.reached.now a.next.now a.values };
 }
 
 /// An empty cache.
@@ -125,7 +114,7 @@ impl<'a> LookAhead<'a> {
         alloc: Global,
         field: &'a Field,
         reached: &'a Reached,
-        next: &[u16],
+        next: &'a [u16],
     ) -> Result<LookAhead<'a>, PairFault>
         requires of { IsOf field.now reached.now }
         requires ordinary { reached.now.kind ≡ Ordinary }
@@ -133,41 +122,45 @@ impl<'a> LookAhead<'a> {
         ensures { IfOk result (λ ahead. ahead
             ≡ record { facts = field.now; reached = reached.now; next = next.now; kept = []; is_short = false }) }
     {
-        let mut seats = Seats::new();
-        push_all(next, &mut seats);
         Ok(LookAhead {
             alloc,
             field,
             reached,
-            next: seats,
+            next,
             values: no_values(alloc)?,
             is_short: false,
-            key: Numbers::new(),
         })
     }
 
-    /// What the next bracket can be for downfloaters for whom no value is kept. (Apart from its caller, which runs once
-    /// a candidate: most values are kept.)
+    /// Puts what the next bracket can be for downfloaters for whom no value is kept into a quality. (Apart from its
+    /// caller, which runs once a candidate: most values are kept.)
     #[inline(never)]
-    fn looked_for(&mut self, down: &[u16], budget: &mut Budget) -> Result<NextValue, Stopped>
-        requires unknown { is_kept down.now self.old.kept ≡ false }
-        requires down { AreLeft self.old.reached down.now }
+    fn look_for(
+        &mut self,
+        down: &Numbers,
+        quality: &mut Quality,
+        budget: &mut Budget,
+    ) -> Result<(), Stopped>
+        requires unknown { is_kept down.now.items self.old.kept ≡ false }
+        requires down { AreLeft self.old.reached down.now.items }
         ensures answer { MatchResult result
-            (λ value. value ≡ value_below self.old.facts self.old.reached self.old.next down.now)
+            (λ _. next_in (quality_in quality.new)
+            ≡ value_below self.old.facts self.old.reached self.old.next down.now.items)
             (λ _. budget.new.used ≡ budget.new.limit) }
-        ensures kept { MatchResult result (λ _. IsUsed down.now self.old self.new) (λ _. self.new ≡ self.old) }
+        ensures kept { MatchResult result (λ _. IsUsed down.now.items self.old self.new) (λ _. self.new ≡ self.old) }
         ensures spends { Spends budget.old budget.new }
     {
         let above = BracketAboveGroup {
             alloc: Some(self.alloc),
             field: self.field,
             reached: self.reached,
-            next: &self.next,
+            next: self.next,
         };
         let value = value_below(&above, down, budget)?;
+        quality.put_next(value.pairs, &value.psd);
         let key = copied(down);
-        keep(&mut self.values, key, value.copied(), &mut self.is_short);
-        Ok(value)
+        keep(&mut self.values, key, value, &mut self.is_short);
+        Ok(())
     }
 
     /// What the next bracket can be for downfloaters, by their numbers in the bracket. A value that is kept takes no
@@ -180,28 +173,46 @@ impl<'a> LookAhead<'a> {
         ensures kept { IsKeptAfter down.now self.old self.new result }
         ensures spends { Spends budget.old budget.new }
     {
+        // (the bracket tells that they are few)
+        let _reached = self.reached;
+        let key = copied(down);
         let mut quality = Quality::default();
-        if self.put_kept(down, &mut quality) {
-            let pairs = quality.next_pairs();
-            let psd = quality.next_psd;
-            return Look::Value { pairs, psd };
+        if self.put_next(&key, &mut quality, budget).is_err() {
+            return Look::Undecided;
         }
-        match self.looked_for(down, budget) {
-            Ok(value) => Look::Value {
-                pairs: value.pairs,
-                psd: value.psd,
-            },
-            Err(Stopped) => Look::Undecided,
+        Look::Value {
+            pairs: quality.next_pairs(),
+            psd: quality.next_psd,
         }
     }
 
     /// Puts the value that is kept for downfloaters into a quality. A no says that none is kept.
-    fn put_kept(&mut self, down: &[u16], quality: &mut Quality) -> bool
-        requires { AreLeft self.old.reached down.now }
-        ensures { Recalls result (next_in (quality_in quality.new)) down.now self.old self.new }
+    fn put_kept(&mut self, down: &Numbers, quality: &mut Quality) -> bool
+        ensures { Recalls result (next_in (quality_in quality.new)) down.now.items self.old self.new }
     {
-        fill_key(down, &mut self.key);
-        put_remembered(&mut self.values, &self.key, quality)
+        put_remembered(&mut self.values, down, quality)
+    }
+
+    /// Puts what the next bracket can be for downfloaters into a quality. A value that is kept takes no step.
+    fn put_next(
+        &mut self,
+        down: &Numbers,
+        quality: &mut Quality,
+        budget: &mut Budget,
+    ) -> Result<(), Stopped>
+        requires down { AreLeft self.old.reached down.now.items }
+        ensures answer { MatchResult result
+            (λ _. next_in (quality_in quality.new)
+            ≡ value_below self.old.facts self.old.reached self.old.next down.now.items)
+            (λ _. (is_kept down.now.items self.old.kept ≡ false) × (budget.new.used ≡ budget.new.limit)) }
+        ensures free { is_kept down.now.items self.old.kept ≡ true → budget.new.used ≡ budget.old.used }
+        ensures kept { MatchResult result (λ _. IsUsed down.now.items self.old self.new) (λ _. self.new ≡ self.old) }
+        ensures spends { Spends budget.old budget.new }
+    {
+        if self.put_kept(down, quality) {
+            return Ok(());
+        }
+        self.look_for(down, quality, budget)
     }
 
     /// Fills the quality of a candidate of the bracket. A value that is kept takes no step.
@@ -222,11 +233,8 @@ impl<'a> LookAhead<'a> {
             (λ _. self.new ≡ self.old) }
         ensures spends { Spends budget.old budget.new }
     {
-        let (field, reached, down) = (self.field, self.reached, candidate.down());
-        if !self.put_kept(down, &mut room.quality) {
-            let value = self.looked_for(down, budget)?;
-            room.quality.put_next(value.pairs, &value.psd);
-        }
+        let (field, reached) = (self.field, self.reached);
+        self.put_next(&candidate.down, &mut room.quality, budget)?;
         fill_quality(field, reached.seats(), candidate, room);
         Ok(())
     }
@@ -268,8 +276,6 @@ pub struct PassState<'a, G: Guide> {
     pub look: Option<LookAhead<'a>>,
     /// Where the quality of a candidate is worked out; lent to the guide for its own questions.
     pub work: Box<Workroom<G::Notes>>,
-    /// Those whom a candidate leaves over and all lower players, filled anew for each candidate.
-    pub left: Seats,
     /// The best candidate so far, and in the end what is chosen.
     pub incumbent: Incumbent,
     /// What draws the candidates.

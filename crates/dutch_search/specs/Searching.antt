@@ -12,4 +12,4 @@ HasWeights pass weights = ForSome weights (AreOf pass.shaped.context.now pass.sh
 
 -- so are floors of both kinds
 abbrev pub AreFor : Pass → BothFloors → Type 0
-AreFor pass floors = IsBasisFor pass.shaped floors.counts × HasWeights pass floors.weights
+AreFor pass floors = IsBasisFor pass.shaped floors.counts × HasWeights pass floors.weights.value

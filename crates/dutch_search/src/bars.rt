@@ -23,7 +23,7 @@ fn bar_of(weights: &Option<WeightFloors<'_>>, quality: &Quality) -> Option<Bar>
 fn target_bar(pass: &Pass<'_>, weights: &Option<WeightFloors<'_>>) -> Option<Bar>
     ensures { HasBar weights.now (target_in pass.now.target) result }
 {
-    match &pass.target {
+    match pass.target.quality() {
         Some(target) => return bar_of(weights, target),
         None => return None,
     }

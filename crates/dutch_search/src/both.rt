@@ -1,34 +1,67 @@
 // What is known of the candidates of a bracket and a shape by floors of both kinds.
-ghost use Rattle.std.specs.Prelude.{◌≡◌, None};
+ghost use Rattle.std.specs.Prelude.{◌≡◌, IfOk, None};
+ghost use Rattle.std.specs.Result.{MatchResult};
+ghost use Rattle.dutch_arrangements.specs.Prelude.{Spends};
 ghost use Rattle.dutch_floors.specs.Behind.{IsBasisFor};
 
+use dutch_arrangements::{Budget, Stopped};
 use dutch_bracket::context::Context;
+use dutch_bracket::fault::PairFault;
 use dutch_bracket::shaped::ShapedBracket;
-use dutch_bracket::tuning::{LARGE_BRACKET, MOST_WEIGHED};
+use dutch_bracket::spending::at_most;
+use dutch_bracket::tuning::{LARGE_BRACKET, MOST_WEIGHED, outlook_steps};
 use dutch_floors::floor::Floors;
 use dutch_weight_floors::weight_floor::WeightFloors;
+use std::alloc::Global;
 
 /// Floors by counts, and floors by weight, where they were asked for.
 #[derive(Drop)]
 pub(crate) struct BothFloors<'a> {
     pub(crate) shaped: ShapedBracket<'a>,
     pub(crate) counts: Floors<'a>,
-    pub(crate) weights: Option<WeightFloors<'a>>,
+    // (on the heap, as they are large)
+    pub(crate) weights: Box<Option<WeightFloors<'a>>>,
     ghost basis: { IsBasisFor shaped counts },
+}
+
+/// A place for floors by weight. (Apart from its caller, as it is large until it stands on the heap.)
+#[inline(never)]
+fn no_weights<'a>(alloc: Global) -> Result<Box<Option<WeightFloors<'a>>>, PairFault>
+    ensures { IfOk result (λ weights. weights.value ≡ None) }
+{
+    Ok(Box::new(alloc, None)?)
 }
 
 impl<'a> BothFloors<'a> {
     /// Floors by counts alone.
-    pub(crate) fn by_counts(shaped: ShapedBracket<'a>, counts: Floors<'a>) -> BothFloors<'a>
-        requires { IsBasisFor shaped counts }
-        ensures shaped { result.shaped ≡ shaped.entry }
-        ensures counts { result.counts ≡ counts.entry }
-        ensures weights { result.weights ≡ None }
+    #[inline(never)]
+    pub(crate) fn by_counts(shaped: &ShapedBracket<'a>) -> Result<BothFloors<'a>, PairFault>
+        ensures shaped { IfOk result (λ floors. floors.shaped ≡ shaped.now) }
+        ensures counts { IfOk result (λ floors. IsBasisFor shaped.now floors.counts) }
+        ensures weights { IfOk result (λ floors. floors.weights.value ≡ None) }
     {
-        BothFloors {
-            shaped,
-            counts,
-            weights: None,
+        Ok(BothFloors {
+            shaped: *shaped,
+            counts: Floors::by_counts(shaped)?,
+            weights: no_weights(shaped.context.alloc())?,
+        })
+    }
+
+    /// Looks for what the next bracket can be at best, in few steps (C.7). If these do not suffice, counts alone tell
+    /// of it.
+    pub(crate) fn look_below(&mut self, budget: &mut Budget) -> Result<(), Stopped>
+        ensures shaped { self.new.shaped ≡ self.old.shaped }
+        ensures counts { IsBasisFor self.new.shaped self.new.counts }
+        ensures weights { self.new.weights ≡ self.old.weights }
+        ensures stopped { MatchResult result (λ _. Unit {0}) (λ _. budget.new.used ≡ budget.new.limit) }
+        ensures spends { Spends budget.old budget.new }
+    {
+        let mut few = at_most(outlook_steps(self.shaped.context.len_below()), budget);
+        let looked = self.counts.look_below(&mut few);
+        budget.used = few.used;
+        match looked {
+            Err(Stopped) if budget.used == budget.limit => Err(Stopped),
+            _ => Ok(()),
         }
     }
 }

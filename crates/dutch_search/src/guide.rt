@@ -14,7 +14,6 @@ use crate::last_beginning::{LastBeginning, WalkNotes};
 use crate::skipper::Skipper;
 use cheapest::LOOKS_IN_A_STEP;
 use dutch_arrangements::{Budget, Step, Stopped};
-use dutch_bracket::quality::Quality;
 use dutch_bracket::spending::spend;
 use dutch_bracket::tuning::{TURN_PAIRS, TURNS_OF_A_FLOOR};
 use dutch_candidates::greatest::Lister;
@@ -36,7 +35,7 @@ impl<'a> BothFloors<'a> {
         ensures some { budget.now.used < budget.now.limit → 0 < result.limit }
     {
         let left = budget.limit - budget.used;
-        let Some(weights) = &self.weights else {
+        let Some(weights) = &*self.weights else {
             return Budget {
                 used: 0,
                 limit: left,
@@ -55,29 +54,31 @@ impl<'a> BothFloors<'a> {
     /// Tells which beginnings a pass may skip, by the bars of its target and of its incumbent.
     fn skipper<'k>(&'k self, so_far: PassSoFar<'k, 'k>, bars: &'k Bars) -> Skipper<'k, 'k>
         requires known { AreFor so_far.pass.now self.now }
-        requires target { HasBar self.now.weights (target_in so_far.pass.now.target) bars.now.target }
-        requires incumbent { HasBar self.now.weights (incumbent_in so_far.incumbent.now) bars.now.incumbent }
+        requires target { HasBar self.now.weights.value (target_in so_far.pass.now.target) bars.now.target }
+        requires incumbent { HasBar self.now.weights.value (incumbent_in so_far.incumbent.now) bars.now.incumbent }
         ensures { result.so_far ≡ so_far.entry }
     {
         Skipper {
             so_far,
             counts: &self.counts,
-            weights: &self.weights,
+            weights: &*self.weights,
             bars,
         }
     }
 
-    /// Keeps floors by weight, the first by a cheapest matching of the bracket. It answers the target.
+    /// Keeps floors by weight, the first by a cheapest matching of the bracket. It fills the target; a no says that
+    /// there is none.
     fn weigh_by(
         &mut self,
         weights: WeightFloors<'a>,
+        work: &mut Workroom<WalkNotes>,
         budget: &mut Budget,
-    ) -> Result<Option<Quality>, Stopped>
-        requires none { self.old.weights ≡ None }
+    ) -> Result<bool, Stopped>
+        requires none { self.old.weights.value ≡ None }
         ensures context { self.new.shaped.context.now ≡ self.old.shaped.context.now }
         ensures shape { self.new.shaped.shape ≡ self.old.shaped.shape }
         ensures counts { self.new.counts ≡ self.old.counts }
-        ensures weights { ForSome self.new.weights (λ w. w ≡ weights.entry) }
+        ensures weights { ForSome self.new.weights.value (λ w. w ≡ weights.entry) }
         ensures stopped { MatchResult result (λ _. Unit {0}) (λ _. budget.new.used ≡ budget.new.limit) }
         ensures spends { Spends budget.old budget.new }
     {
@@ -89,8 +90,8 @@ impl<'a> BothFloors<'a> {
         };
         let found = weights.ask(&all, budget)?;
         weights.note(before, budget.used);
-        self.weights = Some(weights);
-        Ok(self.target_for(&found))
+        *self.weights = Some(weights);
+        Ok(self.fill_target(&found, work))
     }
 
     /// What follows a turn that found nothing, if steps are left: if pairs are weighed, further floors by weight are
@@ -107,7 +108,7 @@ impl<'a> BothFloors<'a> {
         ensures context { self.new.shaped.context.now ≡ self.old.shaped.context.now }
         ensures shape { self.new.shaped.shape ≡ self.old.shaped.shape }
         ensures counts { self.new.counts ≡ self.old.counts }
-        ensures weights { self.new.weights ≡ self.old.weights }
+        ensures weights { self.new.weights.value ≡ self.old.weights.value }
         ensures spends { Spends budget.old budget.new }
     {
         if budget.used == budget.limit {
@@ -116,7 +117,7 @@ impl<'a> BothFloors<'a> {
         if is_large(self.shaped.context) && notes.has_moved() {
             return Ok(());
         }
-        match &mut self.weights {
+        match &mut *self.weights {
             Some(weights) => {
                 let LastBeginning { scope, pairs } = &notes.last;
                 weights.ask_more(&FloorRequest { scope, pairs }, bars, budget)
@@ -172,7 +173,7 @@ impl<'a> Guide for BothFloors<'a> {
 
     ghost knows = { λ floors context shape wish. (floors.shaped.context.now ≡ context) × ((floors.shaped.shape ≡ shape)
         × (IsBasis context.facts context.reached context.lower shape floors.counts
-        × ForSome floors.weights (AreOf context shape wish))) };
+        × ForSome floors.weights.value (AreOf context shape wish))) };
 
     fn draw(
         &mut self,
@@ -182,7 +183,7 @@ impl<'a> Guide for BothFloors<'a> {
         budget: &mut Budget,
     ) -> Result<bool, Stopped> {
         // (more floors change nothing of the weights, and so of the bars)
-        let bars = bars_of(so_far, &self.weights);
+        let bars = bars_of(so_far, &*self.weights);
         loop {
             let mut turn = self.turn(budget);
             let step = draw_once(&self.skipper(so_far, &bars), lister, work, &mut turn);
@@ -203,19 +204,20 @@ impl<'a> Guide for BothFloors<'a> {
         &mut self,
         wish: Option<Wish>,
         next: bool,
+        work: &mut Workroom<WalkNotes>,
         budget: &mut Budget,
-    ) -> Result<Option<Quality>, Stopped> {
+    ) -> Result<bool, Stopped> {
         let (context, shape) = (self.shaped.context, self.shaped.shape);
         let count = context.len();
         // (weights are large: the ones before are dropped first)
-        self.weights = None;
+        *self.weights = None;
         if is_weighed(context, next) {
             spend((count * count) as u64 / LOOKS_IN_A_STEP, budget)?;
             // (where memory is refused or a weight does not fit, no floors are found)
             if let Ok(Some(weights)) = WeightFloors::weigh(context, shape, wish, next) {
-                return self.weigh_by(weights, budget);
+                return self.weigh_by(weights, work, budget);
             }
         }
-        Ok(self.counts.target())
+        Ok(self.fill_target(&None, work))
     }
 }

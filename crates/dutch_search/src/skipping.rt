@@ -45,7 +45,7 @@ impl<'a, 'k> Skipper<'a, 'k> {
     /// How many miss their preference in the target and in the incumbent (C.10): the lesser number, and the
     /// greater one.
     fn missed_bars(&self) -> (u16, u16) {
-        let target = self.so_far.pass.target.as_ref();
+        let target = self.so_far.pass.target.quality();
         let incumbent = self.so_far.incumbent.best();
         match (target, incumbent) {
             (Some(target), Some(incumbent)) => {
@@ -109,7 +109,7 @@ impl<'a, 'k> Skipper<'a, 'k> {
         let Some(bar) = &self.bars.target else {
             return false;
         };
-        let Some(target) = &self.so_far.pass.target else {
+        let Some(target) = self.so_far.pass.target.quality() else {
             return false;
         };
         bar.is_passed(least) && (bar.is_above(least) || self.knows_next(prefix, target))
@@ -229,7 +229,7 @@ impl<'a, 'k> Bound for Skipper<'a, 'k> {
             work.notes.last.note(prefix);
         }
         // (with no target and no incumbent no quality loses)
-        if self.so_far.pass.target.is_none() && self.so_far.incumbent.best().is_none() {
+        if self.so_far.pass.target.quality().is_none() && self.so_far.incumbent.best().is_none() {
             return false;
         }
         self.loses_by_weight(prefix) || self.loses_by_counts(prefix, work)
@@ -245,7 +245,7 @@ impl<'a, 'k> Bound for Skipper<'a, 'k> {
         if is_barred_with(self.so_far.pass, exchange) {
             return true;
         }
-        if self.so_far.pass.target.is_none() && self.so_far.incumbent.best().is_none() {
+        if self.so_far.pass.target.quality().is_none() && self.so_far.incumbent.best().is_none() {
             return false;
         }
         self.loses_by_order(prefix, exchange)

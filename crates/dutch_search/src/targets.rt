@@ -3,11 +3,13 @@
 // Whoever finds a matching is not trusted, and nothing is promised of a target: a pass that finds no candidate near it
 // is made again without one.
 use crate::both::BothFloors;
+use crate::last_beginning::WalkNotes;
 use dutch_arrangements::{LIMIT, Numbers};
 use dutch_bracket::context::Context;
 use dutch_bracket::differences::put;
-use dutch_bracket::quality::{NextValue, Quality, fill_seated};
+use dutch_bracket::quality::{NextValue, QualityLists, fill_seated};
 use dutch_bracket::seated::{Pair, Seated, difference_down};
+use dutch_passes::Workroom;
 use dutch_weight_floors::asking::Matched;
 use dutch_weight_floors::unpaired_graph::is_in;
 
@@ -94,35 +96,42 @@ fn value_below(context: &Context<'_>, matched: &Matched) -> NextValue {
 impl<'a> BothFloors<'a> {
     /// The value of the next bracket in a matching, if the weights tell of it; else the best that it can be.
     fn next_by(&self, context: &Context<'_>, matched: &Matched) -> NextValue {
-        match &self.weights {
+        match &*self.weights {
             Some(weights) if weights.counts_next() => value_below(context, matched),
             _ => self.counts.best_next_for_first().copied(),
         }
     }
 
-    /// The quality of a matching of a bracket by number. If the scale does not have all of its differences, those of
-    /// C.16 to C.19 are left out, and it is made a little worse.
-    fn target_by(&self, context: &Context<'_>, matched: &Matched) -> Quality {
-        let (mut seated, mut target) = (Seated::default(), Quality::default());
-        seat_matching(context, &matched.pairs, &mut seated);
-        fill_seated(context.field(), &seated, &mut target);
+    /// Fills the quality of a matching of a bracket by number. If the scale does not have all of its differences, those
+    /// of C.16 to C.19 are left out, and it is made a little worse.
+    fn fill_matched(&self, matched: &Matched, room: &mut QualityLists) {
+        let context = self.shaped.context;
+        seat_matching(context, &matched.pairs, &mut room.seated);
+        fill_seated(context.field(), &room.seated, &mut room.quality);
         let next = self.next_by(context, matched);
-        target.put_next(next.pairs, &next.psd);
-        match &self.weights {
-            Some(weights) if weights.measures(&target) => target,
-            _ => target.without_differences(),
+        room.quality.put_next(next.pairs, &next.psd);
+        match &*self.weights {
+            Some(weights) if weights.measures(&room.quality) => {}
+            _ => room.quality.drop_differences(),
         }
     }
 
-    /// What a pass has as its target: the quality of a matching, if one was found that has as many pairs as the shape;
-    /// else what floors by counts tell.
+    /// Fills what a pass has as its target: the quality of a matching, if one was found that has as many pairs as the
+    /// shape; else what floors by counts tell. A no says that there is none.
     #[inline(never)]
-    pub(crate) fn target_for(&self, found: &Option<Matched>) -> Option<Quality> {
+    pub(crate) fn fill_target(
+        &self,
+        found: &Option<Matched>,
+        work: &mut Workroom<WalkNotes>,
+    ) -> bool {
         match found {
             Some(matched) if matched.pairs.len() == self.shaped.shape.pairs => {
-                Some(self.target_by(self.shaped.context, matched))
+                self.fill_matched(matched, &mut work.room);
+                true
             }
-            _ => self.counts.target(),
+            _ => self
+                .counts
+                .fill_target(&mut work.notes.floors, &mut work.room),
         }
     }
 }

@@ -7,6 +7,6 @@ use Rattle.dutch_floors.proofs.lonely.lonely_first.Given as goal
 abbrev pub invariant-loop-x : goal.invariant-loop-x
 invariant-loop-x l = record {
   few : l.count ≤ l.x-index;
-  so_far : l.count + length (filter (λ x. not (list_any (suits l.context.facts l.context.reached x) l.pool.numbers.now)) (drop l.x-index l.waiting))
-      ≤ length (filter (λ x. not (list_any (suits l.context.facts l.context.reached x) l.pool.numbers.now)) l.waiting);
+  so_far : l.count + length (filter (λ x. not (list_any (suits l.context.facts l.context.reached x) l.pool.numbers.now)) (drop l.x-index l.rest))
+      ≤ length (filter (λ x. not (list_any (suits l.context.facts l.context.reached x) l.pool.numbers.now)) l.rest);
 }

@@ -7,6 +7,6 @@ use Rattle.dutch_floors.proofs.lonely.lonely_second.Given as goal
 abbrev pub invariant-loop-y : goal.invariant-loop-y
 invariant-loop-y l = record {
   few : l.count ≤ l.y-index;
-  so_far : l.count + length (filter (λ y. not (list_any (λ x. suits l.context.facts l.context.reached x y) l.waiting.numbers.now)) (drop l.y-index l.pool))
-      ≤ length (filter (λ y. not (list_any (λ x. suits l.context.facts l.context.reached x y) l.waiting.numbers.now)) l.pool);
+  so_far : l.count + length (filter (λ y. not (list_any (λ x. suits l.context.facts l.context.reached x y) l.rest.numbers.now)) (drop l.y-index l.pool))
+      ≤ length (filter (λ y. not (list_any (λ x. suits l.context.facts l.context.reached x y) l.rest.numbers.now)) l.pool);
 }

@@ -15,10 +15,10 @@ returns-clause-value c =
     let made = c.wants-2.ensures basis.facts pairs c.requires.known in
     let at : ℕ × ℕ → ℕ × ℕ = λ pair. (seat_of basis.reached.seats pair.0, seat_of basis.reached.seats pair.1) in
     c.more_missed.ensures
-    ∙ more_is c.args.firm basis.facts basis.reached basis.shape pairs c.wants.result c.wants-2.result c.served-served.result c.wants.ensures.counted c.wants.ensures.firm made.0 made.1
+    ∙ more_is c.args.firm basis.facts basis.reached basis.shape pairs c.wants.result c.wants-2.result c.colour_places-places.result c.wants.ensures.counted c.wants.ensures.firm made.0 made.1
     (omega (
       arith,
-      c.served-served.ensures,
+      c.colour_places-places.ensures,
       c.len.ensures.value,
       ap (λ (shape : Shape). shape.pairs) c.shape.ensures.value,
       ap (λ (b : Basis). length b.reached.seats) c.self.view_is,

@@ -13,7 +13,7 @@ invariant-loop-self l = record {
   context : l.self.shaped.context.now ≡ l.initial.self.shaped.context.now;
   of_shape : l.self.shaped.shape ≡ l.initial.self.shaped.shape;
   counts : l.self.counts ≡ l.initial.self.counts;
-  weights : l.self.weights ≡ l.initial.self.weights;
+  weights : l.self.weights.value ≡ l.initial.self.weights.value;
   spends : Spends l.initial.budget l.budget;
 }
 

@@ -2,7 +2,7 @@
 use Rattle.std.proofs.Common.{◌∙◌, ap, filter, length}
 use Rattle.dutch_bracket.specs.Prelude.{is_uneven}
 use Rattle.dutch_floors.specs.KnownPairs.{by_seat}
-use Rattle.dutch_floors.proofs.floor.Floors.target.Goals as goal
+use Rattle.dutch_floors.proofs.floor.Floors.fill_target.Goals as goal
 
 pub fill_counted-requires-clause-uneven : goal.fill_counted-requires-clause-uneven
 fill_counted-requires-clause-uneven c =
