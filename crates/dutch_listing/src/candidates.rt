@@ -14,8 +14,9 @@ ghost use Rattle.dutch_arrangements.specs.Arrangements.{Fits, arrangements, cand
 ghost use Rattle.dutch_sequence.specs.Choices.{is_member};
 ghost use Rattle.dutch_sequence.specs.Keys.{IsIn};
 ghost use Rattle.dutch_arrangements.specs.Levels.{Of, in_bracket, may_leave};
-ghost use Rattle.dutch_arrangements.specs.Listings.{AreCandidates, candidates_from, leaves_too_many, listed, only_if};
+ghost use Rattle.dutch_arrangements.specs.Listings.{AreCandidates, candidates_from, leaves_too_many, only_if};
 ghost use Rattle.dutch_arrangements.specs.Listings.{EndsAtOnce, TellsEnd, Gives, Ends, Stops, GivesPast, EndsPast, StopsPast};
+ghost use Rattle.dutch_listing.specs.Listed.{listed};
 ghost use Rattle.dutch_sequence.specs.Steps.{MatchDrawn, MatchStep, Passes, Spends};
 ghost use Rattle.dutch_sequence.specs.declared.steps.Step.TheVariants.{Found, End, Undecided};
 
@@ -213,7 +214,8 @@ pub struct Candidates<'a, R: Rule> {
 impl<'a, R: Rule> Model for Candidates<'a, R> {
     ghost use Rattle.std.specs.Prelude.{◌≡◌, ◌++◌, ◌&&◌, ◌-◌, ◌*◌, [], filter, length, nat_lt, true};
     ghost use Rattle.dutch_arrangements.specs.Levels.{may_leave};
-    ghost use Rattle.dutch_arrangements.specs.Listings.{AreCandidates, Listing, leaves_too_many, listed, only_if};
+    ghost use Rattle.dutch_arrangements.specs.Listings.{AreCandidates, Listing, leaves_too_many, only_if};
+    ghost use Rattle.dutch_listing.specs.Listed.{listed};
     ghost use Rattle.dutch_arrangements.specs.Listings.{still_coming};
 
     ghost Value = { Listing R };

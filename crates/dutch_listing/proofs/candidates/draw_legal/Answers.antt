@@ -1,5 +1,6 @@
 use Rattle.std.proofs.Common.{◌∙◌, ap, sym, arith, refl, filter, not, ◌||◌, ◌++◌, ◌∷◌, length}
-use Rattle.dutch_arrangements.specs.Prelude.{Frame, down, leaves_one, may_leave, listed, only_if}
+use Rattle.dutch_arrangements.specs.Prelude.{Frame, down, leaves_one, may_leave, only_if}
+use Rattle.dutch_listing.specs.Listed.{listed}
 use Rattle.dutch_listing.proofs.Passing.{passes-each}
 use Rattle.dutch_sequence.proofs.Skipping.{passes-none, passes-more, passes-filter, passes-fewer, filter-keeps, filter-drops, drawn, drawn-stopped}
 use Rattle.dutch_sequence.proofs.Spending.{spends-none, spends-more}

@@ -1,5 +1,6 @@
 use Rattle.std.proofs.Common.{◌≡◌, ◌++◌, filter, length}
-use Rattle.dutch_arrangements.specs.Prelude.{Arrangement, may_leave, listed, only_if, Passes, Spends}
+use Rattle.dutch_arrangements.specs.Prelude.{Arrangement, may_leave, only_if, Passes, Spends}
+use Rattle.dutch_listing.specs.Listed.{listed}
 use Rattle.dutch_listing.proofs.candidates.draw_legal.Given as goal
 
 abbrev pub invariant-loop-candidate : goal.invariant-loop-candidate

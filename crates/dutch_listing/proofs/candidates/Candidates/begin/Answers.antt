@@ -1,6 +1,7 @@
 use Rattle.std.proofs.Common.{◌∙◌, ◌++◌, filter, ap, sym, subst, length, ◌-◌, ◌*◌, nat_lt, option_copied}
 use Rattle.std.proofs.lemmas.Bool.{and_parts, ltb-true}
-use Rattle.dutch_arrangements.specs.Prelude.{may_leave, AreCandidates, Listing, candidates_from, listed, only_if}
+use Rattle.dutch_arrangements.specs.Prelude.{may_leave, AreCandidates, Listing, candidates_from, only_if}
+use Rattle.dutch_listing.specs.Listed.{listed}
 use Rattle.dutch_arrangements.proofs.Behind.{candidates-all, levels-beginning, none-from}
 use Rattle.dutch_listing.proofs.TooManyLeft.{none-legal}
 use Rattle.dutch_listing.proofs.candidates.Candidates.begin.Goals as goal

@@ -1,6 +1,7 @@
 use Rattle.std.proofs.Common.{◌≡◌, ◌∙◌, ◌++◌, ap, sym, subst, refl, filter, List}
 use Rattle.std.proofs.lemmas.Bool.{true≢false}
-use Rattle.dutch_arrangements.specs.Prelude.{Arrangement, may_leave, AreCandidates, Listing, listed, only_if, still_coming, BeginsAt}
+use Rattle.dutch_arrangements.specs.Prelude.{Arrangement, may_leave, AreCandidates, Listing, only_if, still_coming, BeginsAt}
+use Rattle.dutch_listing.specs.Listed.{listed}
 use Rattle.dutch_arrangements.proofs.Behind.{no-candidates, still-candidates, later-candidates}
 use Rattle.dutch_sequence.proofs.Skipping.{passes-none, passes-all, all-of, drawn}
 use Rattle.dutch_listing.proofs.candidates.Candidates.go_on.Goals as goal
