@@ -5,9 +5,7 @@ ghost use Rattle.std.specs.Prelude.{is_some, length, true, false, Some, None, Ma
 ghost use Rattle.std.specs.Char.{is_ascii_digit};
 ghost use Rattle.std.specs.List.{list_all, flat_map};
 ghost use Rattle.dutch_sequence.specs.Choices.{left_of};
-ghost use Rattle.dutch_arrangements.specs.Cursors.{list_text, cursor_text, parts, is_numeral, number_after, number_of};
-ghost use Rattle.dutch_arrangements.specs.Cursors.{numbers_of, list_of, arrangement_of, parsed, has_syntax, ascends_above};
-ghost use Rattle.dutch_arrangements.specs.Cursors.{are_different, are_of, is_set_of, is_tuple_of, is_among, cursor_of};
+ghost use Rattle.dutch_arrangements.specs.Cursors as cursors;
 ghost use Rattle.dutch_arrangements.specs.CursorLists.{IsLong, is_short};
 ghost use Rattle.arrayvec.specs.ArrayString.{array_string_len};
 
@@ -69,8 +67,8 @@ fn part_len(text: &[u8], separator: u8) -> usize
 
 // The first part of a text and what stands behind its separator, or none where there is only one part.
 fn split_part(text: &[u8], separator: u8) -> Option<(&[u8], &[u8])>
-    ensures parts { MatchOption result (parts separator text.now ≡ text.now ∷ [])
-        (λ x. parts separator text.now ≡ x.0.now ∷ parts separator x.1.now) }
+    ensures parts { MatchOption result (cursors.parts separator text.now ≡ text.now ∷ [])
+        (λ x. cursors.parts separator text.now ≡ x.0.now ∷ cursors.parts separator x.1.now) }
     ensures shorter { IfSome result (λ x. length x.1.now < length text.now) }
 {
     let len = part_len(text, separator);
@@ -85,7 +83,7 @@ fn split_part(text: &[u8], separator: u8) -> Option<(&[u8], &[u8])>
 fn number_after(digits: &[u8]) -> u16
     requires few { length digits.now ≤ 4 }
     requires decimal { list_all is_ascii_digit digits.now ≡ true }
-    ensures { result ≡ number_after 0 digits.now }
+    ensures { result ≡ cursors.number_after 0 digits.now }
 {
     let mut value = 0;
     for digit in digits {
@@ -102,7 +100,7 @@ fn has_digits_alone(word: &[u8]) -> bool
 
 // At most four digits, of which the first is not 0: each number is spelled in one way.
 fn is_numeral(word: &[u8]) -> bool
-    ensures { result ≡ is_numeral word.now }
+    ensures { result ≡ cursors.is_numeral word.now }
 {
     match word {
         [] => false,
@@ -112,7 +110,7 @@ fn is_numeral(word: &[u8]) -> bool
 
 // The number that a part of a list spells.
 fn number_of(word: &[u8]) -> Option<u16>
-    ensures { result ≡ number_of word.now }
+    ensures { result ≡ cursors.number_of word.now }
 {
     if !is_numeral(word) {
         return None;
@@ -126,7 +124,7 @@ fn number_of(word: &[u8]) -> Option<u16>
 }
 
 fn are_numbers(text: &[u8]) -> bool
-    ensures { result ≡ is_some (numbers_of (parts 44 text.now)) }
+    ensures { result ≡ is_some (cursors.numbers_of (cursors.parts 44 text.now)) }
 {
     let mut rest = text;
     while let Some((word, behind)) = split_part(rest, b',') {
@@ -140,7 +138,7 @@ fn are_numbers(text: &[u8]) -> bool
 
 // `0` alone is the empty list.
 fn is_list(text: &[u8]) -> bool
-    ensures { result ≡ is_some (list_of text.now) }
+    ensures { result ≡ is_some (cursors.list_of text.now) }
 {
     text == b"0".as_slice() || are_numbers(text)
 }
@@ -156,8 +154,8 @@ struct Lists<'a> {
 
 // The four parts of a text, or none where it has fewer or more.
 fn split_lists(text: &[u8]) -> Option<Lists<'_>>
-    ensures { MatchOption result (parsed text.now ≡ None)
-        (λ x. parts 47 text.now ≡ x.s1.now ∷ x.s2.now ∷ x.s1r.now ∷ x.s2r.now ∷ []) }
+    ensures { MatchOption result (cursors.parsed text.now ≡ None)
+        (λ x. cursors.parts 47 text.now ≡ x.s1.now ∷ x.s2.now ∷ x.s1r.now ∷ x.s2r.now ∷ []) }
 {
     let (s1, rest) = split_part(text, b'/')?;
     let (s2, rest) = split_part(rest, b'/')?;
@@ -174,7 +172,7 @@ fn split_lists(text: &[u8]) -> Option<Lists<'_>>
 }
 
 fn are_lists(lists: &Lists<'_>) -> bool
-    ensures { result ≡ is_some (arrangement_of
+    ensures { result ≡ is_some (cursors.arrangement_of
         (lists.now.s1.now ∷ lists.now.s2.now ∷ lists.now.s1r.now ∷ lists.now.s2r.now ∷ [])) }
 {
     is_list(lists.s1) && is_list(lists.s2) && is_list(lists.s1r) && is_list(lists.s2r)
@@ -182,9 +180,9 @@ fn are_lists(lists: &Lists<'_>) -> bool
 
 // The four parts of a text that has the form of a cursor.
 fn sound_lists(text: &[u8]) -> Option<Lists<'_>>
-    ensures { MatchOption result (parsed text.now ≡ None)
-        (λ x. (parts 47 text.now ≡ x.s1.now ∷ x.s2.now ∷ x.s1r.now ∷ x.s2r.now ∷ [])
-        × (is_some (parsed text.now) ≡ true)) }
+    ensures { MatchOption result (cursors.parsed text.now ≡ None)
+        (λ x. (cursors.parts 47 text.now ≡ x.s1.now ∷ x.s2.now ∷ x.s1r.now ∷ x.s2r.now ∷ [])
+        × (is_some (cursors.parsed text.now) ≡ true)) }
 {
     let lists = split_lists(text)?;
     if are_lists(&lists) { Some(lists) } else { None }
@@ -192,8 +190,8 @@ fn sound_lists(text: &[u8]) -> Option<Lists<'_>>
 
 // The numbers between commas, where all parts are numbers and there is room for them.
 fn numbers_in(text: &[u8]) -> Option<Numbers>
-    ensures { MatchOption result (IsLong (numbers_of (parts 44 text.now)))
-        (λ x. numbers_of (parts 44 text.now) ≡ Some x.items) }
+    ensures { MatchOption result (IsLong (cursors.numbers_of (cursors.parts 44 text.now)))
+        (λ x. cursors.numbers_of (cursors.parts 44 text.now) ≡ Some x.items) }
 {
     let mut numbers = Numbers::new();
     let mut rest = text;
@@ -215,7 +213,7 @@ fn numbers_in(text: &[u8]) -> Option<Numbers>
 
 // The list that a text is, where it is one and there is room for it.
 fn list_in(text: &[u8]) -> Option<Numbers>
-    ensures { MatchOption result (IsLong (list_of text.now)) (λ x. list_of text.now ≡ Some x.items) }
+    ensures { MatchOption result (IsLong (cursors.list_of text.now)) (λ x. cursors.list_of text.now ≡ Some x.items) }
 {
     if text == b"0".as_slice() {
         return Some(Numbers::new());
@@ -226,9 +224,10 @@ fn list_in(text: &[u8]) -> Option<Numbers>
 // The arrangement that four parts are, where they are one and there is room for it.
 fn arrangement_in(lists: &Lists<'_>) -> Option<Arrangement>
     ensures { MatchOption result
-        (IfSome (arrangement_of (lists.now.s1.now ∷ lists.now.s2.now ∷ lists.now.s1r.now ∷ lists.now.s2r.now ∷ []))
+        (IfSome (cursors.arrangement_of (lists.now.s1.now ∷ lists.now.s2.now ∷ lists.now.s1r.now ∷ lists.now.s2r.now
+        ∷ []))
         (λ a. is_short a ≡ false))
-        (λ x. arrangement_of (lists.now.s1.now ∷ lists.now.s2.now ∷ lists.now.s1r.now ∷ lists.now.s2r.now ∷ [])
+        (λ x. cursors.arrangement_of (lists.now.s1.now ∷ lists.now.s2.now ∷ lists.now.s1r.now ∷ lists.now.s2r.now ∷ [])
         ≡ Some x) }
 {
     let s1 = list_in(lists.s1)?;
@@ -239,13 +238,13 @@ fn arrangement_in(lists: &Lists<'_>) -> Option<Arrangement>
 }
 
 fn are_of(pool: &[u16], numbers: &[u16]) -> bool
-    ensures { result ≡ are_of pool.now numbers.now }
+    ensures { result ≡ cursors.are_of pool.now numbers.now }
 {
     numbers.iter().all(|number| pool.contains(number))
 }
 
 fn ascends_above(bound: u16, numbers: &[u16]) -> bool
-    ensures { result ≡ ascends_above bound numbers.now }
+    ensures { result ≡ cursors.ascends_above bound numbers.now }
 {
     let mut last = bound;
     for number in numbers {
@@ -258,7 +257,7 @@ fn ascends_above(bound: u16, numbers: &[u16]) -> bool
 }
 
 fn are_different(numbers: &[u16]) -> bool
-    ensures { result ≡ are_different numbers.now }
+    ensures { result ≡ cursors.are_different numbers.now }
 {
     for (i, number) in numbers.iter().enumerate() {
         if numbers.split_at(i + 1).1.contains(number) {
@@ -269,13 +268,13 @@ fn are_different(numbers: &[u16]) -> bool
 }
 
 fn is_set_of(pool: &[u16], k: usize, set: &[u16]) -> bool
-    ensures { result ≡ is_set_of pool.now k set.now }
+    ensures { result ≡ cursors.is_set_of pool.now k set.now }
 {
     set.len() == k && are_of(pool, set) && ascends_above(0, set)
 }
 
 fn is_tuple_of(pool: &[u16], k: usize, tuple: &[u16]) -> bool
-    ensures { result ≡ is_tuple_of pool.now k tuple.now }
+    ensures { result ≡ cursors.is_tuple_of pool.now k tuple.now }
 {
     tuple.len() == k && are_of(pool, tuple) && are_different(tuple)
 }
@@ -306,7 +305,7 @@ fn push_others(text: &mut CursorText, others: &[u16])
 fn push_list(text: &mut CursorText, numbers: &[u16])
     requires few { length numbers.now ≤ LIMIT }
     requires room { array_string_len text.old + 6 * LIMIT ≤ TEXT_LIMIT }
-    ensures bytes { text.new.bytes ≡ text.old.bytes ++ list_text numbers.now }
+    ensures bytes { text.new.bytes ≡ text.old.bytes ++ cursors.list_text numbers.now }
     ensures bound { array_string_len text.new + 1 ≤ array_string_len text.old + 6 * LIMIT }
 {
     match numbers {
@@ -331,15 +330,15 @@ impl Cursor {
     /// Yes if the text has the form of a cursor, of whatever bracket: four lists joined by `/`, each of them numbers
     /// from 1 to `LIMIT` joined by `,`, or `0` alone if it is empty.
     pub fn syntax(text: &str) -> bool
-        ensures { result ≡ has_syntax text.now }
+        ensures { result ≡ cursors.has_syntax text.now }
     {
         sound_lists(text.as_bytes()).is_some()
     }
 
     fn has_remainder(&self, residents: &[u16], pairs: usize) -> bool
         requires few { length residents.now ≤ LIMIT }
-        ensures { result ≡ (is_set_of (left_of residents.now self.now.s2) pairs self.now.s1r
-            && is_tuple_of (left_of (left_of residents.now self.now.s2) self.now.s1r) pairs self.now.s2r) }
+        ensures { result ≡ (cursors.is_set_of (left_of residents.now self.now.s2) pairs self.now.s1r
+            && cursors.is_tuple_of (left_of (left_of residents.now self.now.s2) self.now.s1r) pairs self.now.s2r) }
     {
         let remainder = left_of(residents, &self.lists.s2);
         if !is_set_of(&remainder, pairs, &self.lists.s1r) {
@@ -354,7 +353,7 @@ impl Cursor {
 
     fn is_among(&self, moved_down: &[u16], residents: &[u16], shape: Shape) -> bool
         requires few { length residents.now ≤ LIMIT }
-        ensures { result ≡ is_among moved_down.now residents.now shape self.now }
+        ensures { result ≡ cursors.is_among moved_down.now residents.now shape self.now }
     {
         is_set_of(moved_down, shape.mdps, &self.lists.s1)
             && is_tuple_of(residents, shape.mdps, &self.lists.s2)
@@ -365,7 +364,7 @@ impl Cursor {
     /// exactly if `syntax` answers false, and `NotOfBracket` if the lists are no arrangement of the bracket and shape:
     /// lengths other than the shape's, a number not in its place's pool, a repeated number, or S1 or S1R not ascending.
     pub fn read(text: &str, bracket: &Bracket, shape: Shape) -> Result<Cursor, CursorFault>
-        ensures { result ≡ cursor_of bracket.now shape text.now }
+        ensures { result ≡ cursors.cursor_of bracket.now shape text.now }
     {
         let Some(lists) = sound_lists(text.as_bytes()) else {
             return Err(CursorFault::Syntax);
@@ -384,7 +383,7 @@ impl Cursor {
 
     /// The text of this cursor, which `read` reads back as the same cursor.
     pub fn print(&self) -> CursorText
-        ensures { result.bytes ≡ cursor_text self.now }
+        ensures { result.bytes ≡ cursors.cursor_text self.now }
     {
         let mut text = ArrayString::new();
         push_list(&mut text, &self.lists.s1);

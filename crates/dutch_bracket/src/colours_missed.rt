@@ -1,8 +1,7 @@
 // Players who get a colour that is not for them (C.04.3 C.8 to C.11).
 ghost use Rattle.std.specs.Prelude.{◌≡◌, ◌≤◌, length};
 ghost use Rattle.dutch_player.specs.Prelude.{seat_at, is_same};
-ghost use Rattle.dutch_bracket.specs.Quality.{is_wide, is_third, is_missed, is_strong, is_strong_missed, misses};
-ghost use Rattle.dutch_bracket.specs.Quality.{count_in, has_topscorer, count_in_pairs, count_with_topscorers};
+ghost use Rattle.dutch_bracket.specs.Quality as quality;
 
 use crate::seated::Pair;
 use dutch_arrangements::LIMIT;
@@ -32,7 +31,7 @@ pub(crate) fn is_same(mine: Colour, theirs: Colour) -> bool
 }
 
 fn is_strong(strength: Strength) -> bool
-    ensures { result ≡ is_strong strength }
+    ensures { result ≡ quality.is_strong strength }
 {
     match strength {
         Strength::Strong => true,
@@ -42,7 +41,7 @@ fn is_strong(strength: Strength) -> bool
 
 /// The colour difference after one more game is over +2 or under -2.
 fn is_wide(field: &Field, seat: u16, colour: Colour) -> bool
-    ensures { result ≡ is_wide (seat_at field.now seat) colour }
+    ensures { result ≡ quality.is_wide (seat_at field.now seat) colour }
 {
     let games = field.difference(seat);
     match colour {
@@ -53,7 +52,7 @@ fn is_wide(field: &Field, seat: u16, colour: Colour) -> bool
 
 /// The colour is that of the last two games.
 fn is_third(field: &Field, seat: u16, colour: Colour) -> bool
-    ensures { result ≡ is_third (seat_at field.now seat) colour }
+    ensures { result ≡ quality.is_third (seat_at field.now seat) colour }
 {
     match field.last_two(seat) {
         Some(last) => is_same(colour, last),
@@ -63,7 +62,7 @@ fn is_third(field: &Field, seat: u16, colour: Colour) -> bool
 
 /// The colour is not that of the preference.
 fn is_missed(field: &Field, seat: u16, colour: Colour) -> bool
-    ensures { result ≡ is_missed (seat_at field.now seat) colour }
+    ensures { result ≡ quality.is_missed (seat_at field.now seat) colour }
 {
     match field.preference(seat) {
         Some(wanted) => !is_same(wanted.colour, colour),
@@ -73,7 +72,7 @@ fn is_missed(field: &Field, seat: u16, colour: Colour) -> bool
 
 /// The colour is not that of a strong preference.
 fn is_strong_missed(field: &Field, seat: u16, colour: Colour) -> bool
-    ensures { result ≡ is_strong_missed (seat_at field.now seat) colour }
+    ensures { result ≡ quality.is_strong_missed (seat_at field.now seat) colour }
 {
     match field.preference(seat) {
         Some(wanted) => is_strong(wanted.strength) && !is_same(wanted.colour, colour),
@@ -83,7 +82,7 @@ fn is_strong_missed(field: &Field, seat: u16, colour: Colour) -> bool
 
 /// Yes if the player of a seat misses so if they get this colour (C.8 to C.11).
 pub fn misses(field: &Field, miss: Miss, seat: u16, colour: Colour) -> bool
-    ensures { result ≡ misses miss (seat_at field.now seat) colour }
+    ensures { result ≡ quality.misses miss (seat_at field.now seat) colour }
 {
     match miss {
         Miss::Wide => is_wide(field, seat, colour),
@@ -96,7 +95,7 @@ pub fn misses(field: &Field, miss: Miss, seat: u16, colour: Colour) -> bool
 /// How many of the two players of a pair miss so.
 #[tactic(auto, unfolding(crate::specs::Quality::count_in))]
 pub fn count_in(field: &Field, miss: Miss, pair: Pair) -> u16
-    ensures value { result ≡ count_in field.now (misses miss) pair }
+    ensures value { result ≡ quality.count_in field.now (quality.misses miss) pair }
     ensures few { result ≤ 2 }
 {
     let (white, black) = field.colours(pair.0, pair.1);
@@ -106,7 +105,7 @@ pub fn count_in(field: &Field, miss: Miss, pair: Pair) -> u16
 
 /// One of a pair is a topscorer.
 pub fn has_topscorer(field: &Field, pair: Pair) -> bool
-    ensures { result ≡ has_topscorer field.now pair }
+    ensures { result ≡ quality.has_topscorer field.now pair }
 {
     field.topscorer(pair.0) || field.topscorer(pair.1)
 }
@@ -114,7 +113,7 @@ pub fn has_topscorer(field: &Field, pair: Pair) -> bool
 /// How many players in pairs miss so.
 pub(crate) fn count_in_pairs(field: &Field, miss: Miss, pairs: &[Pair]) -> u16
     requires { length pairs.now ≤ LIMIT }
-    ensures { result ≡ count_in_pairs field.now (misses miss) pairs.now }
+    ensures { result ≡ quality.count_in_pairs field.now (quality.misses miss) pairs.now }
 {
     let mut count = 0;
     for pair in pairs {
@@ -126,7 +125,7 @@ pub(crate) fn count_in_pairs(field: &Field, miss: Miss, pairs: &[Pair]) -> u16
 /// How many players in pairs with a topscorer miss so.
 pub(crate) fn count_with_topscorers(field: &Field, miss: Miss, pairs: &[Pair]) -> u16
     requires { length pairs.now ≤ LIMIT }
-    ensures { result ≡ count_with_topscorers field.now (misses miss) pairs.now }
+    ensures { result ≡ quality.count_with_topscorers field.now (quality.misses miss) pairs.now }
 {
     let mut count = 0;
     for pair in pairs {

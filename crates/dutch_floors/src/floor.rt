@@ -5,9 +5,7 @@ ghost use Rattle.std.specs.Result.{MatchResult};
 ghost use Rattle.dutch_arrangements.specs.Prelude.{Fits, Spends};
 ghost use Rattle.dutch_arrangements.specs.declared.prefix.Filling.TheVariants.{S2r};
 ghost use Rattle.dutch_sequence.specs.declared.numbers.TheConstants.{LIMIT};
-ghost use Rattle.dutch_bracket.specs.Prelude.{all_pairs, fixed, fixed_lists, frame_of, has_s1, is_uneven, is_uniform};
-ghost use Rattle.dutch_bracket.specs.Prelude.{HasFewPairs, IsOf, next_in, psd_with, quality_in, seated_so};
-ghost use Rattle.dutch_bracket.specs.Prelude.{IsNoBetter};
+ghost use Rattle.dutch_bracket.specs.Prelude as brackets;
 ghost use Rattle.dutch_bracket.specs.declared.shaped.ShapedBracket.{ShapedBracket};
 ghost use Rattle.dutch_floors.specs.Outlooks.{IsOutlook, best_next_for};
 ghost use Rattle.dutch_floors.specs.FloorOf.{AreWants, is_flat, is_known, residents_score, psd_over, more_by, more_in};
@@ -60,10 +58,10 @@ impl<'a> Model for Floors<'a> {
 
     ghost view = { λ f. basis_for f.shaped f.outlook };
 
-    ghost invariant = { λ f. let context = f.shaped.context.now in (IsOf context.facts context.reached)
+    ghost invariant = { λ f. let context = f.shaped.context.now in (brackets.IsOf context.facts context.reached)
         × (IsOutlookFrom f.shaped f.outlook)
         × (f.flat ≡ is_flat context.facts context.reached)
-        × (f.uniform ≡ is_uniform context.facts context.reached f.shaped.shape)
+        × (f.uniform ≡ brackets.is_uniform context.facts context.reached f.shaped.shape)
         × (f.first.value.items ≡ numbers_from 1 f.shaped.shape.mdps)
         × (AreWants context.facts context.reached f.wants × (f.wants.firm ≡ false))
         × (AreWants context.facts context.reached f.firm_wants × (f.firm_wants.firm ≡ true)) };
@@ -103,8 +101,8 @@ impl<'a> Floors<'a> {
     #[tactic(auto, using(dutch_candidates::proofs::ShapeNumbers::small_pairs))]
     fn shape(&self) -> Shape
         ensures value { result ≡ self.now.shape }
-        ensures fits { Fits (frame_of self.now.facts self.now.reached) self.now.shape }
-        ensures of { IsOf self.now.facts self.now.reached }
+        ensures fits { Fits (brackets.frame_of self.now.facts self.now.reached) self.now.shape }
+        ensures of { brackets.IsOf self.now.facts self.now.reached }
         ensures small { result.pairs ≤ LIMIT }
     {
         self.shaped.shape
@@ -122,7 +120,7 @@ impl<'a> Floors<'a> {
     #[tactic(auto, using(dutch_candidates::proofs::ShapeNumbers::has_room))]
     fn fill_psd_with(&self, s1: &[u16], psd: &mut Numbers)
         requires few { length s1.now ≤ self.now.shape.mdps }
-        ensures { psd.new.items ≡ psd_with self.now.facts self.now.reached self.now.shape
+        ensures { psd.new.items ≡ brackets.psd_with self.now.facts self.now.reached self.now.shape
             (residents_score self.now.facts self.now.reached) s1.now }
     {
         let context = self.shaped.context;
@@ -159,13 +157,14 @@ impl<'a> Floors<'a> {
     /// Yes if the best that the next bracket can be behind a beginning (C.7) is known, and is no better than a quality
     /// says.
     fn awaits_no_better(&self, prefix: &Prefix<'_>, quality: &Quality) -> bool
-        ensures of { IsOf self.now.facts self.now.reached }
+        ensures of { brackets.IsOf self.now.facts self.now.reached }
         ensures outlook { IsOutlook self.now.facts self.now.reached self.now.lower self.now.shape self.now.outlook }
         ensures none { result ≡ true →
-            ((has_s1 prefix.now.filling || is_uniform self.now.facts self.now.reached self.now.shape) ≡ true)
-            × IsNoBetter (best_next_for self.now.facts self.now.reached self.now.shape self.now.outlook
+            ((brackets.has_s1 prefix.now.filling || brackets.is_uniform self.now.facts self.now.reached
+            self.now.shape) ≡ true)
+            × brackets.IsNoBetter (best_next_for self.now.facts self.now.reached self.now.shape self.now.outlook
             (s1_of self.now prefix.now))
-            (next_in (quality_in quality.now)) }
+            (brackets.next_in (brackets.quality_in quality.now)) }
     {
         let uniform = self.uniform;
         (has_s1(prefix.filling()) || uniform)
@@ -177,7 +176,8 @@ impl<'a> Floors<'a> {
     /// Yes if no candidate with a beginning has a better value of the next bracket than a quality says (C.7). A no says
     /// nothing.
     pub fn has_no_better_next(&self, prefix: &Prefix<'_>, quality: &Quality) -> bool
-        ensures { result ≡ true → NoneHasBetterNext self.now prefix.now (next_in (quality_in quality.now)) }
+        ensures { result ≡ true → NoneHasBetterNext self.now prefix.now (brackets.next_in
+        (brackets.quality_in quality.now)) }
     {
         self.awaits_no_better(prefix, quality)
     }
@@ -187,7 +187,8 @@ impl<'a> Floors<'a> {
     fn more_missed(&self, known: &KnownPairs, firm: bool) -> usize
         requires known { AreKnown self.now known.now }
         ensures value { result ≡ more_in firm self.now.facts self.now.reached self.now.shape
-            (seated_so self.now.facts self.now.reached (by_seat self.now.reached.seats known.now.pairs.items) []) }
+            (brackets.seated_so self.now.facts self.now.reached
+            (by_seat self.now.reached.seats known.now.pairs.items) []) }
         ensures few { result ≤ LIMIT }
         ensures room { length known.now.pairs.items ≤ LIMIT }
     {
@@ -227,7 +228,7 @@ impl<'a> Floors<'a> {
     ) -> usize
         requires known { AreKnown self.now notes.old.known }
         requires pairs { notes.old.known.pairs.items ≡ number_pairs lists.now }
-        requires few { HasFewPairs lists.now }
+        requires few { brackets.HasFewPairs lists.now }
         ensures value { result ≤ more_by asked.now.prefix.now.filling self.now lists.now }
         ensures few { result ≤ LIMIT }
         ensures known { notes.new.known ≡ notes.old.known }
@@ -258,9 +259,9 @@ impl<'a> Floors<'a> {
     #[tactic(auto, unfolding(crate::specs::FloorOf::psd_over))]
     fn fill_psd(&self, s1: &[u16], lists: &FixedLists<'_>, room: &mut QualityLists)
         requires few { length s1.now ≤ self.now.shape.mdps }
-        requires pairs { HasFewPairs lists.now }
+        requires pairs { brackets.HasFewPairs lists.now }
         ensures { room.new.quality.psd.items
-            ≡ psd_over self.now s1.now (fixed self.now.facts self.now.reached lists.now) }
+            ≡ psd_over self.now s1.now (brackets.fixed self.now.facts self.now.reached lists.now) }
     {
         if self.flat {
             self.fill_psd_with(s1, &mut room.quality.psd);
@@ -274,10 +275,10 @@ impl<'a> Floors<'a> {
     /// Fills in the PSD and the value of the next bracket (C.6, C.7).
     fn fill_first(&self, s1: &[u16], lists: &FixedLists<'_>, room: &mut QualityLists)
         requires few { length s1.now ≤ self.now.shape.mdps }
-        requires pairs { HasFewPairs lists.now }
-        ensures psd { (quality_in room.new.quality).psd
-            ≡ psd_over self.now s1.now (fixed self.now.facts self.now.reached lists.now) }
-        ensures next { next_in (quality_in room.new.quality)
+        requires pairs { brackets.HasFewPairs lists.now }
+        ensures psd { (brackets.quality_in room.new.quality).psd
+            ≡ psd_over self.now s1.now (brackets.fixed self.now.facts self.now.reached lists.now) }
+        ensures next { brackets.next_in (brackets.quality_in room.new.quality)
             ≡ best_next_for self.now.facts self.now.reached self.now.shape self.now.outlook s1.now }
     {
         self.fill_psd(s1, lists, room);
@@ -287,11 +288,13 @@ impl<'a> Floors<'a> {
 
     /// Fills in the items that pairs add up to (C.8 to C.19).
     fn fill_counted(&self, lists: &FixedLists<'_>, sums: PairSums, room: &mut QualityLists)
-        requires pairs { HasFewPairs lists.now }
+        requires pairs { brackets.HasFewPairs lists.now }
         requires uneven { sums.uneven
-            ≡ length (filter (is_uneven self.now.facts) (all_pairs self.now.reached.seats lists.now)) }
-        ensures { (more : ℕ) → AreMissed self.now more (all_pairs self.now.reached.seats lists.now) sums
-            → quality_in room.new.quality ≡ floor_with self.now more (quality_in room.old.quality) lists.now }
+            ≡ length (filter (brackets.is_uneven self.now.facts)
+            (brackets.all_pairs self.now.reached.seats lists.now)) }
+        ensures { (more : ℕ) → AreMissed self.now more (brackets.all_pairs self.now.reached.seats lists.now) sums
+            → brackets.quality_in room.new.quality ≡ floor_with self.now more
+            (brackets.quality_in room.old.quality) lists.now }
     {
         room.quality.wide_differences = sums.wide;
         room.quality.third_colours = sums.third;
@@ -305,11 +308,11 @@ impl<'a> Floors<'a> {
     /// matter which one is.
     #[tactic(auto, using(crate::proofs::FloorLemmas::known_pairs, crate::proofs::FloorLemmas::s1_few))]
     fn is_known(&self, prefix: &Prefix<'_>, lists: &FixedLists<'_>) -> bool
-        requires lists { lists.now ≡ fixed_lists prefix.now }
+        requires lists { lists.now ≡ brackets.fixed_lists prefix.now }
         ensures known { result ≡ is_known self.now prefix.now }
-        ensures of { IsOf self.now.facts self.now.reached }
+        ensures of { brackets.IsOf self.now.facts self.now.reached }
         ensures outlook { IsOutlook self.now.facts self.now.reached self.now.lower self.now.shape self.now.outlook }
-        ensures pairs { is_known self.now prefix.now ≡ true → HasFewPairs (fixed_lists prefix.now) }
+        ensures pairs { is_known self.now prefix.now ≡ true → brackets.HasFewPairs (brackets.fixed_lists prefix.now) }
         ensures few { is_known self.now prefix.now ≡ true → length (s1_of self.now prefix.now) ≤ self.now.shape.mdps }
     {
         is_of_shape(self.shape(), lists) && (has_s1(prefix.filling()) || self.uniform)
@@ -323,7 +326,7 @@ impl<'a> Floors<'a> {
         room: &mut QualityLists,
     ) -> bool
         requires known { AreKnown self.now notes.old.known }
-        ensures floor { result ≡ true → NoneBeats self.now asked.now.prefix.now (quality_in room.new.quality) }
+        ensures floor { result ≡ true → NoneBeats self.now asked.now.prefix.now (brackets.quality_in room.new.quality) }
         ensures known { AreKnown self.now notes.new.known }
     {
         let prefix = asked.prefix;

@@ -2,8 +2,7 @@
 ghost use Rattle.std.specs.Prelude.{◌≡◌, ◌≤◌, length};
 ghost use Rattle.dutch_player.specs.declared.colour_rule.ColourRule.TheVariants.{BothPreferences};
 ghost use Rattle.dutch_player.specs.SeatOf.{facts_in};
-ghost use Rattle.dutch_player.specs.Colours.{grade, distance, is_stronger, alternate_colour, by, by_history};
-ghost use Rattle.dutch_player.specs.Colours.{by_preferences, by_start, by_strength, decision_between, with_colour};
+ghost use Rattle.dutch_player.specs.Colours as histories;
 
 use crate::colour_rule::ColourRule;
 use crate::meetings::is_absolute;
@@ -21,7 +20,7 @@ pub(crate) struct Decision {
 }
 
 fn grade(strength: Strength) -> u8
-    ensures { result ≡ grade strength }
+    ensures { result ≡ histories.grade strength }
 {
     match strength {
         Strength::Absolute => 2,
@@ -32,14 +31,14 @@ fn grade(strength: Strength) -> u8
 
 // How far a colour difference is from 0.
 fn distance(played: &[Colour]) -> usize
-    ensures { result ≡ distance played.now }
+    ensures { result ≡ histories.distance played.now }
 {
     whites(played).abs_diff(blacks(played))
 }
 
 // E.2: of two absolute preferences the one with the difference further from 0 is stronger.
 fn is_stronger(mine: Pref, played: &[Colour], theirs: Pref, their_played: &[Colour]) -> bool
-    ensures { result ≡ is_stronger mine played.now theirs their_played.now }
+    ensures { result ≡ histories.is_stronger mine played.now theirs their_played.now }
 {
     if grade(theirs.strength) < grade(mine.strength) {
         return true;
@@ -51,7 +50,7 @@ fn is_stronger(mine: Pref, played: &[Colour], theirs: Pref, their_played: &[Colo
 
 // E.3: both lists have the last game first.
 fn alternate_colour(mine: &[Colour], theirs: &[Colour]) -> Option<Colour>
-    ensures { result ≡ alternate_colour mine.now theirs.now }
+    ensures { result ≡ histories.alternate_colour mine.now theirs.now }
 {
     let [mine, before @ ..] = mine else {
         return None;
@@ -69,7 +68,7 @@ fn alternate_colour(mine: &[Colour], theirs: &[Colour]) -> Option<Colour>
 // E.3 and E.4: the higher ranked wants a colour; if the colours can alternate, that player gets the one by which they
 // do.
 fn by_history(alternate: Option<Colour>, wanted: Colour) -> Decision
-    ensures { result ≡ by_history alternate wanted }
+    ensures { result ≡ histories.by_history alternate wanted }
 {
     match alternate {
         Some(colour) => Decision {
@@ -85,7 +84,7 @@ fn by_history(alternate: Option<Colour>, wanted: Colour) -> Decision
 
 // E.2 to E.4: both want the same colour.
 fn by_strength(high: &[Colour], low: &[Colour], wanted: Pref, theirs: Pref) -> Decision
-    ensures { result ≡ by_strength high.now low.now wanted theirs }
+    ensures { result ≡ histories.by_strength high.now low.now wanted theirs }
 {
     let rule = ColourRule::StrongerPreference;
     if is_stronger(wanted, high, theirs, low) {
@@ -101,7 +100,7 @@ fn by_strength(high: &[Colour], low: &[Colour], wanted: Pref, theirs: Pref) -> D
 
 // E.5: nobody has played a game.
 fn by_start(initial: Colour, start: u16) -> Colour
-    ensures { result ≡ by_start initial start }
+    ensures { result ≡ histories.by_start initial start }
 {
     if start % 2 == 1 {
         initial
@@ -112,7 +111,7 @@ fn by_start(initial: Colour, start: u16) -> Colour
 
 // E.1: a player without a preference is content with either colour.
 fn both(colour: Colour) -> Decision
-    ensures { result ≡ by BothPreferences colour }
+    ensures { result ≡ histories.by BothPreferences colour }
 {
     Decision {
         rule: ColourRule::BothPreferences,
@@ -128,7 +127,7 @@ struct Preferences {
 }
 
 fn by_preferences(initial: Colour, high: &Seat, low: &Seat, prefer: Preferences) -> Decision
-    ensures { result ≡ by_preferences initial (facts_in high.now) (facts_in low.now) prefer.high prefer.low }
+    ensures { result ≡ histories.by_preferences initial (facts_in high.now) (facts_in low.now) prefer.high prefer.low }
 {
     match (prefer.high, prefer.low) {
         (Some(wanted), Some(theirs)) => {
@@ -149,7 +148,7 @@ fn by_preferences(initial: Colour, high: &Seat, low: &Seat, prefer: Preferences)
 
 /// How the colours of two are decided; the first of them ranks higher.
 pub(crate) fn decision_between(initial: Colour, high: &Seat, low: &Seat) -> Decision
-    ensures { result ≡ decision_between initial (facts_in high.now) (facts_in low.now) }
+    ensures { result ≡ histories.decision_between initial (facts_in high.now) (facts_in low.now) }
 {
     let prefer = Preferences {
         high: high.preference,
@@ -160,7 +159,7 @@ pub(crate) fn decision_between(initial: Colour, high: &Seat, low: &Seat) -> Deci
 
 /// Who has white and who has black, if the first gets the given colour.
 pub(crate) fn with_colour(a: u16, b: u16, colour: Colour) -> (u16, u16)
-    ensures { result ≡ with_colour a b colour }
+    ensures { result ≡ histories.with_colour a b colour }
 {
     match colour {
         Colour::White => (a, b),

@@ -1,7 +1,6 @@
 // Colour preferences, from the colours of a player's games, the last game first (C.04.3 A.6).
 ghost use Rattle.std.specs.Prelude.{◌≡◌, ◌≤◌, ◌-ℤ◌, ◌≤ℤ◌, pos, length, count_by};
-ghost use Rattle.dutch_player.specs.Preferences.{other, is_white, is_black, is_same, whites, blacks, difference};
-ghost use Rattle.dutch_player.specs.Preferences.{last_two, mild, strong_or_mild, preference};
+ghost use Rattle.dutch_player.specs.Preferences as preferences;
 ghost use Rattle.trf16_report.specs.declared.limits.TheConstants.{MOST_ROUNDS};
 
 use trf16_report::Colour;
@@ -26,7 +25,7 @@ pub struct Pref {
 
 /// The colour of the opponent.
 pub(crate) fn other(colour: Colour) -> Colour
-    ensures { result ≡ other colour }
+    ensures { result ≡ preferences.other colour }
 {
     match colour {
         Colour::White => Colour::Black,
@@ -35,7 +34,7 @@ pub(crate) fn other(colour: Colour) -> Colour
 }
 
 fn is_white(colour: &Colour) -> bool
-    ensures { result ≡ is_white colour.now }
+    ensures { result ≡ preferences.is_white colour.now }
 {
     match colour {
         Colour::White => true,
@@ -44,7 +43,7 @@ fn is_white(colour: &Colour) -> bool
 }
 
 fn is_black(colour: &Colour) -> bool
-    ensures { result ≡ is_black colour.now }
+    ensures { result ≡ preferences.is_black colour.now }
 {
     match colour {
         Colour::White => false,
@@ -53,7 +52,7 @@ fn is_black(colour: &Colour) -> bool
 }
 
 pub(crate) fn is_same(mine: Colour, theirs: Colour) -> bool
-    ensures { result ≡ is_same mine theirs }
+    ensures { result ≡ preferences.is_same mine theirs }
 {
     match mine {
         Colour::White => is_white(&theirs),
@@ -63,7 +62,7 @@ pub(crate) fn is_same(mine: Colour, theirs: Colour) -> bool
 
 /// How many games were played with white.
 pub(crate) fn whites(played: &[Colour]) -> usize
-    ensures value { result ≡ whites played.now }
+    ensures value { result ≡ preferences.whites played.now }
     ensures within { result ≤ length played.now }
 {
     played.iter().filter(|colour| is_white(*colour)).count()
@@ -72,7 +71,7 @@ pub(crate) fn whites(played: &[Colour]) -> usize
 /// How many games were played with black: all that were not played with white.
 #[tactic(auto, using(crate::proofs::ColourLemmas::of_both))]
 pub(crate) fn blacks(played: &[Colour]) -> usize
-    ensures value { result ≡ blacks played.now }
+    ensures value { result ≡ preferences.blacks played.now }
     ensures within { result ≤ length played.now }
 {
     played.len() - whites(played)
@@ -81,7 +80,7 @@ pub(crate) fn blacks(played: &[Colour]) -> usize
 /// Games with white minus games with black.
 pub(crate) fn difference(played: &[Colour]) -> i16
     requires { length played.now ≤ MOST_ROUNDS }
-    ensures value { result ≡ difference played.now }
+    ensures value { result ≡ preferences.difference played.now }
     ensures low { (pos 0 -ℤ pos MOST_ROUNDS) ≤ℤ result }
     ensures high { result ≤ℤ pos MOST_ROUNDS }
 {
@@ -90,7 +89,7 @@ pub(crate) fn difference(played: &[Colour]) -> i16
 
 /// The colour of the last two games, if there are two and both have it.
 pub(crate) fn last_two(played: &[Colour]) -> Option<Colour>
-    ensures { result ≡ last_two played.now }
+    ensures { result ≡ preferences.last_two played.now }
 {
     match played {
         [last, before, ..] => {
@@ -106,7 +105,7 @@ pub(crate) fn last_two(played: &[Colour]) -> Option<Colour>
 
 // Mild: to alternate the colour of the last game.
 fn mild(played: &[Colour]) -> Option<Pref>
-    ensures { result ≡ mild played.now }
+    ensures { result ≡ preferences.mild played.now }
 {
     match played {
         [last, ..] => Some(Pref {
@@ -119,7 +118,7 @@ fn mild(played: &[Colour]) -> Option<Pref>
 
 // Strong, or mild if the difference is 0.
 fn strong_or_mild(played: &[Colour]) -> Option<Pref>
-    ensures { result ≡ strong_or_mild played.now }
+    ensures { result ≡ preferences.strong_or_mild played.now }
 {
     let (whites, blacks) = (whites(played), blacks(played));
     if blacks < whites {
@@ -140,7 +139,7 @@ fn strong_or_mild(played: &[Colour]) -> Option<Pref>
 /// The colour preference of a player with these games.
 pub(crate) fn preference(played: &[Colour]) -> Option<Pref>
     requires { length played.now ≤ MOST_ROUNDS }
-    ensures { result ≡ preference played.now }
+    ensures { result ≡ preferences.preference played.now }
 {
     let (whites, blacks) = (whites(played), blacks(played));
     if blacks + 1 < whites {

@@ -2,10 +2,7 @@
 ghost use Rattle.std.specs.Prelude.{◌≡◌, ◌+◌, ◌*◌, ◌<◌, ◌≤◌, [], if◌then◌else◌, length, map, filter};
 ghost use Rattle.arrayvec.specs.ArrayVec.{array_vec_len};
 ghost use Rattle.dutch_player.specs.declared.float.Float.TheVariants.{Up, Down};
-ghost use Rattle.dutch_bracket.specs.Prelude.{counted, only_if, seats_of, those_in, those_in_pairs};
-ghost use Rattle.dutch_bracket.specs.Prelude.{those_with_topscorers, who_counts, again, has_topscorer, highest_first};
-ghost use Rattle.dutch_bracket.specs.Prelude.{misses, placed_all};
-ghost use Rattle.dutch_bracket.specs.Prelude.{floats_down, goes, going_down, going_up, is_uneven};
+ghost use Rattle.dutch_bracket.specs.Prelude as brackets;
 ghost use Rattle.dutch_rounds.specs.Outcomes.{IsStage};
 
 use crate::stage::Stage;
@@ -22,7 +19,7 @@ use trf16_report::Colour;
 /// Puts a seat to its place if something holds, the highest number first.
 fn put_if(holds: bool, seat: u16, seats: &mut Seats)
     requires { array_vec_len seats.old < LIMIT }
-    ensures items { seats.new.items ≡ placed_all seats.old.items (only_if holds seat) }
+    ensures items { seats.new.items ≡ brackets.placed_all seats.old.items (brackets.only_if holds seat) }
     ensures len { array_vec_len seats.new ≤ array_vec_len seats.old + 1 }
 {
     if holds {
@@ -34,7 +31,8 @@ fn put_if(holds: bool, seat: u16, seats: &mut Seats)
 #[tactic(auto, using(dutch_bracket::proofs::Places::placed_all_append), unfolding(dutch_bracket::specs::Items::those_in))]
 fn put_pair(field: &Field, miss: Miss, pair: Pair, seats: &mut Seats)
     requires { array_vec_len seats.old + 2 ≤ LIMIT }
-    ensures items { seats.new.items ≡ placed_all seats.old.items (those_in field.now (misses miss) pair) }
+    ensures items { seats.new.items ≡ brackets.placed_all seats.old.items (brackets.those_in field.now
+        (brackets.misses miss) pair) }
     ensures len { array_vec_len seats.new ≤ array_vec_len seats.old + 2 }
 {
     let (white, black) = field.colours(pair.0, pair.1);
@@ -46,8 +44,9 @@ fn put_pair(field: &Field, miss: Miss, pair: Pair, seats: &mut Seats)
 fn put_if_topscorer(field: &Field, miss: Miss, pair: Pair, seats: &mut Seats)
     requires { array_vec_len seats.old + 2 ≤ LIMIT }
     ensures items { seats.new.items
-        ≡ placed_all seats.old.items
-        (if has_topscorer field.now pair then those_in field.now (misses miss) pair else []) }
+        ≡ brackets.placed_all seats.old.items
+        (if brackets.has_topscorer field.now pair then brackets.those_in field.now
+        (brackets.misses miss) pair else []) }
     ensures len { array_vec_len seats.new ≤ array_vec_len seats.old + 2 }
 {
     if has_topscorer(field, pair) {
@@ -59,7 +58,8 @@ fn put_if_topscorer(field: &Field, miss: Miss, pair: Pair, seats: &mut Seats)
 #[tactic(auto, using(crate::proofs::ItemSeats::pair_put))]
 fn put_pairs(field: &Field, miss: Miss, pairs: &[Pair], seats: &mut Seats)
     requires { array_vec_len seats.old + 2 * length pairs.now ≤ LIMIT }
-    ensures { seats.new.items ≡ placed_all seats.old.items (those_in_pairs field.now (misses miss) pairs.now) }
+    ensures { seats.new.items ≡ brackets.placed_all seats.old.items (brackets.those_in_pairs field.now
+        (brackets.misses miss) pairs.now) }
 {
     for pair in pairs {
         put_pair(field, miss, *pair, seats);
@@ -69,7 +69,8 @@ fn put_pairs(field: &Field, miss: Miss, pairs: &[Pair], seats: &mut Seats)
 /// Puts the players of pairs with a topscorer who miss so to their places.
 fn put_with_topscorers(field: &Field, miss: Miss, pairs: &[Pair], seats: &mut Seats)
     requires { array_vec_len seats.old + 2 * length pairs.now ≤ LIMIT }
-    ensures { seats.new.items ≡ placed_all seats.old.items (those_with_topscorers field.now (misses miss) pairs.now) }
+    ensures { seats.new.items ≡ brackets.placed_all seats.old.items (brackets.those_with_topscorers field.now
+        (brackets.misses miss) pairs.now) }
 {
     for pair in pairs {
         put_if_topscorer(field, miss, *pair, seats);
@@ -79,9 +80,10 @@ fn put_with_topscorers(field: &Field, miss: Miss, pairs: &[Pair], seats: &mut Se
 /// Puts the players of pairs who float as in a round before to their places.
 fn put_again(past: FloatRound<'_>, pairs: &[Pair], seats: &mut Seats)
     requires { array_vec_len seats.old + length pairs.now ≤ LIMIT }
-    ensures items { seats.new.items ≡ placed_all seats.old.items
-        (seats_of (again past.entry.field.now past.entry.float past.entry.back
-        (map (goes past.entry.field.now past.entry.float) (filter (is_uneven past.entry.field.now) pairs.now)))) }
+    ensures items { seats.new.items ≡ brackets.placed_all seats.old.items
+        (brackets.seats_of (brackets.again past.entry.field.now past.entry.float past.entry.back
+        (map (brackets.goes past.entry.field.now past.entry.float) (filter
+        (brackets.is_uneven past.entry.field.now) pairs.now)))) }
     ensures len { array_vec_len seats.new ≤ array_vec_len seats.old + length pairs.now }
 {
     for pair in pairs {
@@ -97,9 +99,9 @@ fn put_again(past: FloatRound<'_>, pairs: &[Pair], seats: &mut Seats)
 /// Puts the downfloaters who float as in a round before to their places.
 fn put_down_again(past: FloatRound<'_>, least: u16, down: &[u16], seats: &mut Seats)
     requires { array_vec_len seats.old + length down.now ≤ LIMIT }
-    ensures { seats.new.items ≡ placed_all seats.old.items
-        (seats_of (again past.entry.field.now past.entry.float past.entry.back
-        (map (floats_down past.entry.field.now least) down.now))) }
+    ensures { seats.new.items ≡ brackets.placed_all seats.old.items
+        (brackets.seats_of (brackets.again past.entry.field.now past.entry.float past.entry.back
+        (map (brackets.floats_down past.entry.field.now least) down.now))) }
 {
     for seat in down {
         if past.was_of(*seat) {
@@ -112,7 +114,8 @@ fn put_down_again(past: FloatRound<'_>, least: u16, down: &[u16], seats: &mut Se
 #[tactic(auto, using(crate::proofs::ItemSeats::seats_again), unfolding(dutch_bracket::specs::Seated::going_down))]
 fn fill_going_down(field: &Field, back: u8, candidate: &Seated, seats: &mut Seats)
     ensures { seats.new.items
-        ≡ highest_first (seats_of (again field.now Down back (going_down field.now candidate.now))) }
+        ≡ brackets.highest_first (brackets.seats_of (brackets.again field.now Down back
+        (brackets.going_down field.now candidate.now))) }
 {
     seats.clear();
     let past = FloatRound::new(field, Float::Down, back);
@@ -124,7 +127,7 @@ fn fill_going_down(field: &Field, back: u8, candidate: &Seated, seats: &mut Seat
 #[tactic(auto, unfolding(dutch_bracket::specs::Seated::going_up, dutch_bracket::specs::Seated::going_down))]
 fn fill_counted(field: &Field, candidate: &Seated, item: Item, seats: &mut Seats)
     requires { 2 * length candidate.now.pairs ≤ LIMIT }
-    ensures { seats.new.items ≡ highest_first (counted field.now candidate.now item) }
+    ensures { seats.new.items ≡ brackets.highest_first (brackets.counted field.now candidate.now item) }
 {
     seats.clear();
     let pairs = &candidate.pairs;
@@ -151,7 +154,7 @@ fn fill_counted(field: &Field, candidate: &Seated, item: Item, seats: &mut Seats
 #[tactic(auto, using(crate::proofs::WalkEnds::candidate_is, crate::proofs::ItemSeats::pairs_few))]
 pub fn who_counts(field: &Field, stage: &Stage, item: Item) -> Seats
     requires { IsStage field.now stage.now }
-    ensures { result.items ≡ who_counts field.now stage.now.reached stage.now.candidate item }
+    ensures { result.items ≡ brackets.who_counts field.now stage.now.reached stage.now.candidate item }
 {
     let candidate = by_seats(field, stage.reached().seats(), stage.candidate());
     let mut seats = Seats::new();

@@ -7,10 +7,7 @@ ghost use Rattle.std.specs.Option.{ForSome, SomeIff};
 ghost use Rattle.dutch_bracket.specs.declared.reached.BracketKind.TheVariants.{Ordinary};
 ghost use Rattle.dutch_bracket.specs.Prelude.{seated_so, no_value, numbers_meet, quality_with, seat_of, count_below};
 ghost use Rattle.dutch_weighing.specs.Weights.{weight_with};
-ghost use Rattle.dutch_weighing.specs.WeightTables.{HasAll, HasBelow, HasPairs, IsHeavy, IsNumber, IsNumberBelow};
-ghost use Rattle.dutch_weighing.specs.WeightTables.{TellsBelow, TellsDown, TellsEachBelow, TellsPairs, TellsPairsUpto};
-ghost use Rattle.dutch_weighing.specs.WeightTables.{alone_weight, next_weight_of, down_weight, met_weight, own_weight};
-ghost use Rattle.dutch_weighing.specs.WeightTables.{pair_weight, place_in, place_of, weighed_on};
+ghost use Rattle.dutch_weighing.specs.WeightTables as tables;
 ghost use Rattle.dutch_sequence.specs.declared.numbers.TheConstants.{LIMIT};
 
 use crate::scale::Scale;
@@ -57,14 +54,14 @@ impl<'a> Model for Weighing<'a> {
 
     ghost Value = { Weighing };
 
-    ghost view = { λ w. weighed_on w.context.now w.scale };
+    ghost view = { λ w. tables.weighed_on w.context.now w.scale };
 
     ghost invariant = { λ w.
-        (HasPairs (weighed_on w.context.now w.scale) w.pairs
-        × TellsPairs (weighed_on w.context.now w.scale) w.pairs)
-        × (HasAll (weighed_on w.context.now w.scale) w.down.items
-        × TellsDown (weighed_on w.context.now w.scale) w.down.items)
-        × TellsBelow (weighed_on w.context.now w.scale) w.next.items };
+        (tables.HasPairs (tables.weighed_on w.context.now w.scale) w.pairs
+        × tables.TellsPairs (tables.weighed_on w.context.now w.scale) w.pairs)
+        × (tables.HasAll (tables.weighed_on w.context.now w.scale) w.down.items
+        × tables.TellsDown (tables.weighed_on w.context.now w.scale) w.down.items)
+        × tables.TellsBelow (tables.weighed_on w.context.now w.scale) w.next.items };
 }
 
 /// What the weights of a bracket are worked out by.
@@ -80,7 +77,7 @@ impl<'a> Model for Weigher<'a> {
 
     ghost Value = { Weighing };
 
-    ghost view = { λ w. weighed_on w.context.now w.scale.now };
+    ghost view = { λ w. tables.weighed_on w.context.now w.scale.now };
 }
 
 /// Where a table of so many players has two numbers.
@@ -88,7 +85,7 @@ fn place_of(n: usize, x: u16, y: u16) -> usize
     requires few { n ≤ LIMIT }
     requires first { (0 < x) × (x ≤ n) }
     requires second { (0 < y) × (y ≤ n) }
-    ensures value { result ≡ place_of n x y }
+    ensures value { result ≡ tables.place_of n x y }
     ensures within { result < n * n }
 {
     usize::from(x - 1) * n + usize::from(y - 1)
@@ -156,7 +153,7 @@ impl PairTable {
 impl Weigher<'_> {
     /// What a pair weighs alone; none if it is 2^512 or more.
     fn pair(&self, a: u16, b: u16, room: &mut QualityLists) -> Option<Wide>
-        ensures { SomeIff result (pair_weight self.now a b < 2 ^ 512) (pair_weight self.now a b) }
+        ensures { SomeIff result (tables.pair_weight self.now a b < 2 ^ 512) (tables.pair_weight self.now a b) }
     {
         seat_pair(self.context, a, b, &mut room.seated);
         let field = self.context.field();
@@ -165,7 +162,7 @@ impl Weigher<'_> {
 
     /// What a downfloater weighs alone; none if it is 2^512 or more.
     fn one_down(&self, a: u16, room: &mut QualityLists) -> Option<Wide>
-        ensures { SomeIff result (down_weight self.now a < 2 ^ 512) (down_weight self.now a) }
+        ensures { SomeIff result (tables.down_weight self.now a < 2 ^ 512) (tables.down_weight self.now a) }
     {
         seat_one_down(self.context, a, &mut room.seated);
         let field = self.context.field();
@@ -185,14 +182,14 @@ impl Weigher<'_> {
         room: &mut QualityLists,
         table: &mut PairTable,
     ) -> Result<bool, AllocError>
-        requires first { IsNumber self.now.reached pair.0 }
-        requires second { IsNumber self.now.reached pair.1 }
-        requires room { HasPairs self.now table.old }
-        requires told { TellsPairsUpto self.now table.old (place_in self.now pair.0 pair.1) }
-        ensures room { HasPairs self.now table.new }
+        requires first { tables.IsNumber self.now.reached pair.0 }
+        requires second { tables.IsNumber self.now.reached pair.1 }
+        requires room { tables.HasPairs self.now table.old }
+        requires told { tables.TellsPairsUpto self.now table.old (tables.place_in self.now pair.0 pair.1) }
+        ensures room { tables.HasPairs self.now table.new }
         ensures told { IfOk result (λ fits. fits ≡ true
-            → TellsPairsUpto self.now table.new (place_in self.now pair.0 pair.1 + 1)) }
-        ensures heavy { IfOk result (λ fits. fits ≡ false → IsHeavy self.now (2 ^ 512)) }
+            → tables.TellsPairsUpto self.now table.new (tables.place_in self.now pair.0 pair.1 + 1)) }
+        ensures heavy { IfOk result (λ fits. fits ≡ false → tables.IsHeavy self.now (2 ^ 512)) }
     {
         let (a, b) = pair;
         let meets = self.may_meet(a, b);
@@ -210,13 +207,13 @@ impl Weigher<'_> {
         room: &mut QualityLists,
         table: &mut PairTable,
     ) -> Result<bool, AllocError>
-        requires number { IsNumber self.now.reached a }
-        requires room { HasPairs self.now table.old }
-        requires told { TellsPairsUpto self.now table.old (place_in self.now a 1) }
-        ensures room { HasPairs self.now table.new }
+        requires number { tables.IsNumber self.now.reached a }
+        requires room { tables.HasPairs self.now table.old }
+        requires told { tables.TellsPairsUpto self.now table.old (tables.place_in self.now a 1) }
+        ensures room { tables.HasPairs self.now table.new }
         ensures told { IfOk result (λ fits. fits ≡ true
-            → TellsPairsUpto self.now table.new (length self.now.reached.seats * a)) }
-        ensures heavy { IfOk result (λ fits. fits ≡ false → IsHeavy self.now (2 ^ 512)) }
+            → tables.TellsPairsUpto self.now table.new (length self.now.reached.seats * a)) }
+        ensures heavy { IfOk result (λ fits. fits ≡ false → tables.IsHeavy self.now (2 ^ 512)) }
     {
         for b in 0..self.context.len() {
             if !self.put_pair((a, b as u16 + 1), room, table)? {
@@ -228,10 +225,10 @@ impl Weigher<'_> {
 
     /// Puts what all pairs weigh into a table.
     fn put_pairs(&self, room: &mut QualityLists, table: &mut PairTable) -> Result<bool, AllocError>
-        requires { HasPairs self.now table.old }
-        ensures room { HasPairs self.now table.new }
-        ensures told { IfOk result (λ fits. fits ≡ true → TellsPairs self.now table.new) }
-        ensures heavy { IfOk result (λ fits. fits ≡ false → IsHeavy self.now (2 ^ 512)) }
+        requires { tables.HasPairs self.now table.old }
+        ensures room { tables.HasPairs self.now table.new }
+        ensures told { IfOk result (λ fits. fits ≡ true → tables.TellsPairs self.now table.new) }
+        ensures heavy { IfOk result (λ fits. fits ≡ false → tables.IsHeavy self.now (2 ^ 512)) }
     {
         for a in 0..self.context.len() {
             if !self.put_row(a as u16 + 1, room, table)? {
@@ -243,9 +240,9 @@ impl Weigher<'_> {
 
     /// Puts what all downfloaters weigh into a table.
     fn put_down(&self, room: &mut QualityLists, table: &mut [Wide]) -> bool
-        requires { HasAll self.now table.old }
-        ensures told { result ≡ true → TellsDown self.now table.new }
-        ensures heavy { result ≡ false → IsHeavy self.now (2 ^ 512) }
+        requires { tables.HasAll self.now table.old }
+        ensures told { result ≡ true → tables.TellsDown self.now table.new }
+        ensures heavy { result ≡ false → tables.IsHeavy self.now (2 ^ 512) }
     {
         for a in 0..self.context.len() {
             match self.one_down(a as u16 + 1, room) {
@@ -264,15 +261,15 @@ struct BelowWeigher<'a> {
     down: &'a [Wide],
     ghost group: { length weigher.now.reached.seats
         < count_below weigher.now.facts weigher.now.reached weigher.now.lower },
-    ghost room: { HasAll weigher.now down.now },
-    ghost told: { TellsDown weigher.now down.now },
+    ghost room: { tables.HasAll weigher.now down.now },
+    ghost told: { tables.TellsDown weigher.now down.now },
 }
 
 impl BelowWeigher<'_> {
     /// What a number weighs as a downfloater, if it is one of the bracket.
     fn own(&self, a: u16) -> Wide
-        requires { IsNumberBelow self.now.weigher.now a }
-        ensures { result ≡ own_weight self.now.weigher.now a }
+        requires { tables.IsNumberBelow self.now.weigher.now a }
+        ensures { result ≡ tables.own_weight self.now.weigher.now a }
     {
         let weigher = self.weigher;
         if usize::from(a) <= weigher.context.len() {
@@ -284,8 +281,9 @@ impl BelowWeigher<'_> {
 
     /// What a number weighs that meets one of the next lower scoregroup; none if it is 2^512 or more.
     fn met(&self, a: u16) -> Option<Wide>
-        requires { IsNumberBelow self.now.weigher.now a }
-        ensures { SomeIff result (met_weight self.now.weigher.now a < 2 ^ 512) (met_weight self.now.weigher.now a) }
+        requires { tables.IsNumberBelow self.now.weigher.now a }
+        ensures { SomeIff result (tables.met_weight self.now.weigher.now a < 2 ^ 512)
+        (tables.met_weight self.now.weigher.now a) }
     {
         let weigher = self.weigher;
         let context = weigher.context;
@@ -297,8 +295,9 @@ impl BelowWeigher<'_> {
 
     /// What a number weighs that is in no pair of the next bracket; none if it is 2^512 or more.
     fn alone(&self, a: u16) -> Option<Wide>
-        requires { IsNumberBelow self.now.weigher.now a }
-        ensures { SomeIff result (alone_weight self.now.weigher.now a < 2 ^ 512) (alone_weight self.now.weigher.now a) }
+        requires { tables.IsNumberBelow self.now.weigher.now a }
+        ensures { SomeIff result (tables.alone_weight self.now.weigher.now a < 2 ^ 512)
+        (tables.alone_weight self.now.weigher.now a) }
     {
         let weigher = self.weigher;
         let context = weigher.context;
@@ -313,9 +312,9 @@ impl BelowWeigher<'_> {
 
     /// What a number weighs in the next bracket; none if that is 2^512 or more.
     fn next_weight(&self, a: u16) -> Option<NextWeight>
-        requires { IsNumberBelow self.now.weigher.now a }
-        ensures { MatchOption result (IsHeavy self.now.weigher.now (2 ^ 512))
-            (λ weight. weight ≡ next_weight_of self.now.weigher.now a) }
+        requires { tables.IsNumberBelow self.now.weigher.now a }
+        ensures { MatchOption result (tables.IsHeavy self.now.weigher.now (2 ^ 512))
+            (λ weight. weight ≡ tables.next_weight_of self.now.weigher.now a) }
     {
         let met = self.met(a)?;
         let alone = self.alone(a)?;
@@ -324,9 +323,9 @@ impl BelowWeigher<'_> {
 
     /// Puts what all numbers weigh in the next bracket into a table.
     fn put_all(&self, table: &mut [NextWeight]) -> bool
-        requires { HasBelow self.now.weigher.now table.old }
-        ensures told { result ≡ true → TellsEachBelow self.now.weigher.now table.new }
-        ensures heavy { result ≡ false → IsHeavy self.now.weigher.now (2 ^ 512) }
+        requires { tables.HasBelow self.now.weigher.now table.old }
+        ensures told { result ≡ true → tables.TellsEachBelow self.now.weigher.now table.new }
+        ensures heavy { result ≡ false → tables.IsHeavy self.now.weigher.now (2 ^ 512) }
     {
         let weigher = self.weigher;
         for a in 0..weigher.context.len_below() {
@@ -345,8 +344,8 @@ fn weigh_pairs(
     weigher: &Weigher<'_>,
     room: &mut QualityLists,
 ) -> Result<Option<PairTable>, AllocError>
-    ensures { IfOk result (λ weighed. MatchOption weighed (IsHeavy weigher.now (2 ^ 512))
-        (λ table. HasPairs weigher.now table × TellsPairs weigher.now table)) }
+    ensures { IfOk result (λ weighed. MatchOption weighed (tables.IsHeavy weigher.now (2 ^ 512))
+        (λ table. tables.HasPairs weigher.now table × tables.TellsPairs weigher.now table)) }
 {
     let count = weigher.context.len();
     let mut table = PairTable::new(alloc, count * count)?;
@@ -363,8 +362,8 @@ fn weigh_down(
     weigher: &Weigher<'_>,
     room: &mut QualityLists,
 ) -> Result<Option<Vec<Wide>>, AllocError>
-    ensures { IfOk result (λ weighed. MatchOption weighed (IsHeavy weigher.now (2 ^ 512))
-        (λ table. HasAll weigher.now table.items × TellsDown weigher.now table.items)) }
+    ensures { IfOk result (λ weighed. MatchOption weighed (tables.IsHeavy weigher.now (2 ^ 512))
+        (λ table. tables.HasAll weigher.now table.items × tables.TellsDown weigher.now table.items)) }
 {
     let mut table = vec![in alloc; Wide::zero(); weigher.context.len()]?;
     if weigher.put_down(room, &mut table) {
@@ -380,11 +379,11 @@ fn weigh_next(
     weigher: &Weigher<'_>,
     down: &[Wide],
 ) -> Result<Option<Vec<NextWeight>>, AllocError>
-    requires room { HasAll weigher.now down.now }
-    requires told { TellsDown weigher.now down.now }
+    requires room { tables.HasAll weigher.now down.now }
+    requires told { tables.TellsDown weigher.now down.now }
     requires next { ForSome weigher.now.scale.next (λ _. weigher.now.reached.kind ≡ Ordinary) }
-    ensures { IfOk result (λ weighed. MatchOption weighed (IsHeavy weigher.now (2 ^ 512))
-        (λ table. TellsBelow weigher.now table.items)) }
+    ensures { IfOk result (λ weighed. MatchOption weighed (tables.IsHeavy weigher.now (2 ^ 512))
+        (λ table. tables.TellsBelow weigher.now table.items)) }
 {
     if !weigher.scale.counts_next() {
         return Ok(Some(Vec::new(alloc)));
@@ -407,8 +406,9 @@ impl<'a> Weighing<'a> {
     #[inline(never)]
     pub fn read(context: &'a Context<'a>, scale: Scale) -> Result<Option<Weighing<'a>>, AllocError>
         requires { ForSome scale.next (λ _. context.now.reached.kind ≡ Ordinary) }
-        ensures { let weighed = weighed_on context.now scale
-            in IfOk result (λ read. MatchOption read (IsHeavy weighed (2 ^ 512)) (λ weighing. weighing ≡ weighed)) }
+        ensures { let weighed = tables.weighed_on context.now scale
+            in IfOk result (λ read. MatchOption read (tables.IsHeavy weighed (2 ^ 512)) (λ weighing. weighing
+            ≡ weighed)) }
     {
         let mut room = QualityLists::default();
         let weigher = Weigher {
@@ -453,9 +453,9 @@ impl<'a> Weighing<'a> {
 impl Weighing<'_> {
     /// Where the table of pairs has two numbers.
     fn place(&self, a: u16, b: u16) -> usize
-        requires first { IsNumber self.now.reached a }
-        requires second { IsNumber self.now.reached b }
-        ensures value { result ≡ place_in self.now a b }
+        requires first { tables.IsNumber self.now.reached a }
+        requires second { tables.IsNumber self.now.reached b }
+        ensures value { result ≡ tables.place_in self.now a b }
         ensures within { result < length self.now.reached.seats * length self.now.reached.seats }
     {
         place_of(self.context.len(), a, b)
@@ -463,8 +463,8 @@ impl Weighing<'_> {
 
     /// Yes if two numbers may meet.
     fn meets(&self, a: u16, b: u16) -> bool
-        requires first { IsNumber self.now.reached a }
-        requires second { IsNumber self.now.reached b }
+        requires first { tables.IsNumber self.now.reached a }
+        requires second { tables.IsNumber self.now.reached b }
         ensures { result ≡ numbers_meet self.now.facts self.now.reached a b }
     {
         self.pairs.meets[self.place(a, b)]
@@ -472,18 +472,18 @@ impl Weighing<'_> {
 
     /// What a number weighs that meets one of the next lower scoregroup (C.7).
     pub fn met(&self, a: u16) -> Wide
-        requires number { IsNumberBelow self.now a }
+        requires number { tables.IsNumberBelow self.now a }
         requires some { is_some self.now.scale.next ≡ true }
-        ensures { result ≡ met_weight self.now a }
+        ensures { result ≡ tables.met_weight self.now a }
     {
         self.next[usize::from(a) - 1].met
     }
 
     /// What a number weighs that is in no pair of the next bracket (C.7).
     pub fn alone(&self, a: u16) -> Wide
-        requires number { IsNumberBelow self.now a }
+        requires number { tables.IsNumberBelow self.now a }
         requires some { is_some self.now.scale.next ≡ true }
-        ensures { result ≡ alone_weight self.now a }
+        ensures { result ≡ tables.alone_weight self.now a }
     {
         self.next[usize::from(a) - 1].alone
     }

@@ -13,10 +13,7 @@ ghost use Rattle.std.specs.Prelude.{◌≡◌, ◌+◌, ◌<◌, ◌≤◌, ◌^
 ghost use Rattle.std.specs.Prelude.{if◌then◌else◌, nat_lt};
 ghost use Rattle.dutch_sequence.specs.declared.numbers.TheConstants.{LIMIT};
 ghost use Rattle.dutch_weight_floors.specs.declared.scoped.Reach.TheVariants.{Next};
-ghost use Rattle.dutch_weight_floors.specs.ScopedCosts.{IsReached, MeasuresNext, TellsSides, any_seat, are_inside, both_go};
-ghost use Rattle.dutch_weight_floors.specs.ScopedCosts.{IsFloorBy, all_numbers, bracket_costs, kept_by, is_number_below};
-ghost use Rattle.dutch_weight_floors.specs.ScopedCosts.{may_meet_below, pair_weight_below, going_weight, goes_down};
-ghost use Rattle.dutch_weight_floors.specs.ScopedCosts.{is_inside, joins_in, lower_costs, may_pair_out, side_in, size_by, stays_in};
+ghost use Rattle.dutch_weight_floors.specs.ScopedCosts as scoped;
 ghost use Rattle.dutch_weight_floors.specs.Scopes.{is_joined, may_stay};
 ghost use Rattle.dutch_weighing.specs.Prelude.{IsNumber};
 
@@ -48,7 +45,7 @@ impl Reach {
     /// What is kept of a floor. If the matchings go over lower players too, those who go down may be in a pair of a
     /// matching: then players left over add nothing.
     pub(crate) fn kept(self, floor: Floor) -> Floor
-        ensures { result ≡ kept_by self floor }
+        ensures { result ≡ scoped.kept_by self floor }
     {
         match self {
             Reach::Bracket => floor,
@@ -81,7 +78,7 @@ pub(crate) struct Scoped<'a, 'b> {
 impl<'a, 'b> Model for Scoped<'a, 'b> {
     ghost use Rattle.dutch_weight_floors.specs.ScopedCosts.{MeasuresNext, Scoped, TellsSides};
 
-    ghost Value = { Scoped };
+    ghost Value = { scoped.Scoped };
 
     ghost view = { λ s. record {
       weighing = s.weighing.now;
@@ -92,12 +89,13 @@ impl<'a, 'b> Model for Scoped<'a, 'b> {
     } };
 
     ghost invariant = { λ s.
-        TellsSides s.weighing.now.reached.mdps s.scope.now s.sides.items × MeasuresNext s.reach s.weighing.now.scale };
+        scoped.TellsSides s.weighing.now.reached.mdps s.scope.now s.sides.items
+        × scoped.MeasuresNext s.reach s.weighing.now.scale };
 }
 
 /// Where each number of a bracket stands in the arrangements of a scope.
 fn sides(context: &Context<'_>, scope: &Scope) -> ArrayVec<Standing, LIMIT>
-    ensures { TellsSides context.now.reached.mdps scope.now result.items }
+    ensures { scoped.TellsSides context.now.reached.mdps scope.now result.items }
 {
     let mdps = context.reached().mdps();
     let mut sides = ArrayVec::new();
@@ -139,7 +137,7 @@ impl<'a, 'b> Scoped<'a, 'b> {
         reach: Reach,
         order: &'b Order,
     ) -> Scoped<'a, 'b>
-        requires { MeasuresNext reach weighing.now.scale }
+        requires { scoped.MeasuresNext reach weighing.now.scale }
         ensures { result ≡ record {
           weighing = weighing.now;
           scope = sought.entry.scope.now;
@@ -169,7 +167,7 @@ impl<'a, 'b> Scoped<'a, 'b> {
 
     /// How many players its matchings go over.
     pub(crate) fn size(&self) -> usize
-        ensures value { result ≡ size_by self.now.reach self.now.weighing }
+        ensures value { result ≡ scoped.size_by self.now.reach self.now.weighing }
         ensures few { result ≤ LIMIT }
     {
         let context = self.weighing.context();
@@ -183,8 +181,8 @@ impl<'a, 'b> Scoped<'a, 'b> {
     /// The numbers of the players that its matchings go over.
     #[tactic(auto, using(crate::proofs::WeightsBehind::numbers_known))]
     fn players(&self) -> Numbers
-        ensures items { result.items ≡ all_numbers self.now }
-        ensures known { All (IsReached self.now) result.items }
+        ensures items { result.items ≡ scoped.all_numbers self.now }
+        ensures known { All (scoped.IsReached self.now) result.items }
     {
         numbered_from(1, self.size())
     }
@@ -198,7 +196,7 @@ impl<'a, 'b> Scoped<'a, 'b> {
         left: usize,
     ) -> Result<Option<Floor>, AllocError>
         requires { left ≤ length self.now.weighing.reached.seats }
-        ensures { IfOk result (λ found. IfSome found (IsFloorBy self.now.reach self.now left)) }
+        ensures { IfOk result (λ found. IfSome found (scoped.IsFloorBy self.now.reach self.now left)) }
     {
         let alloc = self.weighing.context().alloc();
         let players = self.players();
@@ -215,7 +213,7 @@ impl<'a, 'b> Scoped<'a, 'b> {
 
     /// Where a number of the bracket stands.
     fn standing(&self, number: u16) -> Standing
-        ensures { result ≡ side_in self.now number }
+        ensures { result ≡ scoped.side_in self.now number }
     {
         let place = usize::from(number);
         if 0 < place && place <= self.sides.len() {
@@ -227,13 +225,13 @@ impl<'a, 'b> Scoped<'a, 'b> {
     }
 
     fn are_joined(&self, a: u16, b: u16) -> bool
-        ensures { result ≡ joins_in self.now a b }
+        ensures { result ≡ scoped.joins_in self.now a b }
     {
         self.standing(a).is_joined(self.standing(b)) && fits_as_pair(self.wish, a, b)
     }
 
     fn may_stay(&self, number: u16) -> bool
-        ensures { result ≡ stays_in self.now number }
+        ensures { result ≡ scoped.stays_in self.now number }
     {
         self.standing(number).may_stay() && fits_as_left(self.wish, number)
     }
@@ -246,7 +244,7 @@ impl<'a, 'b> Scoped<'a, 'b> {
 
     /// Yes if a number is one of the bracket. (0, which is nobody's number, counts as one too.)
     fn is_inside(&self, number: u16) -> bool
-        ensures { result ≡ is_inside self.now number }
+        ensures { result ≡ scoped.is_inside self.now number }
     {
         usize::from(number) <= self.weighing.context().len()
     }
@@ -258,7 +256,7 @@ impl<'a, 'b> Scoped<'a, 'b> {
 
     #[tactic(auto, unfolding(dutch_bracket::specs::Reached::numbers_meet))]
     pub(crate) fn may_pair(&self, a: u16, b: u16) -> bool
-        ensures value { result ≡ (bracket_costs self.now).meets a b }
+        ensures value { result ≡ (scoped.bracket_costs self.now).meets a b }
         ensures first { result ≡ true → IsNumber self.now.weighing.reached a }
         ensures second { result ≡ true → IsNumber self.now.weighing.reached b }
     {
@@ -267,20 +265,20 @@ impl<'a, 'b> Scoped<'a, 'b> {
 
     /// Yes if a number may be one who goes down. (Lower players count as going down too.)
     fn goes_down(&self, number: u16) -> bool
-        ensures { result ≡ goes_down self.now number }
+        ensures { result ≡ scoped.goes_down self.now number }
     {
         !self.is_inside(number) || self.may_stay(number)
     }
 
     fn both_go(&self, a: u16, b: u16) -> bool
-        ensures { result ≡ both_go self.now a b }
+        ensures { result ≡ scoped.both_go self.now a b }
     {
         self.goes_down(a) && self.goes_down(b)
     }
 
     /// The seat of a number; behind those of the bracket come the lower players by rank.
     fn seat(&self, number: u16) -> u16
-        ensures { result ≡ any_seat self.now number }
+        ensures { result ≡ scoped.any_seat self.now number }
     {
         let context = self.weighing.context();
         let place = usize::from(number).saturating_sub(1);
@@ -299,13 +297,13 @@ impl<'a, 'b> Scoped<'a, 'b> {
     }
 
     fn may_pair_out(&self, a: u16, b: u16) -> bool
-        ensures { result ≡ may_pair_out self.now a b }
+        ensures { result ≡ scoped.may_pair_out self.now a b }
     {
         self.both_go(a, b) && self.by_seat().may_meet(self.seat(a), self.seat(b))
     }
 
     fn may_have_bye(&self, number: u16) -> bool
-        ensures { result ≡ (lower_costs self.now).may_be_left number }
+        ensures { result ≡ (scoped.lower_costs self.now).may_be_left number }
     {
         self.goes_down(number) && self.by_seat().may_be_left(self.seat(number))
     }
@@ -313,7 +311,7 @@ impl<'a, 'b> Scoped<'a, 'b> {
     /// What one who goes down weighs; a lower player weighs nothing.
     fn going_weight(&self, number: u16) -> Wide
         requires { 0 < number }
-        ensures { result ≡ going_weight self.now number }
+        ensures { result ≡ scoped.going_weight self.now number }
     {
         if self.is_inside(number) {
             self.weighing.left_cost(number)
@@ -326,7 +324,7 @@ impl<'a, 'b> Scoped<'a, 'b> {
     fn ordered_weight(&self, a: u16, b: u16) -> Wide
         requires first { IsNumber self.now.weighing.reached a }
         requires second { IsNumber self.now.weighing.reached b }
-        ensures { result ≡ (bracket_costs self.now).weight a b }
+        ensures { result ≡ (scoped.bracket_costs self.now).weight a b }
     {
         let weight = self.weighing.weight(a, b);
         if self.is_resident(a) && self.is_resident(b) {
@@ -337,21 +335,21 @@ impl<'a, 'b> Scoped<'a, 'b> {
     }
 
     fn are_inside(&self, a: u16, b: u16) -> bool
-        ensures { result ≡ are_inside self.now a b }
+        ensures { result ≡ scoped.are_inside self.now a b }
     {
         self.is_inside(a) && self.is_inside(b)
     }
 
     /// Yes if a number is one of the bracket, or one of the next lower scoregroup, which stand behind those.
     fn is_number_below(&self, a: u16) -> bool
-        ensures { result ≡ is_number_below self.now.weighing a }
+        ensures { result ≡ scoped.is_number_below self.now.weighing a }
     {
         0 < a && usize::from(a) <= self.weighing.context().len_below()
     }
 
     /// Yes if two may meet in the next bracket (C.7): both may be there, and C.1 and C.3 allow it.
     fn may_meet_below(&self, a: u16, b: u16) -> bool
-        ensures { result ≡ may_meet_below self.now a b }
+        ensures { result ≡ scoped.may_meet_below self.now a b }
     {
         if !self.both_go(a, b) || !self.is_number_below(a) || !self.is_number_below(b) {
             return false;
@@ -364,9 +362,9 @@ impl<'a, 'b> Scoped<'a, 'b> {
     /// What two weigh as a pair of the next bracket (C.7).
     fn weight_below(&self, a: u16, b: u16) -> Wide
         requires next { self.now.reach ≡ Next }
-        requires first { IsReached self.now a }
-        requires second { IsReached self.now b }
-        ensures { result ≡ pair_weight_below self.now a b }
+        requires first { scoped.IsReached self.now a }
+        requires second { scoped.IsReached self.now b }
+        ensures { result ≡ scoped.pair_weight_below self.now a b }
     {
         if self.is_inside(a) {
             self.weighing.met(a)
@@ -379,7 +377,7 @@ impl<'a, 'b> Scoped<'a, 'b> {
     fn least_weight(&self, a: u16, b: u16) -> Wide
         requires first { 0 < a }
         requires second { 0 < b }
-        ensures { result ≡ (lower_costs self.now).weight a b }
+        ensures { result ≡ (scoped.lower_costs self.now).weight a b }
     {
         let going = sum_or_first(self.going_weight(a), self.going_weight(b));
         if !self.may_pair(a, b) {
@@ -397,9 +395,9 @@ impl<'a, 'b> Scoped<'a, 'b> {
 impl MatchingRule for Scoped<'_, '_> {
     ghost use Rattle.dutch_weight_floors.specs.ScopedCosts.{IsReached, costs_in};
 
-    ghost costs = { costs_in };
+    ghost costs = { scoped.costs_in };
 
-    ghost knows = { IsReached };
+    ghost knows = { scoped.IsReached };
 
     fn may_meet(&self, a: u16, b: u16) -> bool {
         match self.reach {

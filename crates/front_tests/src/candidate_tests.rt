@@ -4,15 +4,13 @@ ghost use Rattle.std.specs.Prelude.{◌≡◌, ◌≤◌};
 ghost use Rattle.dutch_order.specs.Prelude.{Fits};
 
 use crate::rules::{AMPLE, Free, raised};
-use dutch_order::{
-    Bound, Bracket, Budget, Candidate, Candidates, Cursor, CursorFault, Exchange, Filling, Prefix,
-    Rule, Shape, Step, a_cursor_is_of_its_bracket,
-};
+use dutch_order as order;
+use dutch_order::{Bound, Bracket, Budget, Candidates, Cursor, Prefix, Shape, Step};
 use std::alloc::Global;
 use std::test::Fail;
 
 // The four lists and the downfloaters of a candidate, one after another.
-fn numbers_of(alloc: Global, candidate: &Candidate) -> Result<Vec<u16>, Fail> {
+fn numbers_of(alloc: Global, candidate: &order::Candidate) -> Result<Vec<u16>, Fail> {
     let mut numbers = Vec::new(alloc);
     for list in [
         candidate.s1(),
@@ -122,7 +120,7 @@ fn behind(alloc: Global, text: &str) -> Result<Vec<u16>, Fail> {
     let Ok(cursor) = Cursor::read(text, &bracket, shape) else {
         return Err(Fail::new("no cursor of this bracket"));
     };
-    a_cursor_is_of_its_bracket(&bracket, shape, text, &cursor);
+    order::a_cursor_is_of_its_bracket(&bracket, shape, text, &cursor);
     let coming = Candidates::from(&bracket, shape, &Free, cursor);
     let (numbers, _steps) = listing(alloc, coming, AMPLE)?;
     Ok(numbers)
@@ -138,7 +136,7 @@ fn a_listing_behind_a_cursor(rt: HostRuntime) -> Result<(), Fail> {
 }
 
 // Why a text is no cursor of four players of one score.
-fn fault_of(text: &str) -> Option<CursorFault> {
+fn fault_of(text: &str) -> Option<order::CursorFault> {
     let bracket = Bracket::new(&[0, 0, 0, 0], 0, true);
     Cursor::read(text, &bracket, Shape { pairs: 2, mdps: 0 }).err()
 }
@@ -147,10 +145,10 @@ fn fault_of(text: &str) -> Option<CursorFault> {
 fn texts_that_are_no_cursor(rt: HostRuntime) {
     for text in ["0/0/1,2", "0/0/01,2/3,4"] {
         assert!(rt; !Cursor::syntax(text));
-        assert!(rt; fault_of(text) == Some(CursorFault::Syntax));
+        assert!(rt; fault_of(text) == Some(order::CursorFault::Syntax));
     }
     assert!(rt; Cursor::syntax("0/0/2,1/3,4"));
-    assert!(rt; fault_of("0/0/2,1/3,4") == Some(CursorFault::NotOfBracket));
+    assert!(rt; fault_of("0/0/2,1/3,4") == Some(order::CursorFault::NotOfBracket));
 }
 
 // A bound that keeps the candidates whose S1R is 1 and 2.
@@ -181,7 +179,7 @@ impl<'a> Bound for Keeps<'a> {
     fn start(&self, _room: &mut ()) {}
 
     fn cannot_win(&self, prefix: &Prefix<'_>, _room: &mut ()) -> bool {
-        let Filling::S2r = prefix.filling() else {
+        let order::Filling::S2r = prefix.filling() else {
             return false;
         };
         let [one, two] = prefix.s1r() else {
@@ -193,7 +191,7 @@ impl<'a> Bound for Keeps<'a> {
     fn cannot_win_with(
         &self,
         _prefix: &Prefix<'_>,
-        _exchange: &Exchange<'_>,
+        _exchange: &order::Exchange<'_>,
         _room: &mut (),
     ) -> bool {
         false
@@ -234,7 +232,7 @@ impl<'a> Bound for KnowsNothing<'a> {
     fn cannot_win_with(
         &self,
         _prefix: &Prefix<'_>,
-        _exchange: &Exchange<'_>,
+        _exchange: &order::Exchange<'_>,
         _room: &mut (),
     ) -> bool {
         false
@@ -276,7 +274,7 @@ impl<'a> Bound for ByDifference<'a> {
     fn cannot_win_with(
         &self,
         _prefix: &Prefix<'_>,
-        exchange: &Exchange<'_>,
+        exchange: &order::Exchange<'_>,
         _room: &mut (),
     ) -> bool {
         let [one, two] = exchange.original() else {

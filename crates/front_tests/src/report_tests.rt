@@ -5,10 +5,7 @@ use dutch_pair::{Outcome, pair_round};
 use dutch_player::Field;
 use std::alloc::Global;
 use std::test::Fail;
-use trf16::{
-    Cell, Colour, Counted, Fault, Kind, Pairs, Report, before_round, can_be_paired, first_unread,
-    read, read_unsummed, renumbered_text, summed, write,
-};
+use trf16::{Cell, Fault, Kind, Report};
 
 fn says_who_is_there(report: &Report<'_>) -> bool {
     report.count() == 6
@@ -23,7 +20,7 @@ fn says_who_is_there(report: &Report<'_>) -> bool {
 fn says_what_was_played(report: &Report<'_>) -> bool {
     let won = Cell::Forfeit {
         opponent: 4,
-        colour: Some(Colour::White),
+        colour: Some(trf16::Colour::White),
         won: true,
     };
     report.cell(3, 1) == won
@@ -47,7 +44,7 @@ fn says_how_it_is_paired(report: &Report<'_>) -> bool {
 #[test]
 fn a_report_is_asked(rt: HostRuntime) -> Result<(), Fail> {
     let text = text_of(rt.alloc(), &THREE_ARE_ABSENT)?;
-    let report = read(rt.alloc(), text.as_bytes()).map_err(|_| "the report is refused")?;
+    let report = trf16::read(rt.alloc(), text.as_bytes()).map_err(|_| "the report is refused")?;
     assert!(rt; says_who_is_there(&report));
     assert!(rt; says_what_was_played(&report));
     assert!(rt; says_how_it_is_paired(&report));
@@ -56,26 +53,26 @@ fn a_report_is_asked(rt: HostRuntime) -> Result<(), Fail> {
 
 #[test]
 fn reports_are_refused(rt: HostRuntime) {
-    let alone = read(rt.alloc(), b"001");
+    let alone = trf16::read(rt.alloc(), b"001");
     assert!(rt; matches!(alone, Err(Fault::BadNumber { line: 1 })));
-    let twice = read(rt.alloc(), b"001    1\n001    1\n");
+    let twice = trf16::read(rt.alloc(), b"001    1\n001    1\n");
     assert!(rt; matches!(twice, Err(Fault::Duplicate { line: 2 })));
-    assert!(rt; matches!(read(rt.alloc(), b""), Err(Fault::NoPlayers)));
+    assert!(rt; matches!(trf16::read(rt.alloc(), b""), Err(Fault::NoPlayers)));
 }
 
 // The text of a report with its next round paired, of so many rounds in all.
 fn with_next_round(alloc: Global, text: &[u8], total: u8) -> Result<Vec<u8>, Fail> {
-    let report = read(alloc, text).map_err(|_| "the report is refused")?;
+    let report = trf16::read(alloc, text).map_err(|_| "the report is refused")?;
     let field = Field::new(alloc, &report, Some(total), None).map_err(|_| "no round is left")?;
     let Outcome::Paired(boards) = pair_round(alloc, &field, 10_000_000)? else {
         return Err(Fail::new("there are no boards"));
     };
-    if !can_be_paired(&report, &boards) {
+    if !trf16::can_be_paired(&report, &boards) {
         return Err(Fail::new("the boards are not of this report"));
     }
     let report = report.with_round(alloc, &boards)?;
-    let mut device = Counted::new(Vec::new(alloc));
-    write(&report, &mut device).map_err(|_| "no memory for the text")?;
+    let mut device = trf16::Counted::new(Vec::new(alloc));
+    trf16::write(&report, &mut device).map_err(|_| "no memory for the text")?;
     Ok(device.into_inner())
 }
 
@@ -98,12 +95,12 @@ fn a_round_is_paired_and_written(rt: HostRuntime) -> Result<(), Fail> {
 #[test]
 fn a_report_as_it_stood_before_a_round(rt: HostRuntime) -> Result<(), Fail> {
     let text = text_of(rt.alloc(), &TWO_LEAD)?;
-    let report = read(rt.alloc(), text.as_bytes()).map_err(|_| "the report is refused")?;
-    let Some(before) = before_round(rt.alloc(), &report, 2)? else {
+    let report = trf16::read(rt.alloc(), text.as_bytes()).map_err(|_| "the report is refused")?;
+    let Some(before) = trf16::before_round(rt.alloc(), &report, 2)? else {
         return Err(Fail::new("no such round"));
     };
     assert!(rt; (report.rounds_played(), before.rounds_played()) == (2, 1));
-    assert!(rt; before_round(rt.alloc(), &report, 4)?.is_none());
+    assert!(rt; trf16::before_round(rt.alloc(), &report, 4)?.is_none());
     Ok(())
 }
 
@@ -113,10 +110,10 @@ const HALF_A_POINT_TOO_MUCH: &[u8] =
 
 #[test]
 fn points_fields_are_summed(rt: HostRuntime) -> Result<(), Fail> {
-    let refused = read(rt.alloc(), HALF_A_POINT_TOO_MUCH);
+    let refused = trf16::read(rt.alloc(), HALF_A_POINT_TOO_MUCH);
     assert!(rt; matches!(refused, Err(Fault::Points { player: 1 })));
-    let report = read_unsummed(rt.alloc(), HALF_A_POINT_TOO_MUCH, 2).map_err(|_| "refused")?;
-    let right = summed(rt.alloc(), &report)?;
+    let report = trf16::read_unsummed(rt.alloc(), HALF_A_POINT_TOO_MUCH, 2).map_err(|_| "refused")?;
+    let right = trf16::summed(rt.alloc(), &report)?;
     assert!(rt; matches!(right.player(1), Some(player) if player.points == Some(0)));
     Ok(())
 }
@@ -125,9 +122,9 @@ fn points_fields_are_summed(rt: HostRuntime) -> Result<(), Fail> {
 #[test]
 fn start_ranks_are_put_in_order(rt: HostRuntime) -> Result<(), Fail> {
     let text = text_of(rt.alloc(), &[("001    7", ""), ("001    5", "")])?;
-    let report = read(rt.alloc(), text.as_bytes()).map_err(|_| "the report is refused")?;
-    assert!(rt; first_unread(&report).is_none());
-    let renumbered = renumbered_text(rt.alloc(), &report)?;
+    let report = trf16::read(rt.alloc(), text.as_bytes()).map_err(|_| "the report is refused")?;
+    assert!(rt; trf16::first_unread(&report).is_none());
+    let renumbered = trf16::renumbered_text(rt.alloc(), &report)?;
     assert!(rt; renumbered.starts_with(b"001    2") && renumbered.len() == 180);
     Ok(())
 }

@@ -4,18 +4,12 @@ ghost use Rattle.dutch_order.specs.Prelude.{Fits};
 ghost use Rattle.dutch_order.specs.TheConstants.{LIMIT};
 ghost use Rattle.dutch_pair.specs.Prelude.{IsOf, IsStage, frame_of};
 
-use crate::reports::{
-    ALL_HAVE_MET, FIVE, FOUR, HALF_A_POINT_EACH, Line, ONE_MOVES_DOWN, THREE_ARE_ABSENT,
-    THREE_ARE_APART, TWO_HAVE_MET, TWO_LEAD, field_of,
-};
+use crate::reports;
 use crate::rules::AMPLE;
 use dutch_order::{Budget, Candidates, Numbers, Shape, Step, numbered_from};
+use dutch_pair as pair;
 use dutch_pair::calls::the_first_scoregroup_is_next;
-use dutch_pair::{
-    AllStages, Answer, BracketAt, BracketKind, ITEMS, Instead, Item, Outcome, Quality, Reached,
-    Stage, Wish, barrier_of, best_instead, bracket_at, completes, lacks_bye, lower_of, pair_round,
-    quality, seats, split_first_group, stages, who_counts,
-};
+use dutch_pair::{AllStages, Answer, BracketAt, BracketKind, Item, Outcome, Quality, Stage};
 use dutch_player::Field;
 use std::alloc::Global;
 use std::test::Fail;
@@ -33,13 +27,13 @@ fn completion_of(field: &Field) -> Answer {
         limit: AMPLE,
         used: 0,
     };
-    completes(&everybody(field), &seats(field), &mut budget)
+    pair::completes(&everybody(field), &pair::seats(field), &mut budget)
 }
 
 // There is no pairing exactly if the players cannot be paired out.
 fn agree(alloc: Global, field: &Field) -> Result<bool, Fail> {
     let answer = completion_of(field);
-    Ok(match pair_round(alloc, field, AMPLE)? {
+    Ok(match pair::pair_round(alloc, field, AMPLE)? {
         Outcome::Paired(_) => answer == Answer::Yes,
         Outcome::NoPairing => answer == Answer::No,
         Outcome::Undecided { .. } => false,
@@ -48,20 +42,20 @@ fn agree(alloc: Global, field: &Field) -> Result<bool, Fail> {
 
 #[test]
 fn no_pairing_exactly_if_they_cannot_be_paired_out(rt: HostRuntime) -> Result<(), Fail> {
-    let reports: [(&[Line], Option<u8>); 10] = [
-        (&FOUR, Some(5)),
-        (&FIVE, Some(5)),
-        (&ONE_MOVES_DOWN, None),
-        (&ALL_HAVE_MET, None),
-        (&THREE_ARE_APART, Some(5)),
-        (&TWO_HAVE_MET, None),
-        (&HALF_A_POINT_EACH, Some(5)),
-        (&TWO_LEAD, Some(3)),
-        (&TWO_LEAD, Some(4)),
-        (&THREE_ARE_ABSENT, None),
+    let reports: [(&[reports::Line], Option<u8>); 10] = [
+        (&reports::FOUR, Some(5)),
+        (&reports::FIVE, Some(5)),
+        (&reports::ONE_MOVES_DOWN, None),
+        (&reports::ALL_HAVE_MET, None),
+        (&reports::THREE_ARE_APART, Some(5)),
+        (&reports::TWO_HAVE_MET, None),
+        (&reports::HALF_A_POINT_EACH, Some(5)),
+        (&reports::TWO_LEAD, Some(3)),
+        (&reports::TWO_LEAD, Some(4)),
+        (&reports::THREE_ARE_ABSENT, None),
     ];
     for (lines, total) in reports {
-        let field = field_of(rt.alloc(), lines, total)?;
+        let field = reports::field_of(rt.alloc(), lines, total)?;
         assert!(rt; agree(rt.alloc(), &field)?);
     }
     Ok(())
@@ -84,14 +78,14 @@ fn is_bracket(found: &BracketAt, kind: BracketKind, players: usize, mdps: usize)
 // The lower two have met, so the upper two are paired again with them.
 #[test]
 fn the_brackets_of_a_round(rt: HostRuntime) -> Result<(), Fail> {
-    let field = field_of(rt.alloc(), &TWO_HAVE_MET, None)?;
-    let first = bracket_at(rt.alloc(), &field, AMPLE, 1)?;
+    let field = reports::field_of(rt.alloc(), &reports::TWO_HAVE_MET, None)?;
+    let first = pair::bracket_at(rt.alloc(), &field, AMPLE, 1)?;
     assert!(rt; is_bracket(&first, BracketKind::Ordinary, 2, 0));
-    let second = bracket_at(rt.alloc(), &field, AMPLE, 2)?;
+    let second = pair::bracket_at(rt.alloc(), &field, AMPLE, 2)?;
     assert!(rt; is_bracket(&second, BracketKind::Penultimate, 2, 0));
-    let third = bracket_at(rt.alloc(), &field, AMPLE, 3)?;
+    let third = pair::bracket_at(rt.alloc(), &field, AMPLE, 3)?;
     assert!(rt; is_bracket(&third, BracketKind::Collapsed, 4, 2));
-    let fourth = bracket_at(rt.alloc(), &field, AMPLE, 4)?;
+    let fourth = pair::bracket_at(rt.alloc(), &field, AMPLE, 4)?;
     assert!(rt; matches!(fourth, BracketAt::NotReached));
     Ok(())
 }
@@ -100,7 +94,7 @@ fn the_brackets_of_a_round(rt: HostRuntime) -> Result<(), Fail> {
 fn opponents_of_the_first(
     alloc: Global,
     field: &Field,
-    reached: &Reached,
+    reached: &pair::Reached,
     shape: Shape,
 ) -> Result<Vec<u16>, Fail>
     requires of { IsOf field.now reached.now }
@@ -124,8 +118,8 @@ fn opponents_of_the_first(
 
 #[test]
 fn the_candidates_of_a_bracket(rt: HostRuntime) -> Result<(), Fail> {
-    let field = field_of(rt.alloc(), &ONE_MOVES_DOWN, None)?;
-    let found = bracket_at(rt.alloc(), &field, AMPLE, 2)?;
+    let field = reports::field_of(rt.alloc(), &reports::ONE_MOVES_DOWN, None)?;
+    let found = pair::bracket_at(rt.alloc(), &field, AMPLE, 2)?;
     let BracketAt::Bracket { reached, shape } = found else {
         return Err(Fail::new("the bracket is not reached"));
     };
@@ -141,8 +135,8 @@ fn is_explained(alloc: Global, field: &Field, stage: &Stage) -> Result<bool, Fai
     requires { IsStage field.now stage.now }
 {
     let chosen = stage.quality();
-    let others = best_instead(alloc, field, stage, Wish::Pair(1, 3), AMPLE)?;
-    let Instead::Best {
+    let others = pair::best_instead(alloc, field, stage, pair::Wish::Pair(1, 3), AMPLE)?;
+    let pair::Instead::Best {
         quality,
         candidate: _candidate,
     } = others
@@ -154,7 +148,7 @@ fn is_explained(alloc: Global, field: &Field, stage: &Stage) -> Result<bool, Fai
             && stage.candidate().down() == [3].as_slice()
             && has_least_items(chosen)
             && is_worse_in_colours(&quality, chosen)
-            && who_counts(field, stage, Item::MissedPreferences).is_empty(),
+            && pair::who_counts(field, stage, Item::MissedPreferences).is_empty(),
     )
 }
 
@@ -189,15 +183,15 @@ fn is_worse_in_colours(quality: &Quality, chosen: &Quality) -> bool {
 
 #[test]
 fn a_bracket_is_explained(rt: HostRuntime) -> Result<(), Fail> {
-    let field = field_of(rt.alloc(), &ONE_MOVES_DOWN, None)?;
-    let AllStages::Paired { stages, bye } = stages(rt.alloc(), &field, AMPLE)? else {
+    let field = reports::field_of(rt.alloc(), &reports::ONE_MOVES_DOWN, None)?;
+    let AllStages::Paired { pair::stages, bye } = pair::stages(rt.alloc(), &field, AMPLE)? else {
         return Err(Fail::new("the round is not paired"));
     };
-    let [_, stage, _] = stages.as_slice() else {
+    let [_, stage, _] = pair::stages.as_slice() else {
         return Err(Fail::new("there are not three brackets"));
     };
     assert!(rt; bye.is_empty() && is_explained(rt.alloc(), &field, stage)?);
-    assert_eq!(rt; ITEMS.len(), 14);
+    assert_eq!(rt; pair::ITEMS.len(), 14);
     Ok(())
 }
 
@@ -205,9 +199,9 @@ fn a_bracket_is_explained(rt: HostRuntime) -> Result<(), Fail> {
 fn quality_again(field: &Field, stage: &Stage) -> Option<Quality>
     requires { IsStage field.now stage.now }
 {
-    let lower = lower_of(field, stage.reached());
+    let lower = pair::lower_of(field, stage.reached());
     the_first_scoregroup_is_next(field, stage.reached(), &lower);
-    let (next, _others) = split_first_group(field, &lower);
+    let (next, _others) = pair::split_first_group(field, &lower);
     let mut budget = Budget {
         limit: AMPLE,
         used: 0,
@@ -217,11 +211,11 @@ fn quality_again(field: &Field, stage: &Stage) -> Option<Quality>
 
 #[test]
 fn the_quality_of_a_candidate(rt: HostRuntime) -> Result<(), Fail> {
-    let field = field_of(rt.alloc(), &ONE_MOVES_DOWN, None)?;
-    let AllStages::Paired { stages, bye: _bye } = stages(rt.alloc(), &field, AMPLE)? else {
+    let field = reports::field_of(rt.alloc(), &reports::ONE_MOVES_DOWN, None)?;
+    let AllStages::Paired { pair::stages, bye: _bye } = pair::stages(rt.alloc(), &field, AMPLE)? else {
         return Err(Fail::new("the round is not paired"));
     };
-    let [_, stage, _] = stages.as_slice() else {
+    let [_, stage, _] = pair::stages.as_slice() else {
         return Err(Fail::new("there are not three brackets"));
     };
     let Some(again) = quality_again(&field, stage) else {
@@ -234,9 +228,9 @@ fn the_quality_of_a_candidate(rt: HostRuntime) -> Result<(), Fail> {
 // Nobody blocks, and each is an odd group, whose players may meet nobody else.
 #[test]
 fn why_there_is_no_pairing(rt: HostRuntime) -> Result<(), Fail> {
-    let field = field_of(rt.alloc(), &ALL_HAVE_MET, None)?;
-    assert!(rt; !lacks_bye(&field));
-    let Some(barrier) = barrier_of(rt.alloc(), &field, AMPLE)? else {
+    let field = reports::field_of(rt.alloc(), &reports::ALL_HAVE_MET, None)?;
+    assert!(rt; !pair::lacks_bye(&field));
+    let Some(barrier) = pair::barrier_of(rt.alloc(), &field, AMPLE)? else {
         return Err(Fail::new("no reason was found"));
     };
     assert!(rt; !barrier.has_blockers(&field));

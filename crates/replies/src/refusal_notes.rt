@@ -14,10 +14,8 @@ use crate::refusal_texts::put_fault;
 use crate::repeated_note::put_repeated_note;
 use crate::reply::{Reply, Status, Text};
 use common_texts::{HalfPoints, Page, put_without_controls};
-use report_notes::{
-    ByteOrder, Columns, Sums, are_lines_read, byte_order, columns_of, first_kind_note,
-    has_characters, line_in, line_of, sums_of, text_at, zero_byte,
-};
+use report_notes as notes;
+use report_notes::{ByteOrder, Columns};
 use std::alloc::{AllocError, Global};
 use trf16_report::{Excess, Fault, Report};
 
@@ -47,7 +45,7 @@ fn put_refusal_note(text: &mut Page, fault: Fault, bytes: &[u8], bye: u16) -> Re
     requires { bye ≤ 2 }
     ensures { OnOk result (text.new ≡ text.old ++ texts.refusal_note fault bytes.now bye) }
 {
-    match byte_order(bytes) {
+    match notes::byte_order(bytes) {
         Some(order) => text.push_str(order_text(order)),
         None => put_unmarked_note(text, fault, bytes, bye),
     }
@@ -63,7 +61,7 @@ fn put_unmarked_note(
     requires { bye ≤ 2 }
     ensures { OnOk result (text.new ≡ text.old ++ texts.unmarked_note fault bytes.now bye) }
 {
-    match zero_byte(bytes) {
+    match notes::zero_byte(bytes) {
         Some(place) => put_zero(text, place),
         None => put_found(text, fault, bytes, bye),
     }
@@ -113,7 +111,7 @@ fn put_found(text: &mut Page, fault: Fault, bytes: &[u8], bye: u16) -> Result<()
 fn put_kind(text: &mut Page, bytes: &[u8]) -> Result<(), AllocError>
     ensures { OnOk result (text.new ≡ text.old ++ texts.kind_or bytes.now []) }
 {
-    match first_kind_note(bytes) {
+    match notes::first_kind_note(bytes) {
         Some(note) => put_note(text, note),
         None => Ok(()),
     }
@@ -129,7 +127,7 @@ fn put_kind_or_cells(
     ensures { OnOk result (text.new
         ≡ text.old ++ texts.kind_or bytes.now (texts.cells_note bytes.now player round)) }
 {
-    match first_kind_note(bytes) {
+    match notes::first_kind_note(bytes) {
         Some(note) => put_note(text, note),
         None => put_cells_note(text, bytes, player, round),
     }
@@ -152,7 +150,7 @@ fn put_points_note(text: &mut Page, player: u16, bytes: &[u8], bye: u16) -> Resu
 fn put_sums_note(text: &mut Page, report: &Report<'_>, player: u16) -> Result<(), AllocError>
     ensures { OnOk result (text.new ≡ text.old ++ texts.points_note player (Ok report.now)) }
 {
-    if let Some(sums) = sums_of(report, player) {
+    if let Some(sums) = notes::sums_of(report, player) {
         put_sums(text, sums)?;
     }
     put_unfinished(text, report.unfinished())
@@ -160,7 +158,7 @@ fn put_sums_note(text: &mut Page, report: &Report<'_>, player: u16) -> Result<()
 
 // Puts the sums that a points field was compared with.
 #[tactic(auto, unfolding(crate::specs::RefusalNoteTexts::sums_text))]
-fn put_sums(text: &mut Page, sums: Sums) -> Result<(), AllocError>
+fn put_sums(text: &mut Page, sums: notes::Sums) -> Result<(), AllocError>
     ensures { OnOk result (text.new ≡ text.old ++ texts.sums_text sums) }
 {
     let player = sums.player;
@@ -202,7 +200,7 @@ fn put_line_note(text: &mut Page, fault: Fault, bytes: &[u8], bye: u16) -> Resul
 {
     match line_in_bytes(text.allocator(), fault, bytes, bye)? {
         Some(line) => write!(text, "note line {line}: fits if columns are bytes\n"),
-        None => put_held(text, columns_of(fault, bytes), bytes),
+        None => put_held(text, notes::columns_of(fault, bytes), bytes),
     }
 }
 
@@ -216,7 +214,7 @@ fn line_in_bytes(
     requires { bye ≤ 2 }
     ensures { IfOk result (λ line. line ≡ texts.line_in_bytes fault bytes.now bye) }
 {
-    let Some(line) = line_of(fault) else {
+    let Some(line) = notes::line_of(fault) else {
         return Ok(None);
     };
     if fits_in_bytes(alloc, bytes, bye, line)? {
@@ -231,10 +229,10 @@ fn fits_in_bytes(alloc: Global, bytes: &[u8], bye: u16, n: usize) -> Result<bool
     requires { bye ≤ 2 }
     ensures { IfOk result (λ fits. fits ≡ fits_in_bytes bytes.now bye n) }
 {
-    if !has_characters(bytes) {
+    if !notes::has_characters(bytes) {
         return Ok(false);
     }
-    let mut alone = Vec::from_slice(alloc, line_in(bytes, n))?;
+    let mut alone = Vec::from_slice(alloc, notes::line_in(bytes, n))?;
     alone.extend_from_slice(b"\n\xFF")?;
     is_read(alloc, alone.as_slice(), bye)
 }
@@ -246,7 +244,7 @@ fn is_read(alloc: Global, bytes: &[u8], bye: u16) -> Result<bool, AllocError>
     match trf16_reader::read_unsummed(alloc, bytes, bye) {
         Ok(_) => Ok(true),
         Err(Fault::OutOfMemory) => Err(AllocError),
-        Err(fault) => Ok(are_lines_read(fault)),
+        Err(fault) => Ok(notes::are_lines_read(fault)),
     }
 }
 
@@ -258,7 +256,7 @@ fn put_held(text: &mut Page, place: Option<Columns>, bytes: &[u8]) -> Result<(),
         return Ok(());
     };
     put_columns(text, place)?;
-    put_without_controls(text, text_at(bytes, place))?;
+    put_without_controls(text, notes::text_at(bytes, place))?;
     text.push_str("\"\n")
 }
 

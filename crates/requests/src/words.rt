@@ -11,11 +11,8 @@ use crate::commands::{
     COMMANDS, CommandName, CommandResult, HelpTexts, command_for, command_named,
 };
 use crate::entries_in::enter_options;
-use crate::options;
-use crate::options::{
-    BoardsOptions, CandidatesOptions, CheckOptions, CursorSyntax, EnterOptions, ExplainOptions,
-    FormatOptions, PairOptions, SheetOptions, StandingsOptions, WordFault,
-};
+use crate::options::WordFault;
+use crate::{options, options};
 use clap::error::ErrorKind;
 use clap::{ArgMatches, Command, Error};
 use dutch_arrangements::Cursor;
@@ -25,23 +22,23 @@ use std::alloc::{AllocError, Global};
 #[derive(Drop)]
 pub enum Request<'a> {
     /// Tells whether a report is accepted.
-    Check(CheckOptions),
+    Check(options::CheckOptions),
     /// Writes a report in canonical columns.
-    Format(FormatOptions),
+    Format(options::FormatOptions),
     /// Enters results and byes.
-    Enter(EnterOptions),
+    Enter(options::EnterOptions),
     /// Pairs the next round.
-    Pair(PairOptions),
+    Pair(options::PairOptions),
     /// Lists the boards of a round that was paired.
-    Boards(BoardsOptions),
+    Boards(options::BoardsOptions),
     /// Lists candidates of a bracket.
-    Candidates(CandidatesOptions<'a>),
+    Candidates(options::CandidatesOptions<'a>),
     /// Tells why the next round is paired as it is.
-    Explain(ExplainOptions),
+    Explain(options::ExplainOptions),
     /// Ranks the players.
-    Standings(StandingsOptions),
+    Standings(options::StandingsOptions),
     /// Shows the whole event on one page.
-    Sheet(SheetOptions),
+    Sheet(options::SheetOptions),
 }
 
 /// A request, and what its report is read by.
@@ -256,7 +253,7 @@ fn sheet_request<'a>(options: &ArgMatches<'a>) -> Result<Request<'a>, WordFault>
     Ok(Request::Sheet(options::sheet_options(options)?))
 }
 
-impl CursorSyntax for Cursor {
+impl options::CursorSyntax for Cursor {
     ghost is_cursor = { has_syntax };
 
     fn is_cursor(text: &str) -> bool {

@@ -7,10 +7,7 @@ ghost use Rattle.sheets.specs.Parts.{cell, column_head, each, each_up};
 ghost use Rattle.sheets.specs.StandingsParts as parts;
 ghost use Rattle.tables.specs.Prelude.{standings_of};
 
-use crate::parts::{
-    end_table, put_cell, put_column_head, put_column_heads, put_link, put_name_cell, put_number,
-    start_row, start_rows, start_section, start_table,
-};
+use crate::parts;
 use crate::persons::person_in;
 use crate::rounds::{put_points, round_name};
 use common_texts::{KeyValue, RoundOf};
@@ -78,7 +75,7 @@ fn put_value(page: &mut Markup, key: Key, value: Option<u32>) -> Result<(), Allo
     ensures { OnOk result (page.new ≡ page.old ++ node_text (cell (value_text key value))) }
 {
     let text = KeyValue { key, value }.to_string(page.allocator())?;
-    put_cell(page, text.as_bytes())
+    parts::put_cell(page, text.as_bytes())
 }
 
 // Puts what a player's cell of a round says, which leads to the round.
@@ -91,7 +88,7 @@ fn put_game(page: &mut Markup, report: &Report<'_>, start: u16, round: u8) -> Re
     let name = round_name(alloc, round)?;
     let game = RoundOf(report.cell(start, round)).to_string(alloc)?;
     page.start(Tag::Cell, &[])?;
-    put_link(page, name.as_str(), game.as_bytes())?;
+    parts::put_link(page, name.as_str(), game.as_bytes())?;
     page.end(Tag::Cell)
 }
 
@@ -113,8 +110,8 @@ fn put_scored_cells(page: &mut Markup, report: &Report<'_>, row: &Row) -> Result
     ensures { OnOk result (page.new ≡ page.old ++ node_text (parts.scored_cells report.now row.now)) }
 {
     let person = person_in(page.allocator(), report, row.start())?;
-    put_number(page, usize::from(row.start()))?;
-    put_name_cell(page, &person)?;
+    parts::put_number(page, usize::from(row.start()))?;
+    parts::put_name_cell(page, &person)?;
     put_points(page, row.score())
 }
 
@@ -131,7 +128,7 @@ fn put_row(
 {
     let (place, row) = placed;
     let text = place.to_string(page.allocator())?;
-    start_row(page, text.as_bytes())?;
+    parts::start_row(page, text.as_bytes())?;
     put_scored_cells(page, report, row)?;
     put_values(page, keys, row.values())?;
     put_games(page, report, row.start())?;
@@ -158,7 +155,7 @@ fn put_key_heads(page: &mut Markup, keys: &[Key]) -> Result<(), AllocError>
     ensures { OnOk result (page.new ≡ page.old ++ node_text (each (λ key. column_head (parts.key_name key)) keys.now)) }
 {
     for key in keys {
-        put_column_head(page, key_name(*key).as_bytes())?;
+        parts::put_column_head(page, key_name(*key).as_bytes())?;
     }
     Ok(())
 }
@@ -169,7 +166,7 @@ fn put_round_heads(page: &mut Markup, rounds: u8) -> Result<(), AllocError>
 {
     for past in 0..rounds {
         let text = (past + 1).to_string(page.allocator())?;
-        put_column_head(page, text.as_bytes())?;
+        parts::put_column_head(page, text.as_bytes())?;
     }
     Ok(())
 }
@@ -178,7 +175,7 @@ fn put_round_heads(page: &mut Markup, rounds: u8) -> Result<(), AllocError>
 fn put_front_heads(page: &mut Markup) -> Result<(), AllocError>
     ensures { OnOk result (page.new ≡ page.old ++ node_text (each column_head parts.standings_heads)) }
 {
-    put_column_heads(page, &["Place", "No.", "Name", "Pts"])
+    parts::put_column_heads(page, &["Place", "No.", "Name", "Pts"])
 }
 
 // Puts the heads of all columns.
@@ -209,11 +206,11 @@ fn put_full_table(
 ) -> Result<(), AllocError>
     ensures { OnOk result (page.new ≡ page.old ++ node_text (parts.full_table report.now keys.now rows.now)) }
 {
-    start_table(page, caption())?;
+    parts::start_table(page, caption())?;
     put_heads(page, keys, report.rounds_played())?;
-    start_rows(page)?;
+    parts::start_rows(page)?;
     put_rows(page, report, keys, rows)?;
-    end_table(page)
+    parts::end_table(page)
 }
 
 // Puts that there are no standings.
@@ -279,7 +276,7 @@ pub(crate) fn put_standings(
     let round = standings_round(report);
     let heading = heading(alloc, round, report.rounds_played())?;
     let counted = before_round(alloc, report, round)?;
-    start_section(page, "standings", heading.as_bytes())?;
+    parts::start_section(page, "standings", heading.as_bytes())?;
     put_counted(page, counted, keys)?;
     page.end(Tag::Section)
 }

@@ -2,9 +2,7 @@
 // piece.
 ghost use Rattle.std.specs.Prelude.{◌≡◌, ◌++◌, OnOk};
 ghost use Rattle.dutch_bracket.specs.Prelude.{quality_in};
-ghost use Rattle.stage_lines.specs.InsteadTexts.{best_front, bracket_front, bracket_text, found_text, front_text};
-ghost use Rattle.stage_lines.specs.InsteadTexts.{granted_text, would_go_down};
-ghost use Rattle.stage_lines.specs.InsteadTexts.{none_b1_text, none_c4_text, none_c5_text};
+ghost use Rattle.stage_lines.specs.InsteadTexts as texts;
 ghost use Rattle.round_lines.specs.ValueTexts.{candidate_text};
 
 use common_texts::Page;
@@ -21,7 +19,7 @@ use std::alloc::AllocError;
 
 /// Puts that the player meets whom they ask for, or has the bye.
 pub fn put_granted(text: &mut Page, telling: &Telling<'_>, asked: Asked) -> Result<(), AllocError>
-    ensures { OnOk result (text.new ≡ text.old ++ granted_text telling.now asked.player asked.number) }
+    ensures { OnOk result (text.new ≡ text.old ++ texts.granted_text telling.now asked.player asked.number) }
 {
     let (player, number) = (Player(asked.player), Number(asked.number));
     let (front, chosen) = (Text("instead "), Text(" chosen\n"));
@@ -36,7 +34,7 @@ pub fn put_granted(text: &mut Page, telling: &Telling<'_>, asked: Asked) -> Resu
 
 /// Puts that the player does not meet whom they ask for, or does not get the bye, in front of why.
 pub fn put_front(text: &mut Page, telling: &Telling<'_>, asked: Asked) -> Result<(), AllocError>
-    ensures { OnOk result (text.new ≡ text.old ++ front_text telling.now asked.player asked.number) }
+    ensures { OnOk result (text.new ≡ text.old ++ texts.front_text telling.now asked.player asked.number) }
 {
     let (player, number) = (Player(asked.player), Number(asked.number));
     let (front, behind) = (Text("instead "), Text(" "));
@@ -64,8 +62,8 @@ pub fn put_found(
     searched: Searched<'_>,
 ) -> Result<(), AllocError>
     ensures { OnOk result (text.new
-        ≡ text.old ++ (bracket_front telling.now searched.entry.stage.now searched.entry.wish
-        ++ found_text telling.now.wording searched.entry.stage.now searched.entry.found.now)) }
+        ≡ text.old ++ (texts.bracket_front telling.now searched.entry.stage.now searched.entry.wish
+        ++ texts.found_text telling.now.wording searched.entry.stage.now searched.entry.found.now)) }
 {
     let down = would_go_down(searched.stage, searched.wish);
     put_bracket(text, telling, searched.stage.reached().number(), down)?;
@@ -74,7 +72,7 @@ pub fn put_found(
 
 // Who would have to go down in a bracket, by seat.
 fn would_go_down(stage: &Stage, wish: Wish) -> Option<u16>
-    ensures { result ≡ would_go_down stage.now wish }
+    ensures { result ≡ texts.would_go_down stage.now wish }
 {
     let reached = stage.reached();
     match wish {
@@ -90,7 +88,7 @@ fn put_bracket(
     number: u16,
     down: Option<u16>,
 ) -> Result<(), AllocError>
-    ensures { OnOk result (text.new ≡ text.old ++ bracket_text telling.now number down) }
+    ensures { OnOk result (text.new ≡ text.old ++ texts.bracket_text telling.now number down) }
 {
     let number = Number(number);
     let line = [Text("bracket "), number, Text(" ")];
@@ -109,7 +107,7 @@ fn put_bracket(
 
 // None that can be chosen grants the wish.
 fn none_c4(wording: Wording) -> &'static str
-    ensures { result.now ≡ none_c4_text wording }
+    ensures { result.now ≡ texts.none_c4_text wording }
 {
     in_wording(
         wording,
@@ -120,7 +118,7 @@ fn none_c4(wording: Wording) -> &'static str
 
 // None with as many moved-down players in as many pairs does.
 fn none_b1(wording: Wording) -> &'static str
-    ensures { result.now ≡ none_b1_text wording }
+    ensures { result.now ≡ texts.none_b1_text wording }
 {
     in_wording(
         wording,
@@ -131,7 +129,7 @@ fn none_b1(wording: Wording) -> &'static str
 
 // None with as many pairs does.
 fn none_c5(wording: Wording) -> &'static str
-    ensures { result.now ≡ none_c5_text wording }
+    ensures { result.now ≡ texts.none_c5_text wording }
 {
     in_wording(
         wording,
@@ -147,7 +145,7 @@ fn put_reason(
     searched: (&Stage, &Instead),
 ) -> Result<(), AllocError>
     ensures { OnOk result (text.new
-        ≡ text.old ++ found_text telling.now.wording searched.entry.0.now searched.entry.1.now) }
+        ≡ text.old ++ texts.found_text telling.now.wording searched.entry.0.now searched.entry.1.now) }
 {
     let (stage, found) = searched;
     match found {
@@ -168,7 +166,8 @@ fn put_best(
     candidate: &Candidate,
     of: (&Quality, &Quality),
 ) -> Result<(), AllocError>
-    ensures { OnOk result (text.new ≡ text.old ++ (best_front telling.now.wording ++ candidate_text telling.now.wording
+    ensures { OnOk result (text.new ≡ text.old ++ (texts.best_front telling.now.wording
+        ++ candidate_text telling.now.wording
         candidate.now.lists (quality_in of.entry.0.now) (quality_in of.entry.1.now))) }
 {
     let words = [Text("the best candidate that allows it ")];

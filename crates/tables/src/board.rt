@@ -1,7 +1,6 @@
 // The boards of a round, from the cells of its players.
 ghost use Rattle.std.specs.Prelude.{◌≡◌, ◌<◌, IfOk};
-ghost use Rattle.tables.specs.Boards.{board_at, board_of_bye, board_of_two, boards_of, boards_unordered};
-ghost use Rattle.tables.specs.Boards.{colour_by, colour_in, board_goes_before, ranks_above, score_before, with_colour};
+ghost use Rattle.tables.specs.Boards as boards;
 
 use crate::ranking::{Placed, all_in_order};
 use std::alloc::{AllocError, Global};
@@ -26,7 +25,7 @@ pub struct RankedBoard {
 }
 
 impl Placed for RankedBoard {
-    ghost before = { board_goes_before };
+    ghost before = { boards.board_goes_before };
 
     fn goes_before(&self, other: &RankedBoard) -> bool {
         self.has_bye
@@ -46,7 +45,7 @@ impl Placed for RankedBoard {
 /// Memory was refused.
 pub fn boards_of(alloc: Global, report: &Report<'_>, round: u8) -> Result<Vec<Board>, AllocError>
     requires { 0 < round }
-    ensures { IfOk result (λ boards. boards.items ≡ boards_of report.now round) }
+    ensures { IfOk result (λ found. found.items ≡ boards.boards_of report.now round) }
 {
     let in_order = all_in_order(alloc, boards_unordered(alloc, report, round)?)?;
     in_order.iter().map(|ranked| ranked.board).collect(alloc)
@@ -59,7 +58,7 @@ fn boards_unordered(
     round: u8,
 ) -> Result<Vec<RankedBoard>, AllocError>
     requires { 0 < round }
-    ensures { IfOk result (λ boards. boards.items ≡ boards_unordered report.now round) }
+    ensures { IfOk result (λ found. found.items ≡ boards.boards_unordered report.now round) }
 {
     let mut boards = Vec::new(alloc);
     for player in report.players() {
@@ -73,7 +72,7 @@ fn boards_unordered(
 // The board of a player who has the bye, or who is the higher ranked of two.
 fn board_at(report: &Report<'_>, round: u8, start: u16) -> Option<RankedBoard>
     requires { 0 < round }
-    ensures { result ≡ board_at report.now round start }
+    ensures { result ≡ boards.board_at report.now round start }
 {
     let cell = report.cell(start, round);
     if cell == Cell::Bye(Bye::Allocated) {
@@ -89,14 +88,14 @@ fn board_at(report: &Report<'_>, round: u8, start: u16) -> Option<RankedBoard>
 // The score of a player before the round, in half points.
 fn score_before(report: &Report<'_>, round: u8, start: u16) -> u16
     requires { 0 < round }
-    ensures { result ≡ score_before report.now round start }
+    ensures { result ≡ boards.score_before report.now round start }
 {
     report.points(start, round - 1)
 }
 
 fn ranks_above(report: &Report<'_>, round: u8, one: u16, other: u16) -> bool
     requires { 0 < round }
-    ensures { result ≡ ranks_above report.now round one other }
+    ensures { result ≡ boards.ranks_above report.now round one other }
 {
     let (mine, theirs) = (
         score_before(report, round, one),
@@ -109,7 +108,7 @@ fn ranks_above(report: &Report<'_>, round: u8, one: u16, other: u16) -> bool
 #[tactic(auto, unfolding(crate::specs::Boards::board_of_bye))]
 fn board_of_bye(report: &Report<'_>, round: u8, start: u16) -> RankedBoard
     requires { 0 < round }
-    ensures { result ≡ board_of_bye report.now round start }
+    ensures { result ≡ boards.board_of_bye report.now round start }
 {
     let score = score_before(report, round, start);
     RankedBoard {
@@ -125,7 +124,7 @@ fn board_of_bye(report: &Report<'_>, round: u8, start: u16) -> RankedBoard
 #[tactic(auto, unfolding(crate::specs::Boards::board_of_two))]
 fn board_of_two(report: &Report<'_>, round: u8, high: u16, low: u16) -> RankedBoard
     requires { 0 < round }
-    ensures { result ≡ board_of_two report.now round high low }
+    ensures { result ≡ boards.board_of_two report.now round high low }
 {
     let score = score_before(report, round, high);
     let colour = colour_by(
@@ -144,14 +143,14 @@ fn board_of_two(report: &Report<'_>, round: u8, high: u16, low: u16) -> RankedBo
 // The colour that a player's cell of the round says.
 fn colour_in(report: &Report<'_>, round: u8, start: u16) -> Option<Colour>
     requires { 0 < round }
-    ensures { result ≡ colour_in report.now round start }
+    ensures { result ≡ boards.colour_in report.now round start }
 {
     report.cell(start, round).colour()
 }
 
 // The colour of the higher ranked of two players by what both cells say, their own first.
 fn colour_by(own: Option<Colour>, other: Option<Colour>) -> Colour
-    ensures { result ≡ colour_by own other }
+    ensures { result ≡ boards.colour_by own other }
 {
     match (own, other) {
         (Some(Colour::Black), None | Some(Colour::White)) | (None, Some(Colour::White)) =>
@@ -162,7 +161,7 @@ fn colour_by(own: Option<Colour>, other: Option<Colour>) -> Colour
 
 // White and black, where the higher ranked of two players has a colour.
 fn with_colour(high: u16, low: u16, colour: Colour) -> Board
-    ensures { result ≡ with_colour high low colour }
+    ensures { result ≡ boards.with_colour high low colour }
 {
     match colour {
         Colour::White => (high, low),

@@ -9,11 +9,7 @@ ghost use Rattle.trf16_report.specs.Steps.{whole_report};
 ghost use Rattle.trf16_report.specs.Sheet.{entry_of, known};
 ghost use Rattle.trf16_report.specs.Notes.{is_marked, first_noted, Tells, TellsApart};
 ghost use Rattle.trf16_report.specs.Summed.{verdict_unsummed};
-ghost use Rattle.trf16_report.specs.Verdict.{blank_at, blanks_at, start_number_at, start_at, points_at, round_at, rounds_at};
-ghost use Rattle.trf16_report.specs.Verdict.{cells_at, player_at, is_player, is_too_long, player_onto};
-ghost use Rattle.trf16_report.specs.Verdict.{rounds_onto, colour_onto, start_ranks_onto, line_onto, lines_onto};
-ghost use Rattle.trf16_report.specs.Verdict.{has_too_many_rounds, names_too_many_rounds, without_players, sized, laid_out};
-ghost use Rattle.trf16_report.specs.Verdict.{verdict};
+ghost use Rattle.trf16_report.specs.Verdict as verdicts;
 ghost use Rattle.trf16_report.specs.declared.cell.Cell.TheVariants.{Blank};
 ghost use Rattle.trf16_report.specs.declared.limits.TheConstants.{MOST_PLAYERS, MOST_ROUNDS, LAST_COLUMN};
 
@@ -21,20 +17,17 @@ use crate::answering::{all_cells_fit, players_fit};
 use crate::grammar::cell_from;
 use std::alloc::Global;
 use std::str;
-use trf16_report::{
-    Apart, Cell, Draft, Excess, Fault, Line, LineKind, MOST_BYTES, MOST_PLAYERS, MOST_ROUNDS,
-    Notes, Player, Report, are_start_ranks, colour_in, is_blank, is_word, next_line, number_in,
-    points_in, rounds_in, said_len, skip_marks, split_kind, trimmed,
-};
+use trf16_report as report;
+use trf16_report::{Cell, Draft, Fault, Line, Notes, Player, Report};
 
 // Column k of line n must be blank.
 #[tactic(auto, unfolding(trf16_report::specs::Verdict::blank_at))]
 fn blank_at(n: usize, line: &Line<'_>, k: usize) -> Result<(), Fault>
     requires from_one { 0 < k }
     requires in_reach { k ≤ LAST_COLUMN }
-    ensures { Gives (λ x. x) result (blank_at n line.now k) }
+    ensures { Gives (λ x. x) result (verdicts.blank_at n line.now k) }
 {
-    if is_blank(line.text(k, k)) {
+    if report::is_blank(line.text(k, k)) {
         Ok(())
     } else {
         Err(Fault::Misaligned { line: n, column: k })
@@ -45,7 +38,7 @@ fn blank_at(n: usize, line: &Line<'_>, k: usize) -> Result<(), Fault>
 #[tactic(auto, using(trf16_report::proofs::ReadingLemmas::blanks_more, trf16_report::proofs::ReadingLemmas::blanks_end))]
 fn blanks_at(n: usize, line: &Line<'_>, columns: &[usize]) -> Result<(), Fault>
     requires { AllByRecursion (λ k. (0 < k) × (k ≤ LAST_COLUMN)) columns.now }
-    ensures { Gives (λ x. x) result (blanks_at n line.now columns.now) }
+    ensures { Gives (λ x. x) result (verdicts.blanks_at n line.now columns.now) }
 {
     for column in columns {
         blank_at(n, line, *column)?;
@@ -56,9 +49,9 @@ fn blanks_at(n: usize, line: &Line<'_>, columns: &[usize]) -> Result<(), Fault>
 // The start rank that line n names.
 #[tactic(auto, unfolding(trf16_report::specs::Verdict::start_number_at))]
 fn start_number_at(n: usize, line: &Line<'_>) -> Result<u16, Fault>
-    ensures { Gives (λ x. x) result (start_number_at n line.now) }
+    ensures { Gives (λ x. x) result (verdicts.start_number_at n line.now) }
 {
-    match number_in(line.text(5, 8)) {
+    match report::number_in(line.text(5, 8)) {
         None | Some(0) => Err(Fault::BadNumber { line: n }),
         Some(start) => Ok(start),
     }
@@ -67,7 +60,7 @@ fn start_number_at(n: usize, line: &Line<'_>) -> Result<u16, Fault>
 // The start rank that line n names, which no line before may have named.
 #[tactic(auto, unfolding(trf16_report::specs::Verdict::start_at))]
 fn start_at(draft: &Draft<'_>, n: usize, line: &Line<'_>) -> Result<u16, Fault>
-    ensures given { Gives (λ x. x) result (start_at draft.now n line.now) }
+    ensures given { Gives (λ x. x) result (verdicts.start_at draft.now n line.now) }
     ensures new { IfOk result (λ start. known draft.now start ≡ false) }
 {
     let start = start_number_at(n, line)?;
@@ -79,9 +72,9 @@ fn start_at(draft: &Draft<'_>, n: usize, line: &Line<'_>) -> Result<u16, Fault>
 
 #[tactic(auto, unfolding(trf16_report::specs::Verdict::points_at))]
 fn points_at(n: usize, line: &Line<'_>) -> Result<Option<u16>, Fault>
-    ensures { Gives (λ x. x) result (points_at n line.now) }
+    ensures { Gives (λ x. x) result (verdicts.points_at n line.now) }
 {
-    match points_in(line.text(81, 84)) {
+    match report::points_in(line.text(81, 84)) {
         None => Err(Fault::BadNumber { line: n }),
         Some(points) => Ok(points),
     }
@@ -91,7 +84,7 @@ fn points_at(n: usize, line: &Line<'_>) -> Result<Option<u16>, Fault>
 #[tactic(auto, unfolding(trf16_report::specs::Verdict::round_at))]
 fn round_at(n: usize, line: &Line<'_>, before: usize) -> Result<Cell, Fault>
     requires { before < MOST_ROUNDS }
-    ensures { Gives (λ x. x) result (round_at n line.now before) }
+    ensures { Gives (λ x. x) result (verdicts.round_at n line.now before) }
 {
     let at = 91 + 10 * before;
     blanks_at(n, line, &[at + 5, at + 7, at + 9, at + 10])?;
@@ -111,11 +104,11 @@ fn round_at(n: usize, line: &Line<'_>, before: usize) -> Result<Cell, Fault>
 // The rounds that a line goes on to: all others are blank.
 fn rounds_at(alloc: Global, n: usize, line: &Line<'_>) -> Result<Vec<Cell>, Fault>
     ensures cells { Gives (λ cells. cells.items ++ replicate (MOST_ROUNDS - vec_len cells) Blank) result
-        (rounds_at n line.now 0 MOST_ROUNDS) }
+        (verdicts.rounds_at n line.now 0 MOST_ROUNDS) }
     ensures few { IfOk result (λ cells. vec_len cells ≤ MOST_ROUNDS) }
 {
     let mut cells = Vec::new(alloc);
-    while cells.len() < MOST_ROUNDS && line.reaches(92 + 10 * cells.len()) {
+    while cells.len() < report::MOST_ROUNDS && line.reaches(92 + 10 * cells.len()) {
         cells.push(round_at(n, line, cells.len())?)?;
     }
     Ok(cells)
@@ -123,11 +116,11 @@ fn rounds_at(alloc: Global, n: usize, line: &Line<'_>) -> Result<Vec<Cell>, Faul
 
 #[tactic(auto, unfolding(trf16_report::specs::Verdict::cells_at))]
 fn cells_at(alloc: Global, n: usize, line: &Line<'_>) -> Result<Vec<Cell>, Fault>
-    ensures given { Gives (λ cells. cells.items) result (cells_at n line.now) }
+    ensures given { Gives (λ cells. cells.items) result (verdicts.cells_at n line.now) }
     ensures few { IfOk result (λ cells. vec_len cells ≤ MOST_ROUNDS) }
 {
     let mut cells = rounds_at(alloc, n, line)?;
-    let len = said_len(&cells);
+    let len = report::said_len(&cells);
     cells.truncate(len);
     Ok(cells)
 }
@@ -140,7 +133,7 @@ fn player_at<'a>(
     n: usize,
     line: &Line<'a>,
 ) -> Result<Player<'a>, Fault>
-    ensures given { Gives entry_of result (player_at draft.now n line.now) }
+    ensures given { Gives entry_of result (verdicts.player_at draft.now n line.now) }
     ensures new { IfOk result (λ player. known draft.now player.start ≡ false) }
 {
     blank_at(n, line, 4)?;
@@ -152,8 +145,8 @@ fn player_at<'a>(
         start,
         line: n,
         points,
-        left: trimmed(line.text(9, 80)),
-        right: trimmed(line.text(85, 89)),
+        left: report::trimmed(line.text(9, 80)),
+        right: report::trimmed(line.text(85, 89)),
         cells,
     })
 }
@@ -161,10 +154,10 @@ fn player_at<'a>(
 // XXR: the total of rounds.
 #[tactic(auto, unfolding(trf16_report::specs::Verdict::rounds_onto))]
 fn rounds_onto(draft: &mut Draft<'_>, n: usize, bytes: &[u8]) -> Result<(), Fault>
-    ensures { Gives (λ _. draft.new) result (rounds_onto draft.old n (columns draft.old.utf8 bytes.now)) }
+    ensures { Gives (λ _. draft.new) result (verdicts.rounds_onto draft.old n (columns draft.old.utf8 bytes.now)) }
 {
-    let (_, rest) = split_kind(bytes, draft.is_utf8());
-    let Some(rounds) = rounds_in(rest) else {
+    let (_, rest) = report::split_kind(bytes, draft.is_utf8());
+    let Some(rounds) = report::rounds_in(rest) else {
         return Err(Fault::BadExtension { line: n });
     };
     if draft.has_total() {
@@ -177,10 +170,10 @@ fn rounds_onto(draft: &mut Draft<'_>, n: usize, bytes: &[u8]) -> Result<(), Faul
 // XXC: the initial colour.
 #[tactic(auto, unfolding(trf16_report::specs::Verdict::colour_onto))]
 fn colour_onto(draft: &mut Draft<'_>, n: usize, bytes: &[u8]) -> Result<(), Fault>
-    ensures { Gives (λ _. draft.new) result (colour_onto draft.old n (columns draft.old.utf8 bytes.now)) }
+    ensures { Gives (λ _. draft.new) result (verdicts.colour_onto draft.old n (columns draft.old.utf8 bytes.now)) }
 {
-    let (_, rest) = split_kind(bytes, draft.is_utf8());
-    let Some(initial) = colour_in(draft.initial(), rest) else {
+    let (_, rest) = report::split_kind(bytes, draft.is_utf8());
+    let Some(initial) = report::colour_in(draft.initial(), rest) else {
         return Err(Fault::BadExtension { line: n });
     };
     draft.set_initial(initial);
@@ -190,10 +183,10 @@ fn colour_onto(draft: &mut Draft<'_>, n: usize, bytes: &[u8]) -> Result<(), Faul
 // XXZ and XXP: the start ranks of those who are absent, or who do not meet.
 #[tactic(auto, unfolding(trf16_report::specs::Verdict::start_ranks_onto))]
 fn start_ranks_onto(draft: &mut Draft<'_>, n: usize, bytes: &[u8]) -> Result<(), Fault>
-    ensures { Gives (λ _. draft.new) result (start_ranks_onto draft.old n (columns draft.old.utf8 bytes.now)) }
+    ensures { Gives (λ _. draft.new) result (verdicts.start_ranks_onto draft.old n (columns draft.old.utf8 bytes.now)) }
 {
-    let (_, rest) = split_kind(bytes, draft.is_utf8());
-    if !are_start_ranks(rest) {
+    let (_, rest) = report::split_kind(bytes, draft.is_utf8());
+    if !report::are_start_ranks(rest) {
         return Err(Fault::BadExtension { line: n });
     }
     Ok(())
@@ -207,8 +200,9 @@ fn player_onto<'a>(
     n: usize,
     bytes: &'a [u8],
 ) -> Result<bool, Fault>
-    ensures given { Gives (λ _. draft.new) result (player_onto draft.old n (columns draft.old.utf8 bytes.now)) }
-    ensures long { IfOk result (λ long. long ≡ is_too_long (columns draft.old.utf8 bytes.now)) }
+    ensures given { Gives (λ _. draft.new) result (verdicts.player_onto draft.old n
+        (columns draft.old.utf8 bytes.now)) }
+    ensures long { IfOk result (λ long. long ≡ verdicts.is_too_long (columns draft.old.utf8 bytes.now)) }
 {
     let line = Line::new(alloc, bytes, draft.is_utf8())?;
     let player = player_at(alloc, draft, n, &line)?;
@@ -220,16 +214,16 @@ fn player_onto<'a>(
 #[tactic(auto, unfolding(trf16_report::specs::Verdict::line_onto))]
 fn other_line_onto(draft: &mut Draft<'_>, n: usize, kind: &[u8], bytes: &[u8]) -> Result<(), Fault>
     requires kind { kind.now ≡ text (columns draft.old.utf8 bytes.now) 1 3 }
-    requires other { is_player (columns draft.old.utf8 bytes.now) ≡ false }
-    ensures { Gives (λ _. draft.new) result (line_onto draft.old n (columns draft.old.utf8 bytes.now)) }
+    requires other { verdicts.is_player (columns draft.old.utf8 bytes.now) ≡ false }
+    ensures { Gives (λ _. draft.new) result (verdicts.line_onto draft.old n (columns draft.old.utf8 bytes.now)) }
 {
-    if is_word(kind, b"XXR") {
+    if report::is_word(kind, b"XXR") {
         return rounds_onto(draft, n, bytes);
     }
-    if is_word(kind, b"XXC") {
+    if report::is_word(kind, b"XXC") {
         return colour_onto(draft, n, bytes);
     }
-    if is_word(kind, b"XXZ") || is_word(kind, b"XXP") {
+    if report::is_word(kind, b"XXZ") || report::is_word(kind, b"XXP") {
         return start_ranks_onto(draft, n, bytes);
     }
     Ok(())
@@ -243,11 +237,11 @@ fn line_onto<'a>(
     n: usize,
     bytes: &'a [u8],
 ) -> Result<bool, Fault>
-    ensures given { Gives (λ _. draft.new) result (line_onto draft.old n (columns draft.old.utf8 bytes.now)) }
+    ensures given { Gives (λ _. draft.new) result (verdicts.line_onto draft.old n (columns draft.old.utf8 bytes.now)) }
     ensures long { let line = columns draft.old.utf8 bytes.now in IfOk result
-        (λ long. long ≡ (is_player line && is_too_long line)) }
+        (λ long. long ≡ (verdicts.is_player line && verdicts.is_too_long line)) }
 {
-    let (kind, _) = split_kind(bytes, draft.is_utf8());
+    let (kind, _) = report::split_kind(bytes, draft.is_utf8());
     if kind == b"001".as_slice() {
         return player_onto(alloc, draft, n, bytes);
     }
@@ -265,9 +259,10 @@ fn lines_onto<'a>(
     requires absent { (start : ℕ) → is_marked notes.old start ≡ false }
     requires firsts { (kind : LineKind) → first_noted notes.old kind ≡ None }
     requires together { notes.old.together ≡ false }
-    requires fresh { draft.old.carried ≡ (without_players draft.old.utf8 (lines text.now) draft.old.bye).carried }
-    ensures given { Gives (λ _. draft.new) result (lines_onto draft.old 1 (lines text.now)) }
-    ensures long { IfOk result (λ long. long ≡ has_too_many_rounds draft.old.utf8 (lines text.now)) }
+    requires fresh { draft.old.carried ≡ (verdicts.without_players draft.old.utf8
+        (lines text.now) draft.old.bye).carried }
+    ensures given { Gives (λ _. draft.new) result (verdicts.lines_onto draft.old 1 (lines text.now)) }
+    ensures long { IfOk result (λ long. long ≡ verdicts.has_too_many_rounds draft.old.utf8 (lines text.now)) }
     ensures noted { IfOk result (λ _. Tells notes.new draft.new) }
 {
     let utf8 = draft.is_utf8();
@@ -275,7 +270,7 @@ fn lines_onto<'a>(
     let mut n = 1;
     let mut long = false;
     while !rest.is_empty() {
-        let (line, after) = next_line(rest);
+        let (line, after) = report::next_line(rest);
         let too_long = line_onto(alloc, draft, n, line)?;
         long = long || too_long;
         notes.note(n, line, utf8);
@@ -294,16 +289,16 @@ fn is_utf8(bytes: &[u8]) -> bool
 // Refuses a report that is too large, or that has no players.
 #[tactic(auto, unfolding(trf16_report::specs::Verdict::sized))]
 fn has_size(draft: &Draft<'_>, too_long: bool) -> Result<(), Fault>
-    ensures given { Gives (λ _. draft.now) result (sized draft.now too_long) }
+    ensures given { Gives (λ _. draft.now) result (verdicts.sized draft.now too_long) }
     ensures few_players { IfOk result (λ _. length draft.now.players ≤ MOST_PLAYERS) }
-    ensures few_rounds { IfOk result (λ _. names_too_many_rounds draft.now ≡ false) }
+    ensures few_rounds { IfOk result (λ _. verdicts.names_too_many_rounds draft.now ≡ false) }
 {
     let count = draft.count();
-    if MOST_PLAYERS < count {
-        return Err(Fault::TooMany(Excess::Players));
+    if report::MOST_PLAYERS < count {
+        return Err(Fault::TooMany(report::Excess::Players));
     }
     if too_long || draft.names_too_many_rounds() {
-        return Err(Fault::TooMany(Excess::Rounds));
+        return Err(Fault::TooMany(report::Excess::Rounds));
     }
     if count == 0 {
         return Err(Fault::NoPlayers);
@@ -318,16 +313,17 @@ fn read_whole<'a>(
     draft: &mut Draft<'a>,
     notes: &mut Notes,
     text: &'a [u8],
-) -> Result<Apart, Fault>
+) -> Result<report::Apart, Fault>
     requires absent { (start : ℕ) → is_marked notes.old start ≡ false }
     requires firsts { (kind : LineKind) → first_noted notes.old kind ≡ None }
     requires together { notes.old.together ≡ false }
-    requires fresh { draft.old.carried ≡ (without_players draft.old.utf8 (lines text.now) draft.old.bye).carried }
+    requires fresh { draft.old.carried ≡ (verdicts.without_players draft.old.utf8
+        (lines text.now) draft.old.bye).carried }
     ensures given { Gives (λ _. draft.new) result (whole_report draft.old (lines text.now)) }
     ensures noted { IfOk result (λ _. Tells notes.new draft.new) }
     ensures told_apart { IfOk result (λ apart. TellsApart apart draft.new) }
     ensures few_players { IfOk result (λ _. length draft.new.players ≤ MOST_PLAYERS) }
-    ensures few_rounds { IfOk result (λ _. names_too_many_rounds draft.new ≡ false) }
+    ensures few_rounds { IfOk result (λ _. verdicts.names_too_many_rounds draft.new ≡ false) }
 {
     let too_long = lines_onto(alloc, draft, notes, text)?;
     has_size(draft, too_long)?;
@@ -337,12 +333,12 @@ fn read_whole<'a>(
 // The report that a text is, before the rules on its players are looked at.
 fn laid_out<'a>(alloc: Global, bytes: &'a [u8], bye: u16) -> Result<Report<'a>, Fault>
     requires { bye ≤ 2 }
-    ensures { Gives (λ report. report) result (laid_out bytes.now bye) }
+    ensures { Gives (λ report. report) result (verdicts.laid_out bytes.now bye) }
 {
-    if MOST_BYTES < bytes.len() {
-        return Err(Fault::TooMany(Excess::Bytes));
+    if report::MOST_BYTES < bytes.len() {
+        return Err(Fault::TooMany(report::Excess::Bytes));
     }
-    let text = skip_marks(bytes);
+    let text = report::skip_marks(bytes);
     let mut notes = Notes::new(alloc)?;
     let mut draft = Draft::new(alloc, text, is_utf8(text), bye);
     let apart = read_whole(alloc, &mut draft, &mut notes, text)?;
@@ -364,7 +360,7 @@ fn report_if_fitting<'a>(report: Report<'a>, fits: Result<(), Fault>) -> Result<
 /// # Errors
 /// Those of `read_with`.
 pub fn read<'a>(alloc: Global, bytes: &'a [u8]) -> Result<Report<'a>, Fault>
-    ensures { Gives (λ report. report) result (verdict bytes.now 2) }
+    ensures { Gives (λ report. report) result (verdicts.verdict bytes.now 2) }
 {
     read_with(alloc, bytes, 2)
 }
@@ -380,7 +376,7 @@ pub fn read<'a>(alloc: Global, bytes: &'a [u8]) -> Result<Report<'a>, Fault>
 #[tactic(auto, unfolding(trf16_report::specs::Verdict::verdict))]
 pub fn read_with<'a>(alloc: Global, bytes: &'a [u8], bye: u16) -> Result<Report<'a>, Fault>
     requires { bye ≤ 2 }
-    ensures { Gives (λ report. report) result (verdict bytes.now bye) }
+    ensures { Gives (λ report. report) result (verdicts.verdict bytes.now bye) }
 {
     let report = laid_out(alloc, bytes, bye)?;
     let fits = players_fit(&report);

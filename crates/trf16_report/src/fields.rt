@@ -3,13 +3,12 @@ ghost use Rattle.std.specs.Prelude.{◌≡◌, ℕ, ◌≢◌, ◌<◌, ◌≤�
 ghost use Rattle.std.specs.Prelude.{MatchOption, IfSome};
 ghost use Rattle.std.specs.Char.{is_ascii_digit};
 ghost use Rattle.std.specs.List.{list_all};
-ghost use Rattle.trf16_report.specs.Fields.{words, is_number, number_after, number_of, number_in, half_after, points_after};
-ghost use Rattle.trf16_report.specs.Fields.{points_of, points_in, trimmed, without_blanks};
+ghost use Rattle.trf16_report.specs.Fields as fields;
 
 // How many blanks stand in front.
 fn blank_len(bytes: &[u8]) -> usize
     ensures within { result ≤ length bytes.now }
-    ensures same { words (drop result bytes.now) ≡ words bytes.now }
+    ensures same { fields.words (drop result bytes.now) ≡ fields.words bytes.now }
     ensures behind { result < length bytes.now → slice_index bytes.now result ≢ 32 }
 {
     for (i, byte) in bytes.iter().enumerate() {
@@ -34,7 +33,8 @@ fn word_len(bytes: &[u8]) -> usize
 
 /// The first word of a text and what stands behind it, or none if there are only blanks.
 pub fn next_word(bytes: &[u8]) -> Option<(&[u8], &[u8])>
-    ensures first { MatchOption result (words bytes.now ≡ []) (λ x. words bytes.now ≡ x.0.now ∷ words x.1.now) }
+    ensures first { MatchOption result (fields.words bytes.now ≡ []) (λ x. fields.words bytes.now
+        ≡ x.0.now ∷ fields.words x.1.now) }
     ensures shorter { IfSome result (λ x. length x.1.now < length bytes.now) }
 {
     let (_, rest) = bytes.split_at(blank_len(bytes));
@@ -48,7 +48,7 @@ pub fn next_word(bytes: &[u8]) -> Option<(&[u8], &[u8])>
 fn number_after(digits: &[u8]) -> u16
     requires few { length digits.now ≤ 4 }
     requires decimal { list_all is_ascii_digit digits.now ≡ true }
-    ensures value { result ≡ number_after 0 digits.now }
+    ensures value { result ≡ fields.number_after 0 digits.now }
     ensures bound { result < 10000 }
 {
     let mut value = 0;
@@ -65,7 +65,7 @@ fn has_digits_alone(word: &[u8]) -> bool
 }
 
 fn is_number(word: &[u8]) -> bool
-    ensures { result ≡ is_number word.now }
+    ensures { result ≡ fields.is_number word.now }
 {
     if word.is_empty() || 4 < word.len() {
         return false;
@@ -75,7 +75,7 @@ fn is_number(word: &[u8]) -> bool
 
 /// The number that a word of one to four digits spells.
 pub fn number_of(word: &[u8]) -> Option<u16>
-    ensures value { result ≡ number_of word.now }
+    ensures value { result ≡ fields.number_of word.now }
     ensures bound { IfSome result (λ n. n < 10000) }
 {
     if is_number(word) {
@@ -87,7 +87,7 @@ pub fn number_of(word: &[u8]) -> Option<u16>
 
 /// The one number of a field, 0 to 9999.
 pub fn number_in(field: &[u8]) -> Option<u16>
-    ensures value { result ≡ number_in (words field.now) }
+    ensures value { result ≡ fields.number_in (fields.words field.now) }
     ensures bound { IfSome result (λ n. n < 10000) }
 {
     let (word, rest) = next_word(field)?;
@@ -100,7 +100,7 @@ pub fn number_in(field: &[u8]) -> Option<u16>
 // The half points behind a decimal point, of whole points in front of it.
 fn half_after(whole: u16, digits: &[u8]) -> Option<u16>
     requires { whole < 10000 }
-    ensures value { result ≡ half_after whole digits.now }
+    ensures value { result ≡ fields.half_after whole digits.now }
     ensures bound { IfSome result (λ points. points < 20000) }
 {
     match digits {
@@ -113,7 +113,7 @@ fn half_after(whole: u16, digits: &[u8]) -> Option<u16>
 // The half points that a text of few bytes spells.
 fn points_after(word: &[u8]) -> Option<u16>
     requires { length word.now ≤ 4 }
-    ensures value { result ≡ points_after 0 word.now }
+    ensures value { result ≡ fields.points_after 0 word.now }
     ensures bound { IfSome result (λ points. points < 20000) }
 {
     let mut whole = 0;
@@ -131,7 +131,7 @@ fn points_after(word: &[u8]) -> Option<u16>
 
 /// The half points that a word of one to four bytes spells.
 pub(crate) fn points_of(word: &[u8]) -> Option<u16>
-    ensures value { result ≡ points_of word.now }
+    ensures value { result ≡ fields.points_of word.now }
     ensures bound { IfSome result (λ points. points < 20000) }
 {
     if 1 <= word.len() && word.len() <= 4 {
@@ -143,7 +143,7 @@ pub(crate) fn points_of(word: &[u8]) -> Option<u16>
 
 /// The points of a field in half points, none if it is blank; no answer if it is neither.
 pub fn points_in(field: &[u8]) -> Option<Option<u16>>
-    ensures value { result ≡ points_in (words field.now) }
+    ensures value { result ≡ fields.points_in (fields.words field.now) }
     ensures bound { IfSome result (λ points. IfSome points (λ p. p < 20000)) }
 {
     let Some((word, rest)) = next_word(field) else {
@@ -157,7 +157,7 @@ pub fn points_in(field: &[u8]) -> Option<Option<u16>>
 
 /// A text without the blanks at its end.
 pub fn trimmed(bytes: &[u8]) -> &[u8]
-    ensures { result.now ≡ trimmed bytes.now }
+    ensures { result.now ≡ fields.trimmed bytes.now }
 {
     let mut rest = bytes;
     while let Some((last, front)) = rest.split_last() {
@@ -171,7 +171,7 @@ pub fn trimmed(bytes: &[u8]) -> &[u8]
 
 /// A text without the blanks at its ends.
 pub fn without_blanks(bytes: &[u8]) -> &[u8]
-    ensures { result.now ≡ without_blanks bytes.now }
+    ensures { result.now ≡ fields.without_blanks bytes.now }
 {
     for (i, byte) in bytes.iter().enumerate() {
         if *byte != b' ' {

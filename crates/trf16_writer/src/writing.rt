@@ -5,37 +5,34 @@ ghost use Rattle.std.specs.List.{flat_map};
 ghost use Rattle.trf16_report.specs.Output.{use_of, Puts};
 ghost use Rattle.trf16_writer.specs.Steps.{next_text, players_behind};
 ghost use Rattle.trf16_report.specs.Sheet.{entry_of};
-ghost use Rattle.trf16_report.specs.Written.{blanks, right_in_four, left_in, points_text, points_field, bye_letter};
-ghost use Rattle.trf16_report.specs.Written.{colour_letter, outcome_letter, meeting_text, cell_text, round_text, player_text};
-ghost use Rattle.trf16_report.specs.Written.{written};
+ghost use Rattle.trf16_report.specs.Written as texts;
 
 use indexmap::map::Values;
 use itoa::Buffer;
-use trf16_report::{
-    Bye, Cell, Colour, Failed, GameOutcome, Player, Report, Sink, column_count, put_all,
-};
+use trf16_report as report;
+use trf16_report::{Cell, Colour, Failed, GameOutcome, Player, Report, Sink};
 
 // As many blanks as the widest field has columns.
 const BLANKS: [u8; 72] = [b' '; 72];
 
 fn put_blanks<W: Sink>(w: &mut W, count: usize) -> Result<(), Failed>
     requires { count ≤ 72 }
-    ensures { Puts (blanks count) (use_of W.held W.failures w.old w.new) result }
+    ensures { Puts (texts.blanks count) (use_of W.held W.failures w.old w.new) result }
 {
-    put_all(w, BLANKS.split_at(count).0)
+    report::put_all(w, BLANKS.split_at(count).0)
 }
 
 // A text at the right of four columns.
 #[tactic(auto, using(trf16_report::proofs::OutputLemmas::put_both, trf16_report::proofs::OutputLemmas::put_neither))]
 fn put_right<W: Sink>(w: &mut W, text: &[u8]) -> Result<(), Failed>
-    ensures { Puts (right_in_four text.now) (use_of W.held W.failures w.old w.new) result }
+    ensures { Puts (texts.right_in_four text.now) (use_of W.held W.failures w.old w.new) result }
 {
     put_blanks(w, 4usize.saturating_sub(text.len()))?;
-    put_all(w, text)
+    report::put_all(w, text)
 }
 
 fn put_number<W: Sink>(w: &mut W, number: u16) -> Result<(), Failed>
-    ensures { Puts (right_in_four (decimal number)) (use_of W.held W.failures w.old w.new) result }
+    ensures { Puts (texts.right_in_four (decimal number)) (use_of W.held W.failures w.old w.new) result }
 {
     let mut buffer = Buffer::new();
     put_right(w, buffer.format(number).as_bytes())
@@ -44,15 +41,15 @@ fn put_number<W: Sink>(w: &mut W, number: u16) -> Result<(), Failed>
 // Half points as points with one decimal.
 fn put_decimal<W: Sink>(w: &mut W, whole: &[u8], points: u16) -> Result<(), Failed>
     requires { whole.now ≡ decimal (points / 2) }
-    ensures { Puts (points_text points) (use_of W.held W.failures w.old w.new) result }
+    ensures { Puts (texts.points_text points) (use_of W.held W.failures w.old w.new) result }
 {
-    put_all(w, whole)?;
-    put_all(w, if points % 2 == 0 { b".0" } else { b".5" })
+    report::put_all(w, whole)?;
+    report::put_all(w, if points % 2 == 0 { b".0" } else { b".5" })
 }
 
 // Half points as points, right in four columns.
 fn put_points<W: Sink>(w: &mut W, points: u16) -> Result<(), Failed>
-    ensures { Puts (right_in_four (points_text points)) (use_of W.held W.failures w.old w.new) result }
+    ensures { Puts (texts.right_in_four (texts.points_text points)) (use_of W.held W.failures w.old w.new) result }
 {
     let mut buffer = Buffer::new();
     let whole = buffer.format(points / 2).as_bytes();
@@ -61,7 +58,7 @@ fn put_points<W: Sink>(w: &mut W, points: u16) -> Result<(), Failed>
 }
 
 fn put_points_field<W: Sink>(w: &mut W, points: Option<u16>) -> Result<(), Failed>
-    ensures { Puts (points_field points) (use_of W.held W.failures w.old w.new) result }
+    ensures { Puts (texts.points_field points) (use_of W.held W.failures w.old w.new) result }
 {
     match points {
         Some(points) => put_points(w, points),
@@ -72,25 +69,25 @@ fn put_points_field<W: Sink>(w: &mut W, points: Option<u16>) -> Result<(), Faile
 // A text at the left of some columns.
 fn put_left<W: Sink>(w: &mut W, utf8: bool, width: usize, text: &[u8]) -> Result<(), Failed>
     requires { width ≤ 72 }
-    ensures { Puts (left_in utf8 width text.now) (use_of W.held W.failures w.old w.new) result }
+    ensures { Puts (texts.left_in utf8 width text.now) (use_of W.held W.failures w.old w.new) result }
 {
-    put_all(w, text)?;
-    put_blanks(w, width.saturating_sub(column_count(text, utf8)))
+    report::put_all(w, text)?;
+    put_blanks(w, width.saturating_sub(report::column_count(text, utf8)))
 }
 
-fn bye_text(bye: Bye) -> &'static [u8]
-    ensures { result.now ≡ codes "0000 - " ++ (bye_letter bye ∷ []) }
+fn bye_text(bye: report::Bye) -> &'static [u8]
+    ensures { result.now ≡ codes "0000 - " ++ (texts.bye_letter bye ∷ []) }
 {
     match bye {
-        Bye::Half => b"0000 - H",
-        Bye::Full => b"0000 - F",
-        Bye::Allocated => b"0000 - U",
-        Bye::Zero => b"0000 - Z",
+        report::Bye::Half => b"0000 - H",
+        report::Bye::Full => b"0000 - F",
+        report::Bye::Allocated => b"0000 - U",
+        report::Bye::Zero => b"0000 - Z",
     }
 }
 
 fn colour_letter(colour: Option<Colour>) -> u8
-    ensures { result ≡ colour_letter colour }
+    ensures { result ≡ texts.colour_letter colour }
 {
     match colour {
         None => b'-',
@@ -100,7 +97,7 @@ fn colour_letter(colour: Option<Colour>) -> u8
 }
 
 fn outcome_letter(rated: bool, got: GameOutcome) -> u8
-    ensures { result ≡ outcome_letter rated got }
+    ensures { result ≡ texts.outcome_letter rated got }
 {
     match (rated, got) {
         (true, GameOutcome::Win) => b'1',
@@ -119,18 +116,18 @@ fn put_meeting<W: Sink>(
     colour: Option<Colour>,
     letter: u8,
 ) -> Result<(), Failed>
-    ensures { Puts (meeting_text opponent colour letter) (use_of W.held W.failures w.old w.new) result }
+    ensures { Puts (texts.meeting_text opponent colour letter) (use_of W.held W.failures w.old w.new) result }
 {
     put_number(w, opponent)?;
-    put_all(w, &[b' ', colour_letter(colour), b' ', letter])
+    report::put_all(w, &[b' ', colour_letter(colour), b' ', letter])
 }
 
 fn put_cell<W: Sink>(w: &mut W, cell: &Cell) -> Result<(), Failed>
-    ensures { Puts (cell_text cell.now) (use_of W.held W.failures w.old w.new) result }
+    ensures { Puts (texts.cell_text cell.now) (use_of W.held W.failures w.old w.new) result }
 {
     match *cell {
         Cell::Blank => put_blanks(w, 8),
-        Cell::Bye(bye) => put_all(w, bye_text(bye)),
+        Cell::Bye(bye) => report::put_all(w, bye_text(bye)),
         Cell::Game {
             opponent,
             colour,
@@ -147,14 +144,14 @@ fn put_cell<W: Sink>(w: &mut W, cell: &Cell) -> Result<(), Failed>
 }
 
 fn put_round<W: Sink>(w: &mut W, cell: &Cell) -> Result<(), Failed>
-    ensures { Puts (round_text cell.now) (use_of W.held W.failures w.old w.new) result }
+    ensures { Puts (texts.round_text cell.now) (use_of W.held W.failures w.old w.new) result }
 {
-    put_all(w, b"  ")?;
+    report::put_all(w, b"  ")?;
     put_cell(w, cell)
 }
 
 fn put_rounds<W: Sink>(w: &mut W, cells: &[Cell]) -> Result<(), Failed>
-    ensures { Puts (flat_map round_text cells.now) (use_of W.held W.failures w.old w.new) result }
+    ensures { Puts (flat_map texts.round_text cells.now) (use_of W.held W.failures w.old w.new) result }
 {
     for cell in cells {
         put_round(w, cell)?;
@@ -163,9 +160,9 @@ fn put_rounds<W: Sink>(w: &mut W, cells: &[Cell]) -> Result<(), Failed>
 }
 
 fn put_player<W: Sink>(w: &mut W, utf8: bool, player: &Player<'_>) -> Result<(), Failed>
-    ensures { Puts (player_text utf8 (entry_of player.now)) (use_of W.held W.failures w.old w.new) result }
+    ensures { Puts (texts.player_text utf8 (entry_of player.now)) (use_of W.held W.failures w.old w.new) result }
 {
-    put_all(w, b"001 ")?;
+    report::put_all(w, b"001 ")?;
     put_number(w, player.start)?;
     put_left(w, utf8, 72, player.left)?;
     put_points_field(w, player.points)?;
@@ -178,8 +175,8 @@ fn put_player<W: Sink>(w: &mut W, utf8: bool, player: &Player<'_>) -> Result<(),
 fn put_line<W: Sink>(w: &mut W, line: &[u8]) -> Result<(), Failed>
     ensures { Puts (line.now ++ (10 ∷ [])) (use_of W.held W.failures w.old w.new) result }
 {
-    put_all(w, line)?;
-    put_all(w, b"\n")
+    report::put_all(w, line)?;
+    report::put_all(w, b"\n")
 }
 
 /// Puts the line of a player in TRF16's columns, with LF behind it; a column is a character if the report is UTF-8,
@@ -189,10 +186,11 @@ pub(crate) fn put_player_line<W: Sink>(
     utf8: bool,
     player: &Player<'_>,
 ) -> Result<(), Failed>
-    ensures { Puts (player_text utf8 (entry_of player.now) ++ (10 ∷ [])) (use_of W.held W.failures w.old w.new) result }
+    ensures { Puts (texts.player_text utf8 (entry_of player.now)
+        ++ (10 ∷ [])) (use_of W.held W.failures w.old w.new) result }
 {
     put_player(w, utf8, player)?;
-    put_all(w, b"\n")
+    report::put_all(w, b"\n")
 }
 
 // The next line: one that is carried, or that of the next player.
@@ -220,7 +218,7 @@ fn put_next<W: Sink>(
 /// TRF16's columns, all ended by LF, with no byte order mark in front. It fails only if the sink does; then a part of
 /// the text was written, which ends before the text does.
 pub fn write<W: Sink>(report: &Report<'_>, w: &mut W) -> Result<(), Failed>
-    ensures { Puts (written report.now) (use_of W.held W.failures w.old w.new) result }
+    ensures { Puts (texts.written report.now) (use_of W.held W.failures w.old w.new) result }
 {
     let mut players = report.players();
     let mut lines = report.carried_lines();
