@@ -18,7 +18,7 @@ use crate::grammar::cell_from;
 use std::alloc::Global;
 use std::str;
 use trf16_report as report;
-use trf16_report::{Cell, Draft, Fault, Line, Notes, Player, Report};
+use trf16_report::{Cell, Draft, Fault, Line, LineKind, Notes, Player, Report};
 
 // Column k of line n must be blank.
 #[tactic(auto, unfolding(trf16_report::specs::Verdict::blank_at))]
