@@ -5,7 +5,7 @@ ghost use Rattle.dutch_order.specs.Prelude.{Fits};
 
 use crate::rules::{AMPLE, Free, raised};
 use dutch_order as order;
-use dutch_order::{Bound, Bracket, Budget, Candidates, Cursor, Prefix, Shape, Step};
+use dutch_order::{Bound, Bracket, Budget, Candidates, Cursor, Prefix, Rule, Shape, Step};
 use std::alloc::Global;
 use std::test::Fail;
 
