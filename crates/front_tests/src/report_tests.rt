@@ -5,7 +5,7 @@ use dutch_pair::{Outcome, pair_round};
 use dutch_player::Field;
 use std::alloc::Global;
 use std::test::Fail;
-use trf16::{Cell, Fault, Kind, Report};
+use trf16::{Cell, Fault, Kind, Pairs, Report};
 
 fn says_who_is_there(report: &Report<'_>) -> bool {
     report.count() == 6

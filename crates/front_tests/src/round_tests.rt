@@ -184,10 +184,10 @@ fn is_worse_in_colours(quality: &Quality, chosen: &Quality) -> bool {
 #[test]
 fn a_bracket_is_explained(rt: HostRuntime) -> Result<(), Fail> {
     let field = reports::field_of(rt.alloc(), &reports::ONE_MOVES_DOWN, None)?;
-    let AllStages::Paired { pair::stages, bye } = pair::stages(rt.alloc(), &field, AMPLE)? else {
+    let AllStages::Paired { stages, bye } = pair::stages(rt.alloc(), &field, AMPLE)? else {
         return Err(Fail::new("the round is not paired"));
     };
-    let [_, stage, _] = pair::stages.as_slice() else {
+    let [_, stage, _] = stages.as_slice() else {
         return Err(Fail::new("there are not three brackets"));
     };
     assert!(rt; bye.is_empty() && is_explained(rt.alloc(), &field, stage)?);
@@ -206,16 +206,16 @@ fn quality_again(field: &Field, stage: &Stage) -> Option<Quality>
         limit: AMPLE,
         used: 0,
     };
-    quality(field, stage.reached(), stage.candidate(), next, &mut budget)
+    pair::quality(field, stage.reached(), stage.candidate(), next, &mut budget)
 }
 
 #[test]
 fn the_quality_of_a_candidate(rt: HostRuntime) -> Result<(), Fail> {
     let field = reports::field_of(rt.alloc(), &reports::ONE_MOVES_DOWN, None)?;
-    let AllStages::Paired { pair::stages, bye: _bye } = pair::stages(rt.alloc(), &field, AMPLE)? else {
+    let AllStages::Paired { stages, bye: _bye } = pair::stages(rt.alloc(), &field, AMPLE)? else {
         return Err(Fail::new("the round is not paired"));
     };
-    let [_, stage, _] = pair::stages.as_slice() else {
+    let [_, stage, _] = stages.as_slice() else {
         return Err(Fail::new("there are not three brackets"));
     };
     let Some(again) = quality_again(&field, stage) else {

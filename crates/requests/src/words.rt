@@ -11,8 +11,8 @@ use crate::commands::{
     COMMANDS, CommandName, CommandResult, HelpTexts, command_for, command_named,
 };
 use crate::entries_in::enter_options;
+use crate::options;
 use crate::options::WordFault;
-use crate::{options, options};
 use clap::error::ErrorKind;
 use clap::{ArgMatches, Command, Error};
 use dutch_arrangements::Cursor;
