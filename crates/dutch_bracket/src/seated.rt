@@ -33,7 +33,7 @@ impl Model for Seated {
     ghost use Rattle.dutch_sequence.specs.declared.numbers.TheConstants.{LIMIT};
     ghost use Rattle.dutch_bracket.specs.Seated.{Seated};
 
-    ghost Value = { seating.Seated };
+    ghost Value = { Seated };
 
     ghost view = { λ s. record { pairs = s.pairs.items; down = s.down.items; lowest = s.lowest } };
 

@@ -58,10 +58,10 @@ impl<'a> Model for Floors<'a> {
 
     ghost view = { λ f. basis_for f.shaped f.outlook };
 
-    ghost invariant = { λ f. let context = f.shaped.context.now in (brackets.IsOf context.facts context.reached)
+    ghost invariant = { λ f. let context = f.shaped.context.now in (IsOf context.facts context.reached)
         × (IsOutlookFrom f.shaped f.outlook)
         × (f.flat ≡ is_flat context.facts context.reached)
-        × (f.uniform ≡ brackets.is_uniform context.facts context.reached f.shaped.shape)
+        × (f.uniform ≡ is_uniform context.facts context.reached f.shaped.shape)
         × (f.first.value.items ≡ numbers_from 1 f.shaped.shape.mdps)
         × (AreWants context.facts context.reached f.wants × (f.wants.firm ≡ false))
         × (AreWants context.facts context.reached f.firm_wants × (f.firm_wants.firm ≡ true)) };
@@ -177,7 +177,7 @@ impl<'a> Floors<'a> {
     /// nothing.
     pub fn has_no_better_next(&self, prefix: &Prefix<'_>, quality: &Quality) -> bool
         ensures { result ≡ true → NoneHasBetterNext self.now prefix.now (brackets.next_in
-        (brackets.quality_in quality.now)) }
+            (brackets.quality_in quality.now)) }
     {
         self.awaits_no_better(prefix, quality)
     }

@@ -54,14 +54,14 @@ impl<'a> Model for Weighing<'a> {
 
     ghost Value = { Weighing };
 
-    ghost view = { λ w. tables.weighed_on w.context.now w.scale };
+    ghost view = { λ w. weighed_on w.context.now w.scale };
 
     ghost invariant = { λ w.
-        (tables.HasPairs (tables.weighed_on w.context.now w.scale) w.pairs
-        × tables.TellsPairs (tables.weighed_on w.context.now w.scale) w.pairs)
-        × (tables.HasAll (tables.weighed_on w.context.now w.scale) w.down.items
-        × tables.TellsDown (tables.weighed_on w.context.now w.scale) w.down.items)
-        × tables.TellsBelow (tables.weighed_on w.context.now w.scale) w.next.items };
+        (HasPairs (weighed_on w.context.now w.scale) w.pairs
+        × TellsPairs (weighed_on w.context.now w.scale) w.pairs)
+        × (HasAll (weighed_on w.context.now w.scale) w.down.items
+        × TellsDown (weighed_on w.context.now w.scale) w.down.items)
+        × TellsBelow (weighed_on w.context.now w.scale) w.next.items };
 }
 
 /// What the weights of a bracket are worked out by.
@@ -77,7 +77,7 @@ impl<'a> Model for Weigher<'a> {
 
     ghost Value = { Weighing };
 
-    ghost view = { λ w. tables.weighed_on w.context.now w.scale.now };
+    ghost view = { λ w. weighed_on w.context.now w.scale.now };
 }
 
 /// Where a table of so many players has two numbers.
@@ -283,7 +283,7 @@ impl BelowWeigher<'_> {
     fn met(&self, a: u16) -> Option<Wide>
         requires { tables.IsNumberBelow self.now.weigher.now a }
         ensures { SomeIff result (tables.met_weight self.now.weigher.now a < 2 ^ 512)
-        (tables.met_weight self.now.weigher.now a) }
+            (tables.met_weight self.now.weigher.now a) }
     {
         let weigher = self.weigher;
         let context = weigher.context;
@@ -297,7 +297,7 @@ impl BelowWeigher<'_> {
     fn alone(&self, a: u16) -> Option<Wide>
         requires { tables.IsNumberBelow self.now.weigher.now a }
         ensures { SomeIff result (tables.alone_weight self.now.weigher.now a < 2 ^ 512)
-        (tables.alone_weight self.now.weigher.now a) }
+            (tables.alone_weight self.now.weigher.now a) }
     {
         let weigher = self.weigher;
         let context = weigher.context;

@@ -78,7 +78,7 @@ pub(crate) struct Scoped<'a, 'b> {
 impl<'a, 'b> Model for Scoped<'a, 'b> {
     ghost use Rattle.dutch_weight_floors.specs.ScopedCosts.{MeasuresNext, Scoped, TellsSides};
 
-    ghost Value = { scoped.Scoped };
+    ghost Value = { Scoped };
 
     ghost view = { λ s. record {
       weighing = s.weighing.now;
@@ -89,8 +89,8 @@ impl<'a, 'b> Model for Scoped<'a, 'b> {
     } };
 
     ghost invariant = { λ s.
-        scoped.TellsSides s.weighing.now.reached.mdps s.scope.now s.sides.items
-        × scoped.MeasuresNext s.reach s.weighing.now.scale };
+        TellsSides s.weighing.now.reached.mdps s.scope.now s.sides.items
+        × MeasuresNext s.reach s.weighing.now.scale };
 }
 
 /// Where each number of a bracket stands in the arrangements of a scope.
@@ -395,9 +395,9 @@ impl<'a, 'b> Scoped<'a, 'b> {
 impl MatchingRule for Scoped<'_, '_> {
     ghost use Rattle.dutch_weight_floors.specs.ScopedCosts.{IsReached, costs_in};
 
-    ghost costs = { scoped.costs_in };
+    ghost costs = { costs_in };
 
-    ghost knows = { scoped.IsReached };
+    ghost knows = { IsReached };
 
     fn may_meet(&self, a: u16, b: u16) -> bool {
         match self.reach {
