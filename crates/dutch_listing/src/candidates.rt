@@ -14,8 +14,7 @@ ghost use Rattle.dutch_arrangements.specs.Arrangements.{Fits, arrangements, cand
 ghost use Rattle.dutch_sequence.specs.Choices.{is_member};
 ghost use Rattle.dutch_sequence.specs.Keys.{IsIn};
 ghost use Rattle.dutch_arrangements.specs.Levels.{Of, in_bracket, may_leave};
-ghost use Rattle.dutch_arrangements.specs.Listings.{AreCandidates, candidates_from, leaves_too_many, only_if};
-ghost use Rattle.dutch_arrangements.specs.Listings.{EndsAtOnce, TellsEnd, Gives, Ends, Stops, GivesPast, EndsPast, StopsPast};
+ghost use Rattle.dutch_arrangements.specs.Listings as listings;
 ghost use Rattle.dutch_listing.specs.Listed.{listed};
 ghost use Rattle.dutch_sequence.specs.Steps.{MatchDrawn, MatchStep, Passes, Spends};
 ghost use Rattle.dutch_sequence.specs.declared.steps.Step.TheVariants.{Found, End, Undecided};
@@ -87,7 +86,7 @@ fn ask_leave<R: Rule>(rule: &R, last: bool, down: &[u16], budget: &mut Budget) -
 /// All arrangements of a shape leave as many over: where these are two or more, and the bracket may leave at most one,
 /// none of them is a candidate.
 fn leaves_too_many(fitting: &FittingShape<'_>) -> bool
-    ensures { result ≡ leaves_too_many fitting.now.bracket.now fitting.now.shape }
+    ensures { result ≡ listings.leaves_too_many fitting.now.bracket.now fitting.now.shape }
 {
     fitting.bracket.is_last() && fitting.bracket.len() - 2 * fitting.shape.pairs > 1
 }
@@ -100,7 +99,8 @@ fn draw_listed<L: Arranges, C: Cuts>(
     budget: &mut Budget,
 ) -> Drawn
     ensures answer { let Pruned = C.Pruned cuts.old in
-        let before = listed (only_if drawing.old.is_kept (L.latest drawing.old.level)) ++ L.coming drawing.old.level in
+        let before = listed (listings.only_if drawing.old.is_kept (L.latest drawing.old.level))
+        ++ L.coming drawing.old.level in
         MatchDrawn result
         (Passes Pruned before (lists.new ∷ L.coming drawing.new.level) × (L.latest drawing.new.level ≡ lists.new))
         (Passes Pruned before [])
@@ -138,9 +138,9 @@ fn draw_legal<R: Rule, L: Arranges, C: Cuts>(
     ensures answer { let frame = tests.old.bracket.now in
         let may = may_leave (R.may_be_left tests.old.rule.now) frame in
         let before = filter may
-        (listed (only_if drawing.old.is_kept (L.latest drawing.old.level)) ++ L.coming drawing.old.level) in
+        (listed (listings.only_if drawing.old.is_kept (L.latest drawing.old.level)) ++ L.coming drawing.old.level) in
         let after = filter may
-        (listed (only_if drawing.new.is_kept (L.latest drawing.new.level)) ++ L.coming drawing.new.level) in
+        (listed (listings.only_if drawing.new.is_kept (L.latest drawing.new.level)) ++ L.coming drawing.new.level) in
         let Pruned = C.Pruned tests.old.cuts.now in
         MatchDrawn result
         (Passes Pruned before (candidate.new.lists ∷ after)
@@ -268,7 +268,8 @@ impl<'a, R: Rule> Candidates<'a, R> {
     fn begin(&mut self, fitting: FittingShape<'a>, own: Option<&Arrangement>)
         requires given { Of (λ cursor. IsIn cursor (arrangements fitting.bracket.now fitting.shape))
             (option_copied own) }
-        ensures coming { self.new.coming ≡ candidates_from (R.meets self.old.rule) (R.may_be_left self.old.rule)
+        ensures coming { self.new.coming ≡ listings.candidates_from (R.meets self.old.rule)
+            (R.may_be_left self.old.rule)
             fitting.entry.bracket.now fitting.entry.shape (option_copied own.entry) }
         ensures frame { self.new.frame ≡ fitting.entry.bracket.now }
         ensures shape { self.new.shape ≡ fitting.entry.shape }
@@ -342,15 +343,15 @@ impl<'a, R: Rule> Candidates<'a, R> {
         budget: &mut Budget,
     ) -> Step<()>
         ensures answer { MatchStep result
-            (λ _. GivesPast self.old self.new (C.Pruned cuts.old) candidate.new)
-            (EndsPast self.old self.new (C.Pruned cuts.old))
-            (StopsPast self.old self.new (C.Pruned cuts.old) budget.new) }
-        ensures candidates { AreCandidates (R.meets self.old.rule)
+            (λ _. listings.GivesPast self.old self.new (C.Pruned cuts.old) candidate.new)
+            (listings.EndsPast self.old self.new (C.Pruned cuts.old))
+            (listings.StopsPast self.old self.new (C.Pruned cuts.old) budget.new) }
+        ensures candidates { listings.AreCandidates (R.meets self.old.rule)
             (R.may_be_left self.old.rule) self.old.frame self.old.shape self.old.coming }
-        ensures too_many_left { leaves_too_many self.old.frame self.old.shape ≡ true
-            → EndsAtOnce result budget.old budget.new }
-        ensures ended { TellsEnd self.old self.new result }
-        ensures after_end { self.old.ended ≡ true → EndsAtOnce result budget.old budget.new }
+        ensures too_many_left { listings.leaves_too_many self.old.frame self.old.shape ≡ true
+            → listings.EndsAtOnce result budget.old budget.new }
+        ensures ended { listings.TellsEnd self.old self.new result }
+        ensures after_end { self.old.ended ≡ true → listings.EndsAtOnce result budget.old budget.new }
         ensures frame { self.new.frame ≡ self.old.frame }
         ensures shape { self.new.shape ≡ self.old.shape }
         ensures rule { self.new.rule ≡ self.old.rule }
@@ -383,12 +384,12 @@ impl<'a, R: Rule> Candidates<'a, R> {
 
     /// Fills `candidate` with the next one, as `next` gives it.
     pub fn put_next(&mut self, candidate: &mut Candidate, budget: &mut Budget) -> Step<()>
-        ensures answer { MatchStep result (λ _. Gives self.old self.new candidate.new)
-            (Ends self.old self.new) (Stops self.old self.new budget.new) }
-        ensures too_many_left { leaves_too_many self.old.frame self.old.shape ≡ true
-            → EndsAtOnce result budget.old budget.new }
-        ensures ended { TellsEnd self.old self.new result }
-        ensures after_end { self.old.ended ≡ true → EndsAtOnce result budget.old budget.new }
+        ensures answer { MatchStep result (λ _. listings.Gives self.old self.new candidate.new)
+            (listings.Ends self.old self.new) (listings.Stops self.old self.new budget.new) }
+        ensures too_many_left { listings.leaves_too_many self.old.frame self.old.shape ≡ true
+            → listings.EndsAtOnce result budget.old budget.new }
+        ensures ended { listings.TellsEnd self.old self.new result }
+        ensures after_end { self.old.ended ≡ true → listings.EndsAtOnce result budget.old budget.new }
         ensures frame { self.new.frame ≡ self.old.frame }
         ensures shape { self.new.shape ≡ self.old.shape }
         ensures rule { self.new.rule ≡ self.old.rule }
@@ -402,12 +403,12 @@ impl<'a, R: Rule> Candidates<'a, R> {
     /// may leave over at most one player and the shape leaves more, the answer is `End`, without a step. After `End`
     /// every further call answers `End` without a step.
     pub fn next(&mut self, budget: &mut Budget) -> Step<Candidate>
-        ensures answer { MatchStep result (λ c. Gives self.old self.new c)
-            (Ends self.old self.new) (Stops self.old self.new budget.new) }
-        ensures too_many_left { leaves_too_many self.old.frame self.old.shape ≡ true
-            → EndsAtOnce result budget.old budget.new }
-        ensures ended { TellsEnd self.old self.new result }
-        ensures after_end { self.old.ended ≡ true → EndsAtOnce result budget.old budget.new }
+        ensures answer { MatchStep result (λ c. listings.Gives self.old self.new c)
+            (listings.Ends self.old self.new) (listings.Stops self.old self.new budget.new) }
+        ensures too_many_left { listings.leaves_too_many self.old.frame self.old.shape ≡ true
+            → listings.EndsAtOnce result budget.old budget.new }
+        ensures ended { listings.TellsEnd self.old self.new result }
+        ensures after_end { self.old.ended ≡ true → listings.EndsAtOnce result budget.old budget.new }
         ensures frame { self.new.frame ≡ self.old.frame }
         ensures shape { self.new.shape ≡ self.old.shape }
         ensures rule { self.new.rule ≡ self.old.rule }
@@ -437,13 +438,13 @@ impl<'a, R: Rule> Candidates<'a, R> {
         requires meets { B.meets within.old.bound.now ≡ R.meets self.old.rule }
         requires may_be_left { B.may_be_left within.old.bound.now ≡ R.may_be_left self.old.rule }
         ensures answer { MatchStep result
-            (λ _. GivesPast self.old self.new (λ a. B.is_pruned within.old.bound.now a ≡ true) candidate.new)
-            (EndsPast self.old self.new (λ a. B.is_pruned within.old.bound.now a ≡ true))
-            (StopsPast self.old self.new (λ a. B.is_pruned within.old.bound.now a ≡ true) budget.new) }
-        ensures too_many_left { leaves_too_many self.old.frame self.old.shape ≡ true
-            → EndsAtOnce result budget.old budget.new }
-        ensures ended { TellsEnd self.old self.new result }
-        ensures after_end { self.old.ended ≡ true → EndsAtOnce result budget.old budget.new }
+            (λ _. listings.GivesPast self.old self.new (λ a. B.is_pruned within.old.bound.now a ≡ true) candidate.new)
+            (listings.EndsPast self.old self.new (λ a. B.is_pruned within.old.bound.now a ≡ true))
+            (listings.StopsPast self.old self.new (λ a. B.is_pruned within.old.bound.now a ≡ true) budget.new) }
+        ensures too_many_left { listings.leaves_too_many self.old.frame self.old.shape ≡ true
+            → listings.EndsAtOnce result budget.old budget.new }
+        ensures ended { listings.TellsEnd self.old self.new result }
+        ensures after_end { self.old.ended ≡ true → listings.EndsAtOnce result budget.old budget.new }
         ensures frame { self.new.frame ≡ self.old.frame }
         ensures shape { self.new.shape ≡ self.old.shape }
         ensures rule { self.new.rule ≡ self.old.rule }
@@ -464,13 +465,13 @@ impl<'a, R: Rule> Candidates<'a, R> {
         requires meets { B.meets bound.now ≡ R.meets self.old.rule }
         requires may_be_left { B.may_be_left bound.now ≡ R.may_be_left self.old.rule }
         ensures answer { MatchStep result
-            (λ c. GivesPast self.old self.new (λ a. B.is_pruned bound.now a ≡ true) c)
-            (EndsPast self.old self.new (λ a. B.is_pruned bound.now a ≡ true))
-            (StopsPast self.old self.new (λ a. B.is_pruned bound.now a ≡ true) budget.new) }
-        ensures too_many_left { leaves_too_many self.old.frame self.old.shape ≡ true
-            → EndsAtOnce result budget.old budget.new }
-        ensures ended { TellsEnd self.old self.new result }
-        ensures after_end { self.old.ended ≡ true → EndsAtOnce result budget.old budget.new }
+            (λ c. listings.GivesPast self.old self.new (λ a. B.is_pruned bound.now a ≡ true) c)
+            (listings.EndsPast self.old self.new (λ a. B.is_pruned bound.now a ≡ true))
+            (listings.StopsPast self.old self.new (λ a. B.is_pruned bound.now a ≡ true) budget.new) }
+        ensures too_many_left { listings.leaves_too_many self.old.frame self.old.shape ≡ true
+            → listings.EndsAtOnce result budget.old budget.new }
+        ensures ended { listings.TellsEnd self.old self.new result }
+        ensures after_end { self.old.ended ≡ true → listings.EndsAtOnce result budget.old budget.new }
         ensures frame { self.new.frame ≡ self.old.frame }
         ensures shape { self.new.shape ≡ self.old.shape }
         ensures rule { self.new.rule ≡ self.old.rule }

@@ -12,8 +12,7 @@ ghost use Rattle.dutch_arrangements.specs.Arrangements.{Arrangement, arrangement
 ghost use Rattle.dutch_sequence.specs.Choices.{all_meet, left_of, joined, tuples};
 ghost use Rattle.dutch_sequence.specs.Keys.{IsIn};
 ghost use Rattle.dutch_sequence.specs.Transposition.{all_tuples};
-ghost use Rattle.dutch_arrangements.specs.Levels.{HasS1r, HasS2, HasS2r, Of, choices_from, if_own, in_bracket, in_s1, in_s1r, in_s2, s1_blocks, s1r_blocks, s2_blocks};
-ghost use Rattle.dutch_arrangements.specs.Levels.{without_own};
+ghost use Rattle.dutch_arrangements.specs.Levels as levels;
 ghost use Rattle.dutch_arrangements.specs.Past.{IsPassedTuple};
 ghost use Rattle.dutch_sequence.specs.Steps.{MatchDrawn, Passes, Spends};
 
@@ -23,8 +22,7 @@ use crate::past::{Chooser, Chosen, choose_next, choose_set, choose_tuple};
 use dutch_arrangements::{Arrangement, Filling, FittingShape, LastArrangement, Prefix};
 use dutch_sequence::numbers::{is_same, put_left_of, refill};
 use dutch_sequence::{
-    Budget, Drawn, Exchanges, Generator, LimboExchanges, Meeting, Numbers, Rule, Sides,
-    Transpositions,
+    Budget, Drawn, Exchanges, Generator, LimboExchanges, Meeting, Numbers, Rule, Transpositions,
 };
 use std::marker::Model;
 
@@ -96,9 +94,9 @@ impl<'a, R: Rule> ByS2r<'a, R> {
     /// Begins anew, behind the cursor that waits here.
     #[tactic(auto, unfolding(dutch_arrangements::specs::Levels::in_s1r))]
     fn start(&mut self, from: &InS1r<'_>, rule: &'a R)
-        requires same { Of (λ cursor. cursor.s1r ≡ from.now.s1r.now.items) self.old.own }
-        requires given { Of (HasS2r from.now.remainder.now.items) self.old.own }
-        ensures { self.new.coming ≡ in_s1r (R.meets rule.now) from.now.s1.now.items from.now.s2.now.items
+        requires same { levels.Of (λ cursor. cursor.s1r ≡ from.now.s1r.now.items) self.old.own }
+        requires given { levels.Of (levels.HasS2r from.now.remainder.now.items) self.old.own }
+        ensures { self.new.coming ≡ levels.in_s1r (R.meets rule.now) from.now.s1.now.items from.now.s2.now.items
             from.now.remainder.now.items self.old.own from.now.s1r.now.items }
     {
         refill(&mut self.s1, from.s1);
@@ -116,11 +114,11 @@ impl<'a, R: Rule> ByS2r<'a, R> {
 impl<'a, R: Rule> Others<'a, R> {
     /// Begins anew, behind the cursor that waits here.
     fn start(&mut self, meeting: &Meeting<'_>, rule: &'a R)
-        requires given { Of (λ own. IsIn own.s2r (tuples meeting.now.pool.now (length meeting.now.first.now)))
+        requires given { levels.Of (λ own. IsIn own.s2r (tuples meeting.now.pool.now (length meeting.now.first.now)))
             self.old.resume }
         ensures resume { self.new.resume ≡ self.old.resume }
         ensures coming { self.new.s2r.choices.coming ≡ filter (all_meet (R.meets rule.now) meeting.now.first.now)
-            (choices_from (λ a. a.s2r) self.old.resume
+            (levels.choices_from (λ a. a.s2r) self.old.resume
             (all_tuples meeting.now.pool.now (length meeting.now.first.now))) }
     {
         match self.resume.get() {
@@ -132,7 +130,7 @@ impl<'a, R: Rule> Others<'a, R> {
 
 /// Yes if an S2R is that of the arrangement behind which the lists begin.
 fn is_own_s2r(resume: &LastArrangement, s2r: &Numbers) -> bool
-    ensures { result ≡ is_some (if_own (λ a. a.s2r) resume.now s2r.now.items) }
+    ensures { result ≡ is_some (levels.if_own (λ a. a.s2r) resume.now s2r.now.items) }
 {
     match resume.get() {
         Some(own) => is_same(s2r, &own.s2r),
@@ -149,11 +147,11 @@ fn choose_other<R: Rule, C: Cuts>(
 ) -> Drawn
     ensures answer { let IsPassed = IsPassedTuple (C.Pruned cuts.old) chosen.now.lists chosen.now.very_next in
         MatchDrawn result
-        (Passes IsPassed (without_own others.old.resume others.old.s2r.choices.coming)
-        (others.new.s2r.latest.items ∷ without_own others.new.resume others.new.s2r.choices.coming))
-        (Passes IsPassed (without_own others.old.resume others.old.s2r.choices.coming) [])
-        (Passes IsPassed (without_own others.old.resume others.old.s2r.choices.coming)
-        (without_own others.new.resume others.new.s2r.choices.coming)
+        (Passes IsPassed (levels.without_own others.old.resume others.old.s2r.choices.coming)
+        (others.new.s2r.latest.items ∷ levels.without_own others.new.resume others.new.s2r.choices.coming))
+        (Passes IsPassed (levels.without_own others.old.resume others.old.s2r.choices.coming) [])
+        (Passes IsPassed (levels.without_own others.old.resume others.old.s2r.choices.coming)
+        (levels.without_own others.new.resume others.new.s2r.choices.coming)
         × (budget.new.used ≡ budget.new.limit)) }
     ensures keeps { (a : Arrangement) → C.Pruned cuts.new a → C.Pruned cuts.old a }
     ensures spends { Spends budget.old budget.new }
@@ -289,19 +287,20 @@ impl<'a, R: Rule> ByS1r<'a, R> {
     /// Begins anew: all blocks, or those behind a cursor.
     #[tactic(auto, unfolding(dutch_arrangements::specs::Levels::in_s2))]
     fn start(&mut self, from: &InS2<'_>, own: Option<&Arrangement>, rule: &'a R)
-        requires given { Of (HasS1r from.now.k (left_of from.now.residents.now.items from.now.s2.now.items))
+        requires given { levels.Of (levels.HasS1r from.now.k
+            (left_of from.now.residents.now.items from.now.s2.now.items))
             (option_copied own) }
         ensures blocks { let l = self.new in
-            joined (s1r_blocks (R.meets l.rule) l.s1 l.s2 l.remainder (option_copied own.entry) l.coming)
-            ≡ in_s2 (R.meets rule.now) from.now.k from.now.s1.now.items
+            joined (levels.s1r_blocks (R.meets l.rule) l.s1 l.s2 l.remainder (option_copied own.entry) l.coming)
+            ≡ levels.in_s2 (R.meets rule.now) from.now.k from.now.s1.now.items
             from.now.residents.now.items (option_copied own.entry) from.now.s2.now.items }
-        ensures given { Of (HasS2r self.new.remainder) (option_copied own.entry) }
+        ensures given { levels.Of (levels.HasS2r self.new.remainder) (option_copied own.entry) }
     {
         refill(&mut self.s1, from.s1);
         refill(&mut self.s2, from.s2);
         put_left_of(from.residents, from.s2, &mut self.remainder);
         self.rule = rule;
-        let sides = Sides {
+        let sides = dutch_sequence::Sides {
             pool: &self.remainder,
             k: from.k,
         };
@@ -314,7 +313,7 @@ impl<'a, R: Rule> ByS1r<'a, R> {
 
 /// Yes if an S1R is that of the cursor behind which blocks begin.
 fn is_own_s1r(own: Option<&Arrangement>, s1r: &Numbers) -> bool
-    ensures { result ≡ is_some (if_own (λ a. a.s1r) (option_copied own.entry) s1r.now.items) }
+    ensures { result ≡ is_some (levels.if_own (λ a. a.s1r) (option_copied own.entry) s1r.now.items) }
 {
     match own {
         Some(own) => is_same(s1r, &own.s1r),
@@ -325,9 +324,9 @@ fn is_own_s1r(own: Option<&Arrangement>, s1r: &Numbers) -> bool
 impl<'a, R: Rule> Blocks for ByS1r<'a, R> {
     type Block = ByS2r<'a, R>;
 
-    ghost blocks = { λ l own. s1r_blocks (R.meets l.rule) l.s1 l.s2 l.remainder own l.coming };
+    ghost blocks = { λ l own. levels.s1r_blocks (R.meets l.rule) l.s1 l.s2 l.remainder own l.coming };
 
-    ghost HasOwn = { λ l. HasS2r l.remainder };
+    ghost HasOwn = { λ l. levels.HasS2r l.remainder };
 
     fn next_block<C: Cuts>(
         &mut self,
@@ -427,14 +426,14 @@ impl<'a, R: Rule> ByS2<'a, R> {
     /// Begins anew: all blocks, or those behind a cursor.
     #[tactic(auto, unfolding(dutch_arrangements::specs::Levels::in_s1))]
     fn start(&mut self, from: &InS1<'_>, own: Option<&Arrangement>, rule: &'a R)
-        requires same { Of (λ cursor. cursor.s1 ≡ from.now.s1.now.items) (option_copied own) }
-        requires given { Of (HasS2 from.now.k from.now.residents.now.items) (option_copied own) }
+        requires same { levels.Of (λ cursor. cursor.s1 ≡ from.now.s1.now.items) (option_copied own) }
+        requires given { levels.Of (levels.HasS2 from.now.k from.now.residents.now.items) (option_copied own) }
         ensures blocks { let l = self.new in
-            joined (s2_blocks (R.meets l.rule) l.k l.s1 l.residents (option_copied own.entry) l.coming)
-            ≡ in_s1 (R.meets rule.now) from.now.k from.now.residents.now.items
+            joined (levels.s2_blocks (R.meets l.rule) l.k l.s1 l.residents (option_copied own.entry) l.coming)
+            ≡ levels.in_s1 (R.meets rule.now) from.now.k from.now.residents.now.items
             (option_copied own.entry) from.now.s1.now.items }
         ensures given { let l = self.new in
-            Of (λ own. HasS1r l.k (left_of l.residents own.s2) own) (option_copied own.entry) }
+            levels.Of (λ own. levels.HasS1r l.k (left_of l.residents own.s2) own) (option_copied own.entry) }
     {
         self.k = from.k;
         refill(&mut self.s1, from.s1);
@@ -453,7 +452,7 @@ impl<'a, R: Rule> ByS2<'a, R> {
 
 /// Yes if an S2 is that of the cursor behind which blocks begin.
 fn is_own_s2(own: Option<&Arrangement>, s2: &Numbers) -> bool
-    ensures { result ≡ is_some (if_own (λ a. a.s2) (option_copied own.entry) s2.now.items) }
+    ensures { result ≡ is_some (levels.if_own (λ a. a.s2) (option_copied own.entry) s2.now.items) }
 {
     match own {
         Some(own) => is_same(s2, &own.s2),
@@ -464,9 +463,9 @@ fn is_own_s2(own: Option<&Arrangement>, s2: &Numbers) -> bool
 impl<'a, R: Rule> Blocks for ByS2<'a, R> {
     type Block = Level<ByS1r<'a, R>>;
 
-    ghost blocks = { λ l own. s2_blocks (R.meets l.rule) l.k l.s1 l.residents own l.coming };
+    ghost blocks = { λ l own. levels.s2_blocks (R.meets l.rule) l.k l.s1 l.residents own l.coming };
 
-    ghost HasOwn = { λ l own. HasS1r l.k (left_of l.residents own.s2) own };
+    ghost HasOwn = { λ l own. levels.HasS1r l.k (left_of l.residents own.s2) own };
 
     fn next_block<C: Cuts>(
         &mut self,
@@ -551,12 +550,12 @@ impl<'a, R: Rule> ByS1<'a, R> {
     /// Begins anew: all arrangements, or those that stand behind a cursor.
     #[tactic(auto, unfolding(dutch_arrangements::specs::Levels::in_bracket))]
     pub fn start(&mut self, from: &FittingShape<'_>, own: Option<&Arrangement>, rule: &'a R)
-        requires given { Of (λ cursor. IsIn cursor (arrangements from.now.bracket.now from.now.shape))
+        requires given { levels.Of (λ cursor. IsIn cursor (arrangements from.now.bracket.now from.now.shape))
             (option_copied own) }
         ensures blocks { let l = self.new in
-            joined (s1_blocks (R.meets l.rule) l.k l.residents (option_copied own.entry) l.coming)
-            ≡ in_bracket (R.meets rule.now) from.now.bracket.now from.now.shape (option_copied own.entry) }
-        ensures given { Of (HasS2 self.new.k self.new.residents) (option_copied own.entry) }
+            joined (levels.s1_blocks (R.meets l.rule) l.k l.residents (option_copied own.entry) l.coming)
+            ≡ levels.in_bracket (R.meets rule.now) from.now.bracket.now from.now.shape (option_copied own.entry) }
+        ensures given { levels.Of (levels.HasS2 self.new.k self.new.residents) (option_copied own.entry) }
     {
         let scores = &from.bracket.scores()[..from.bracket.mdps()];
         self.k = from.shape.pairs - from.shape.mdps;
@@ -571,7 +570,7 @@ impl<'a, R: Rule> ByS1<'a, R> {
 
 /// Yes if an S1 is that of the cursor behind which blocks begin.
 fn is_own_s1(own: Option<&Arrangement>, s1: &Numbers) -> bool
-    ensures { result ≡ is_some (if_own (λ a. a.s1) (option_copied own.entry) s1.now.items) }
+    ensures { result ≡ is_some (levels.if_own (λ a. a.s1) (option_copied own.entry) s1.now.items) }
 {
     match own {
         Some(own) => is_same(s1, &own.s1),
@@ -582,9 +581,9 @@ fn is_own_s1(own: Option<&Arrangement>, s1: &Numbers) -> bool
 impl<'a, R: Rule> Blocks for ByS1<'a, R> {
     type Block = Level<ByS2<'a, R>>;
 
-    ghost blocks = { λ l own. s1_blocks (R.meets l.rule) l.k l.residents own l.coming };
+    ghost blocks = { λ l own. levels.s1_blocks (R.meets l.rule) l.k l.residents own l.coming };
 
-    ghost HasOwn = { λ l. HasS2 l.k l.residents };
+    ghost HasOwn = { λ l. levels.HasS2 l.k l.residents };
 
     fn next_block<C: Cuts>(
         &mut self,

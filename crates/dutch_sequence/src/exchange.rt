@@ -20,10 +20,7 @@ ghost use Rattle.std.specs.List.{AllByRecursion};
 ghost use Rattle.std.specs.Result.{IsErr};
 ghost use Rattle.dutch_sequence.specs.Choices.{subsets, from_on};
 ghost use Rattle.dutch_sequence.specs.Sides.{count_of};
-ghost use Rattle.dutch_sequence.specs.Stages.{barred_numbers, held_numbers, in_limit, exchange_plan};
-ghost use Rattle.dutch_sequence.specs.Stages.{is_fixed, out_limit, fixed_numbers, class_from, free_moves_from};
-ghost use Rattle.dutch_sequence.specs.Stages.{IsSearchState, sets_from, trials_from, stages_ahead, set_of, kept_of, value_of};
-ghost use Rattle.dutch_sequence.specs.Stages.{following, out_places, in_places, exchange_path, exchange_difference};
+ghost use Rattle.dutch_sequence.specs.Stages as stages;
 ghost use Rattle.dutch_sequence.specs.Exchanged.{IsExchange};
 ghost use Rattle.dutch_sequence.specs.Exchange.{exchanges};
 ghost use Rattle.dutch_sequence.specs.Keys.{IsIn};
@@ -56,7 +53,7 @@ pub(crate) enum Side {
 
 /// The next difference after one, up to a greatest one.
 fn following_of(difference: usize, greatest: usize, beyond: Option<usize>) -> Option<usize>
-    ensures { result ≡ following difference greatest beyond }
+    ensures { result ≡ stages.following difference greatest beyond }
 {
     match beyond {
         None => None,
@@ -100,7 +97,7 @@ impl SearchState {
 
 /// The places of the numbers that a set has moved out, from the highest.
 fn out_places(sides: &Sides<'_>, set: &[u16]) -> Places<LIMIT>
-    ensures places { result.items ≡ out_places sides.now.pool.now sides.now.k set.now }
+    ensures places { result.items ≡ stages.out_places sides.now.pool.now sides.now.k set.now }
     ensures within { AllByRecursion (λ place. place < sides.now.k) result.items }
     ensures fits { length result.items ≤ sides.now.k }
 {
@@ -115,7 +112,7 @@ fn out_places(sides: &Sides<'_>, set: &[u16]) -> Places<LIMIT>
 
 /// The places of the numbers that a set has moved in, from the lowest.
 fn in_places(sides: &Sides<'_>, set: &[u16]) -> Places<LIMIT>
-    ensures places { result.items ≡ in_places sides.now.pool.now sides.now.k set.now }
+    ensures places { result.items ≡ stages.in_places sides.now.pool.now sides.now.k set.now }
     ensures within { AllByRecursion (λ place. place < length sides.now.pool.now - sides.now.k) result.items }
     ensures fits { length result.items ≤ length sides.now.pool.now - sides.now.k }
 {
@@ -130,12 +127,14 @@ fn in_places(sides: &Sides<'_>, set: &[u16]) -> Places<LIMIT>
 
 /// Begins a search anew at a set: in the set's stage, and no difference above the set's is passed over.
 fn enter_at(sides: &Sides<'_>, set: &[u16], state: &mut SearchState)
-    ensures size { state.new.size ≡ length (out_places sides.now.pool.now sides.now.k set.now) }
-    ensures difference { state.new.difference ≡ exchange_difference sides.now.pool.now sides.now.k set.now }
-    ensures hint { state.new.hint.items ≡ exchange_path sides.now.pool.now sides.now.k set.now }
+    ensures size { state.new.size ≡ length (stages.out_places sides.now.pool.now sides.now.k set.now) }
+    ensures difference { state.new.difference ≡ stages.exchange_difference sides.now.pool.now sides.now.k set.now }
+    ensures hint { state.new.hint.items ≡ stages.exchange_path sides.now.pool.now sides.now.k set.now }
     ensures path { state.new.descent.path ≡ [] }
-    ensures number { state.new.descent.number ≡ first_hint (exchange_path sides.now.pool.now sides.now.k set.now) }
-    ensures beyond { state.new.descent.beyond ≡ Some (suc (exchange_difference sides.now.pool.now sides.now.k set.now)) }
+    ensures number { state.new.descent.number
+        ≡ first_hint (stages.exchange_path sides.now.pool.now sides.now.k set.now) }
+    ensures beyond { state.new.descent.beyond
+        ≡ Some (suc (stages.exchange_difference sides.now.pool.now sides.now.k set.now)) }
 {
     state.hint = out_places(sides, set);
     let ins = in_places(sides, set);
@@ -152,18 +151,22 @@ fn enter_at(sides: &Sides<'_>, set: &[u16], state: &mut SearchState)
 #[tactic(auto, unfolding(crate::specs::Stages::stages_ahead))]
 fn next_stage(sides: &Sides<'_>, state: &mut SearchState) -> bool
     requires spent { ahead (hinted state.old.hint.items
-        (exchange_plan sides.now.pool.now sides.now.k state.old.size state.old.difference)) state.old.descent.path
+        (stages.exchange_plan sides.now.pool.now sides.now.k state.old.size state.old.difference))
+        state.old.descent.path
         state.old.descent.number
         ≡ [] }
-    requires standing { IsSearchState sides.now.pool.now sides.now.k state.old }
-    ensures stands { IsSearchState sides.now.pool.now sides.now.k state.new }
-    ensures sets { sets_from sides.now.pool.now sides.now.k state.new ≡ sets_from sides.now.pool.now sides.now.k state.old }
-    ensures trials { trials_from sides.now.pool.now sides.now.k state.new ≡ trials_from sides.now.pool.now sides.now.k state.old }
+    requires standing { stages.IsSearchState sides.now.pool.now sides.now.k state.old }
+    ensures stands { stages.IsSearchState sides.now.pool.now sides.now.k state.new }
+    ensures sets { stages.sets_from sides.now.pool.now sides.now.k state.new
+        ≡ stages.sets_from sides.now.pool.now sides.now.k state.old }
+    ensures trials { stages.trials_from sides.now.pool.now sides.now.k state.new
+        ≡ stages.trials_from sides.now.pool.now sides.now.k state.old }
     ensures nearer { result ≡ true
-        → stages_ahead sides.now.pool.now sides.now.k state.new.size state.new.difference
-        < stages_ahead sides.now.pool.now sides.now.k state.old.size state.old.difference }
+        → stages.stages_ahead sides.now.pool.now sides.now.k state.new.size state.new.difference
+        < stages.stages_ahead sides.now.pool.now sides.now.k state.old.size state.old.difference }
     ensures fresh { result ≡ true → free_moves state.new.descent ≤ 1 }
-    ensures ended { result ≡ false → (sets_from sides.now.pool.now sides.now.k state.new ≡ []) × (trials_from sides.now.pool.now sides.now.k state.new ≡ 0) }
+    ensures ended { result ≡ false → (stages.sets_from sides.now.pool.now sides.now.k state.new ≡ [])
+        × (stages.trials_from sides.now.pool.now sides.now.k state.new ≡ 0) }
 {
     if let Some(next) = following_of(
         state.difference,
@@ -211,7 +214,7 @@ enum Known {
 /// below the limit and not taken.
 fn is_fixed(fixed: &FixedSide<'_>, known: Known, place: usize) -> bool
     requires small { place ≤ 65535 }
-    ensures { result ≡ is_fixed fixed.now.taken.now fixed.now.limit known place }
+    ensures { result ≡ stages.is_fixed fixed.now.taken.now fixed.now.limit known place }
 {
     match known {
         Known::Chosen => fixed.taken.contains(&(place as u16)),
@@ -222,11 +225,12 @@ fn is_fixed(fixed: &FixedSide<'_>, known: Known, place: usize) -> bool
 /// Puts the numbers behind others of whose places it is known that they are chosen, or that they are passed over.
 fn put_fixed(stage: &ExchangeStage<'_>, fixed: &FixedSide<'_>, known: Known, numbers: &mut Numbers)
     requires room { length numbers.old.items
-        + length (fixed_numbers stage.now.pool.now stage.now.k fixed.now.side fixed.now.taken.now fixed.now.limit
+        + length (stages.fixed_numbers stage.now.pool.now stage.now.k fixed.now.side fixed.now.taken.now fixed.now.limit
         known)
         ≤ LIMIT }
     ensures { numbers.new.items ≡ numbers.old.items
-        ++ fixed_numbers stage.now.pool.now stage.now.k fixed.now.side fixed.now.taken.now fixed.now.limit known }
+        ++ stages.fixed_numbers stage.now.pool.now stage.now.k fixed.now.side fixed.now.taken.now fixed.now.limit
+        known }
 {
     let sides = Sides {
         pool: stage.pool,
@@ -244,7 +248,7 @@ fn put_fixed(stage: &ExchangeStage<'_>, fixed: &FixedSide<'_>, known: Known, num
 fn fixed_out<'a>(stage: &ExchangeStage<'_>, beginning: &'a [u16]) -> FixedSide<'a>
     ensures side { result.side ≡ Out }
     ensures taken { result.taken.now ≡ take stage.now.size beginning.now }
-    ensures limit { result.limit ≡ out_limit stage.now.pool.now stage.now.k stage.now.size beginning.now }
+    ensures limit { result.limit ≡ stages.out_limit stage.now.pool.now stage.now.k stage.now.size beginning.now }
 {
     if beginning.len() < stage.size {
         FixedSide {
@@ -266,7 +270,7 @@ fn fixed_out<'a>(stage: &ExchangeStage<'_>, beginning: &'a [u16]) -> FixedSide<'
 fn fixed_in<'a>(stage: &ExchangeStage<'_>, beginning: &'a [u16]) -> FixedSide<'a>
     ensures side { result.side ≡ In }
     ensures taken { result.taken.now ≡ drop stage.now.size beginning.now }
-    ensures limit { result.limit ≡ in_limit stage.now.pool.now stage.now.k stage.now.size beginning.now }
+    ensures limit { result.limit ≡ stages.in_limit stage.now.pool.now stage.now.k stage.now.size beginning.now }
 {
     if beginning.len() < stage.size {
         return FixedSide {
@@ -290,9 +294,9 @@ fn fixed_in<'a>(stage: &ExchangeStage<'_>, beginning: &'a [u16]) -> FixedSide<'a
 /// Fills a list with who is in the set of each path that begins so, and behind them with who is in none. The answer is
 /// how many the first are.
 fn put_held_and_barred(stage: &ExchangeStage<'_>, beginning: &[u16], numbers: &mut Numbers) -> usize
-    ensures held { take result numbers.new.items ≡ held_numbers stage.now.pool.now stage.now.k stage.now.size
+    ensures held { take result numbers.new.items ≡ stages.held_numbers stage.now.pool.now stage.now.k stage.now.size
         beginning.now }
-    ensures barred { drop result numbers.new.items ≡ barred_numbers stage.now.pool.now stage.now.k stage.now.size
+    ensures barred { drop result numbers.new.items ≡ stages.barred_numbers stage.now.pool.now stage.now.k stage.now.size
         beginning.now }
     ensures within { result ≤ length numbers.new.items }
 {
@@ -309,8 +313,8 @@ fn put_held_and_barred(stage: &ExchangeStage<'_>, beginning: &[u16], numbers: &m
 
 /// The class of the sets whose paths begin as the search's path does. The list is for who is in them, and who is not.
 fn exchange_at<'a>(sides: &Sides<'a>, state: &SearchState, numbers: &'a mut Numbers) -> Exchange<'a>
-    requires { IsSearchState sides.now.pool.now sides.now.k state.now }
-    ensures { result ≡ class_from sides.now.pool.now sides.now.k state.now }
+    requires { stages.IsSearchState sides.now.pool.now sides.now.k state.now }
+    ensures { result ≡ stages.class_from sides.now.pool.now sides.now.k state.now }
 {
     let stage = ExchangeStage {
         pool: sides.pool,
@@ -349,21 +353,21 @@ fn advance_set(
     state: &mut SearchState,
     budget: &mut Budget,
 ) -> Result<Progress, Stopped>
-    requires { IsSearchState sides.now.pool.now sides.now.k state.old }
-    ensures stands { IsSearchState sides.now.pool.now sides.now.k state.new }
-    ensures answer { let before = sets_from sides.now.pool.now sides.now.k state.old in
-        let after = sets_from sides.now.pool.now sides.now.k state.new in
+    requires { stages.IsSearchState sides.now.pool.now sides.now.k state.old }
+    ensures stands { stages.IsSearchState sides.now.pool.now sides.now.k state.new }
+    ensures answer { let before = stages.sets_from sides.now.pool.now sides.now.k state.old in
+        let after = stages.sets_from sides.now.pool.now sides.now.k state.new in
         MatchProgress result
         ((after ≡ before) × (asks ≡ AtBeginnings) × (0 < state.new.size)
-        × (way budget.new (free_moves_from sides.now.pool.now sides.now.k state.new)
-        < way budget.old (free_moves_from sides.now.pool.now sides.now.k state.old)))
-        ((before ≡ set_of sides.now.pool.now sides.now.k state.new.size state.new.descent.path ∷ after)
+        × (way budget.new (stages.free_moves_from sides.now.pool.now sides.now.k state.new)
+        < way budget.old (stages.free_moves_from sides.now.pool.now sides.now.k state.old)))
+        ((before ≡ stages.set_of sides.now.pool.now sides.now.k state.new.size state.new.descent.path ∷ after)
         × (length state.new.descent.path ≡ state.new.size + state.new.size))
-        ((before ≡ []) × (after ≡ []) × (trials_from sides.now.pool.now sides.now.k state.new ≡ 0))
+        ((before ≡ []) × (after ≡ []) × (stages.trials_from sides.now.pool.now sides.now.k state.new ≡ 0))
         ((after ≡ before) × (budget.new.used ≡ budget.new.limit)
-        × (asks ≡ Never → 0 < trials_from sides.now.pool.now sides.now.k state.new)) }
-    ensures steps { budget.new.used + trials_from sides.now.pool.now sides.now.k state.new
-        ≡ budget.old.used + trials_from sides.now.pool.now sides.now.k state.old }
+        × (asks ≡ Never → 0 < stages.trials_from sides.now.pool.now sides.now.k state.new)) }
+    ensures steps { budget.new.used + stages.trials_from sides.now.pool.now sides.now.k state.new
+        ≡ budget.old.used + stages.trials_from sides.now.pool.now sides.now.k state.old }
     ensures spends { Spends budget.old budget.new }
 {
     loop {
@@ -401,13 +405,14 @@ fn leave_sets(
     state: &mut SearchState,
     budget: &mut Budget,
 ) -> Result<(), Stopped>
-    requires stood { IsSearchState sides.now.pool.now sides.now.k state.old }
+    requires stood { stages.IsSearchState sides.now.pool.now sides.now.k state.old }
     requires exchanged { 0 < state.old.size }
-    ensures stands { IsSearchState sides.now.pool.now sides.now.k state.new }
-    ensures passes { Passes (IsExchange (class_from sides.now.pool.now sides.now.k state.old))
-        (sets_from sides.now.pool.now sides.now.k state.old) (sets_from sides.now.pool.now sides.now.k state.new) }
-    ensures same { free_moves_from sides.now.pool.now sides.now.k state.new
-        ≡ free_moves_from sides.now.pool.now sides.now.k state.old }
+    ensures stands { stages.IsSearchState sides.now.pool.now sides.now.k state.new }
+    ensures passes { Passes (IsExchange (stages.class_from sides.now.pool.now sides.now.k state.old))
+        (stages.sets_from sides.now.pool.now sides.now.k state.old)
+        (stages.sets_from sides.now.pool.now sides.now.k state.new) }
+    ensures same { stages.free_moves_from sides.now.pool.now sides.now.k state.new
+        ≡ stages.free_moves_from sides.now.pool.now sides.now.k state.old }
     ensures stopped { IsErr result → budget.new.used ≡ budget.new.limit }
     ensures spends { Spends budget.old budget.new }
 {
@@ -432,7 +437,7 @@ fn leave_sets(
 
 /// Fills a list with the original numbers that were not moved out, lowest first.
 fn put_kept(sides: &Sides<'_>, outs: &[u16], numbers: &mut Numbers)
-    ensures items { numbers.new.items ≡ kept_of sides.now.pool.now sides.now.k outs.now }
+    ensures items { numbers.new.items ≡ stages.kept_of sides.now.pool.now sides.now.k outs.now }
     ensures fits { length numbers.new.items ≤ sides.now.k }
 {
     numbers.clear();
@@ -448,7 +453,7 @@ fn put_kept(sides: &Sides<'_>, outs: &[u16], numbers: &mut Numbers)
 fn put_moved_in(sides: &Sides<'_>, ins: &[u16], numbers: &mut Numbers)
     requires within { AllByRecursion (λ place. place < length sides.now.pool.now - sides.now.k) ins.now }
     requires room { length numbers.old.items + length ins.now ≤ LIMIT }
-    ensures { numbers.new.items ≡ numbers.old.items ++ map (value_of sides.now.pool.now sides.now.k In) ins.now }
+    ensures { numbers.new.items ≡ numbers.old.items ++ map (stages.value_of sides.now.pool.now sides.now.k In) ins.now }
 {
     for place in ins {
         numbers.push(sides.pool[sides.k + *place as usize]);
@@ -457,9 +462,9 @@ fn put_moved_in(sides: &Sides<'_>, ins: &[u16], numbers: &mut Numbers)
 
 /// Fills a list with the set that a whole search has found.
 fn put_set(sides: &Sides<'_>, state: &SearchState, numbers: &mut Numbers)
-    requires standing { IsSearchState sides.now.pool.now sides.now.k state.now }
+    requires standing { stages.IsSearchState sides.now.pool.now sides.now.k state.now }
     requires whole { length state.now.descent.path ≡ state.now.size + state.now.size }
-    ensures { numbers.new.items ≡ set_of sides.now.pool.now sides.now.k state.now.size state.now.descent.path }
+    ensures { numbers.new.items ≡ stages.set_of sides.now.pool.now sides.now.k state.now.size state.now.descent.path }
 {
     let (outs, ins) = state.descent.path.as_slice().split_at(state.size);
     put_kept(sides, outs, numbers);
