@@ -66,8 +66,8 @@ class _Lengths(ctypes.Structure):
 
 
 _ERRORS = {it.status: it for it in (ReportRefused, BadWords, NoPairing, Undecided, Trouble)}
-# how many bytes most outputs and messages fit into; a longer one is asked for again
-_ROOMS = 1 << 16, 1 << 12
+# how many bytes an output and a message may have at first; a longer one is asked for again, with as much room as it needs from then on
+_ROOMS = 1 << 12, 1 << 10
 
 
 class Arbiter:
@@ -79,6 +79,8 @@ class Arbiter:
         self._run = ctypes.CDLL(os.fspath(library or beside)).arbiter_run
         self._run.restype = ctypes.c_uint8
         self._run.argtypes = [ctypes.c_char_p, ctypes.c_size_t] * 4 + [ctypes.POINTER(_Lengths)]
+        # (threads may set it at the same time: one that sets less than another only has its next caller ask again)
+        self._rooms = _ROOMS
 
     def call(self, report: bytes, *words: str) -> Answer:
         """Runs the words of a command line over a report, and returns what comes, whatever the status. A word has no line end."""
@@ -86,14 +88,14 @@ class Arbiter:
             if "\n" in word or "\r" in word:
                 raise ValueError(f"a word with a line end: {word!r}")
         text = "".join(f"{word}\n" for word in words).encode(errors="surrogateescape")
-        rooms = _ROOMS
+        rooms = self._rooms
         while True:
             output, message = (ctypes.create_string_buffer(room) for room in rooms)
             lengths = _Lengths()
             status = self._run(text, len(text), report, len(report), output, rooms[0], message, rooms[1], lengths)
             if lengths.output <= rooms[0] and lengths.message <= rooms[1]:
                 return Answer(status, ctypes.string_at(output, lengths.output), ctypes.string_at(message, lengths.message))
-            rooms = max(rooms[0], lengths.output), max(rooms[1], lengths.message)
+            self._rooms = rooms = max(rooms[0], lengths.output), max(rooms[1], lengths.message)
 
     def ask(self, report: bytes, *words: str) -> bytes:
         """Runs the words over a report, and returns the output; raises the error of the status, if that is not 0."""

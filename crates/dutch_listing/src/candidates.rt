@@ -55,8 +55,8 @@ fn put_left_over(bracket: &Bracket, lists: &Arrangement, left: &mut Numbers)
 /// Where arrangements are drawn: from a level, but first the one that was drawn last, if it is still to be asked about.
 #[derive(Drop)]
 struct Drawing<L> {
-    is_kept: bool,
     level: L,
+    is_kept: bool,
 }
 
 /// In a bracket that leaves at most one player, asking about that player (C.04.3 C.2) takes a step.
@@ -197,18 +197,19 @@ fn with_candidate(step: Step<()>, filled: Candidate) -> Step<Candidate>
 
 /// The candidates of a bracket and a shape, one by one (C.04.3 B.6, B.7): the arrangements that are legal, in the order
 /// of article D. A step is one number tried at one place of one of the four lists, or the one downfloater of a last or
-/// collapsed bracket tried for C.2. It takes no memory.
+/// collapsed bracket tried for C.2. It takes no memory. (What is large stands in front of what is small: so the compiler
+/// makes it in its place, and not elsewhere first.)
 #[derive(Drop)]
 pub struct Candidates<'a, R: Rule> {
     fitting: FittingShape<'a>,
     rule: &'a R,
+    drawing: Drawing<Levels<'a, R>>,
+    // what was handed out last, or before that, where the listing began
+    latest: LastArrangement,
     // every arrangement leaves over more than the bracket may, so that none is legal
     too_many_left: bool,
     // `End` was answered
     ended: bool,
-    drawing: Drawing<Levels<'a, R>>,
-    // what was handed out last, or before that, where the listing began
-    latest: LastArrangement,
 }
 
 impl<'a, R: Rule> Model for Candidates<'a, R> {
@@ -254,13 +255,13 @@ impl<'a, R: Rule> Candidates<'a, R> {
         Candidates {
             fitting,
             rule,
-            too_many_left: leaves_too_many(&fitting),
-            ended: true,
             drawing: Drawing {
-                is_kept: false,
                 level: no_levels(rule),
+                is_kept: false,
             },
             latest: LastArrangement::none(),
+            too_many_left: leaves_too_many(&fitting),
+            ended: true,
         }
     }
 

@@ -3,5 +3,6 @@ pub mod KeyLemmas
 pub mod KeyRule
 pub mod OptionLemmas
 pub mod HelpLemmas
+pub mod OneCommandLemmas
 pub mod RequestLemmas
 pub mod EntryWordLemmas

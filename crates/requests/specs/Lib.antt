@@ -5,4 +5,5 @@ pub mod Keys
 pub mod KeySteps
 pub mod Options
 pub mod EntryWords
+pub mod OneCommand
 pub mod Prelude

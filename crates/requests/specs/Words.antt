@@ -49,7 +49,7 @@ with_engine app = with_command (with_command (with_command (with_command app pai
 unfoldable pub with_tables : App → App
 with_tables app = with_command (with_command app standings_app) sheet_app
 
--- the command line as clap is told of it: a version, and one of the commands, which must be given [own]
+-- the command line by which words are read: a version, and one of the commands, which must be given [own]
 unfoldable pub arbiter_app : App
 arbiter_app =
     with_tables

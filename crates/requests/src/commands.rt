@@ -5,6 +5,7 @@ ghost use Rattle.std.specs.Prelude.{◌≡◌, IfOk, false};
 ghost use Rattle.clap.specs.declared.Command.{out-Command as fields_of};
 ghost use Rattle.clap.specs.Words.{app_of, new_app};
 ghost use Rattle.requests.specs.CommandLine.{HasSameGlobals, app_for, with_options};
+ghost use Rattle.requests.specs.OneCommand.{command_by};
 
 use crate::arguments::{OptionName, option_for};
 use clap::Command;
@@ -179,6 +180,24 @@ const SHEET_TEXTS: HelpTexts<'static> = HelpTexts {
     usage: "arbiter sheet [OPTIONS] < REPORT",
     after_help: "The report is read from standard input. Printed is a page that any browser shows and prints: the boards of each round, the players by name, the standings with all games, and the list of players. It has no script and loads nothing.\n\nExample: arbiter sheet < report.trf > event.html",
 };
+
+/// The command that a word names, if it names one.
+pub fn find_command(word: &str) -> Option<CommandName>
+    ensures { result ≡ command_by word.now }
+{
+    match word {
+        "check" => Some(CommandName::Check),
+        "format" => Some(CommandName::Format),
+        "enter" => Some(CommandName::Enter),
+        "pair" => Some(CommandName::Pair),
+        "boards" => Some(CommandName::Boards),
+        "candidates" => Some(CommandName::Candidates),
+        "explain" => Some(CommandName::Explain),
+        "standings" => Some(CommandName::Standings),
+        "sheet" => Some(CommandName::Sheet),
+        _ => None,
+    }
+}
 
 /// A command of the program.
 pub fn command_for<'a>(alloc: Global, which: CommandName) -> CommandResult<'a>

@@ -4,11 +4,12 @@ ghost use Rattle.clap.specs.declared.Command.{out-Command as fields_of};
 ghost use Rattle.clap.specs.Words.{app_of, kind_of, new_app, subcommand_rows_of};
 ghost use Rattle.dutch_arrangements.specs.Prelude.{has_syntax};
 ghost use Rattle.requests.specs.CommandLine.{HasSameGlobals, app_for};
+ghost use Rattle.requests.specs.OneCommand.{app_with, first_command};
 ghost use Rattle.requests.specs.Options.{rows_in};
 ghost use Rattle.requests.specs.Words as meanings;
 
 use crate::commands::{
-    COMMANDS, CommandName, CommandResult, HelpTexts, command_for, command_named,
+    COMMANDS, CommandName, CommandResult, HelpTexts, command_for, command_named, find_command,
 };
 use crate::entries_in::enter_options;
 use crate::options;
@@ -109,7 +110,7 @@ fn with_flag<'a>(alloc: Global, words: &'a [&'a str]) -> Result<Vec<&'a str>, Al
 pub fn read_words<'a>(alloc: Global, words: &'a [&'a str]) -> Result<Meaning<'a>, AllocError>
     ensures { IfOk result (meanings.ComesTo (map (λ word. word.now) words.now)) }
 {
-    match arbiter_command(alloc)?.try_get_matches_from(words) {
+    match arbiter_command(alloc, words)?.try_get_matches_from(words) {
         Ok(matches) => {
             let Some(task) = task_in(alloc, &matches)? else {
                 unreachable!();
@@ -284,14 +285,27 @@ fn meaning_of_error<'a>(alloc: Global, error: &Error) -> Result<Meaning<'a>, All
     }
 }
 
-// The program's command line.
+// The command that the first of some words names, if it names one.
+fn first_command(words: &[&str]) -> Option<CommandName>
+    ensures { result ≡ first_command (map (λ word. word.now) words.now) }
+{
+    let (word, _) = words.split_first()?;
+    find_command(word)
+}
+
+// The program's command line as some words need it: with the command that the first one names, or else with all of
+// them. (To tell clap of all commands takes half of the time in which a small report is checked.)
 #[tactic(auto, unfolding(crate::specs::Words::arbiter_app, crate::specs::Words::with_engine, crate::specs::Words::with_tables))]
-fn arbiter_command<'a>(alloc: Global) -> CommandResult<'a>
-    ensures app { IfOk result (λ command. app_of command ≡ meanings.arbiter_app) }
+fn arbiter_command<'a>(alloc: Global, words: &[&str]) -> CommandResult<'a>
+    ensures app { IfOk result
+        (λ command. app_of command ≡ app_with (first_command (map (λ word. word.now) words.now))) }
     ensures local { IfOk result (λ command. (fields_of command).has_globals ≡ false) }
 {
     let command = with_settings(bare_command(alloc)?);
-    with_commands(alloc, command, &COMMANDS)
+    match first_command(words) {
+        Some(name) => with_named(alloc, command, name),
+        None => with_commands(alloc, command, &COMMANDS),
+    }
 }
 
 // A program with some more of its commands.
