@@ -32,7 +32,8 @@ pub(crate) struct PairTable {
 #[derive(Drop)]
 pub struct Weighing<'a> {
     context: &'a Context<'a>,
-    scale: Scale,
+    // (on the heap, as it is large)
+    scale: Box<Scale>,
     pairs: PairTable,
     // of each number
     down: Vec<Wide>,
@@ -54,14 +55,14 @@ impl<'a> Model for Weighing<'a> {
 
     ghost Value = { Weighing };
 
-    ghost view = { λ w. weighed_on w.context.now w.scale };
+    ghost view = { λ w. weighed_on w.context.now w.scale.value };
 
     ghost invariant = { λ w.
-        (HasPairs (weighed_on w.context.now w.scale) w.pairs
-        × TellsPairs (weighed_on w.context.now w.scale) w.pairs)
-        × (HasAll (weighed_on w.context.now w.scale) w.down.items
-        × TellsDown (weighed_on w.context.now w.scale) w.down.items)
-        × TellsBelow (weighed_on w.context.now w.scale) w.next.items };
+        (HasPairs (weighed_on w.context.now w.scale.value) w.pairs
+        × TellsPairs (weighed_on w.context.now w.scale.value) w.pairs)
+        × (HasAll (weighed_on w.context.now w.scale.value) w.down.items
+        × TellsDown (weighed_on w.context.now w.scale.value) w.down.items)
+        × TellsBelow (weighed_on w.context.now w.scale.value) w.next.items };
 }
 
 /// What the weights of a bracket are worked out by.
@@ -426,7 +427,7 @@ impl<'a> Weighing<'a> {
         };
         Ok(Some(Weighing {
             context,
-            scale,
+            scale: Box::new(context.alloc(), scale)?,
             pairs,
             down,
             next,
@@ -437,7 +438,7 @@ impl<'a> Weighing<'a> {
     pub fn scale(&self) -> &Scale
         ensures { result.now ≡ self.now.scale }
     {
-        &self.scale
+        &*self.scale
     }
 
     /// The bracket.
