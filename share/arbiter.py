@@ -5,7 +5,8 @@
     engine = Arbiter()
     print(engine.ask(open("club.trf", "rb").read(), "pair", "--names").decode())
 
-A report is bytes, and so is what comes back. Nothing is kept between calls, and threads may call at the same time: a call lets the others run.
+A report is bytes, and so is what comes back. Between calls nothing is kept but how long a text may become, and threads may call at the same time: a
+call lets the others run.
 A thread that calls needs 512 KiB of stack, which threads of Python have unless threading.stack_size() sets less."""
 import ctypes
 import os
