@@ -85,17 +85,17 @@ class Arbiter:
 
     def call(self, report: bytes, *words: str) -> Answer:
         """Runs the words of a command line over a report, and returns what comes, whatever the status. A word has no line end."""
-        for word in words:
-            if "\n" in word or "\r" in word:
-                raise ValueError(f"a word with a line end: {word!r}")
-        text = "".join(f"{word}\n" for word in words).encode(errors="surrogateescape")
-        rooms = self._rooms
+        lines = "\n".join((*words, ""))
+        if "\r" in lines or lines.count("\n") != len(words):
+            word = next(it for it in words if "\n" in it or "\r" in it)
+            raise ValueError(f"a word with a line end: {word!r}")
+        text, rooms = lines.encode(errors="surrogateescape"), self._rooms
         while True:
-            output, message = (ctypes.create_string_buffer(room) for room in rooms)
-            lengths = _Lengths()
-            status = self._run(text, len(text), report, len(report), output, rooms[0], message, rooms[1], lengths)
+            # (array types and slices, as create_string_buffer and string_at take longer)
+            output, message, lengths = (ctypes.c_char * rooms[0])(), (ctypes.c_char * rooms[1])(), _Lengths()
+            status = self._run(text, len(text), report, len(report), output, rooms[0], message, rooms[1], ctypes.byref(lengths))
             if lengths.output <= rooms[0] and lengths.message <= rooms[1]:
-                return Answer(status, ctypes.string_at(output, lengths.output), ctypes.string_at(message, lengths.message))
+                return Answer(status, output[: lengths.output], message[: lengths.message])
             self._rooms = rooms = max(rooms[0], lengths.output), max(rooms[1], lengths.message)
 
     def ask(self, report: bytes, *words: str) -> bytes:
