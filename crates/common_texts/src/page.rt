@@ -3,7 +3,7 @@ ghost use Rattle.std.specs.Prelude.{◌≡◌, ◌++◌, [], OnOk};
 ghost use Rattle.std.specs.Fmt.{AppendsText};
 
 use std::alloc::{AllocError, Global};
-use std::fmt::Display;
+use std::fmt::{self, Display, Write};
 use std::marker::Model;
 
 /// A text that is made piece by piece: bytes, since the names of a report need not be UTF-8.
@@ -56,12 +56,15 @@ impl Page {
         self.bytes.extend_from_slice(piece)
     }
 
-    /// What `write!` calls.
+    /// What `write!` calls: puts a value behind what is there, with no text of its own between. (Where memory is
+    /// refused, a part of it may have been put.)
     pub fn write_fmt<D: Display + Drop>(&mut self, value: D) -> Result<(), AllocError>
         ensures { OnOk result (AppendsText self.old self.new (D.output value)) }
     {
-        let piece = String::format(self.allocator(), value)?;
-        self.push_str(piece.as_str())
+        match Write::write(self, value) {
+            Ok(()) => Ok(()),
+            Err(fmt::Error) => Err(AllocError),
+        }
     }
 
     /// The text.
@@ -69,5 +72,18 @@ impl Page {
         ensures { result.now ≡ self.now }
     {
         self.bytes.as_slice()
+    }
+}
+
+impl Write for Page {
+    ghost use Rattle.std.specs.Prelude.{◌≡◌, ◌++◌};
+
+    ghost write_str_gives = { λ page bytes then. then ≡ page ++ bytes };
+
+    fn write_str(&mut self, piece: &str) -> fmt::Result {
+        match self.push_str(piece) {
+            Ok(()) => Ok(()),
+            Err(AllocError) => Err(fmt::Error),
+        }
     }
 }

@@ -12,7 +12,7 @@ use dutch_listing::Candidates;
 use std::alloc::{AllocError, Global};
 
 /// What draws a bracket's arrangements: a listing, which begins anew for each shape, and a place for what it hands out.
-/// They are made once for a bracket.
+/// They are made once, for a bracket or for all brackets of a round.
 #[derive(Drop)]
 pub struct Lister<'a, R: Rule> {
     pub listing: Candidates<'a, R>,
@@ -43,6 +43,15 @@ impl<'a, R: Rule> Lister<'a, R> {
         ensures rule { IfOk result (λ lister. lister.value.listing.rule ≡ rule.now) }
     {
         Ok(Box::new(alloc, Lister::new(bracket, rule))?)
+    }
+
+    /// Goes to another bracket, which is listed by another rule.
+    pub fn move_to(&mut self, bracket: &'a Bracket, rule: &'a R)
+        ensures frame { self.new.listing.frame ≡ bracket.now }
+        ensures rule { self.new.listing.rule ≡ rule.now }
+    {
+        self.listing
+            .move_to(bracket, Shape { pairs: 0, mdps: 0 }, rule);
     }
 }
 

@@ -40,12 +40,14 @@ pub struct ChosenBest {
     pub best: Box<Best>,
 }
 
-/// The choice in a bracket that has a candidate, by one lister for its shape and for the best candidate. None says that
-/// the budget's limit was reached first.
+/// The choice in a bracket that has a candidate, on the heap, by one lister for its shape and for the best candidate.
+/// None says that the budget's limit was reached first.
 #[tactic(auto, using(crate::proofs::BestLemmas::choice_is_best, crate::proofs::BestLemmas::shape_has_one))]
-fn chosen_by<F: Finder>(
+#[inline(never)]
+pub fn choose_in<F: Finder>(
     context: &Context<'_>,
     lister: &mut Lister<'_, NarrowedRule<'_>>,
+    room: &mut F::Room,
     budget: &mut Budget,
 ) -> Result<Option<ChosenBest>, PairFault>
     requires candidate { HasCandidate context.now.facts context.now.reached context.now.lower }
@@ -65,16 +67,17 @@ fn chosen_by<F: Finder>(
         wish: None,
         start: found.start,
     };
-    match F::best_of(&asked, lister, budget)? {
+    match F::best_of(&asked, lister, room, budget)? {
         Step::Found(best) => Ok(Some(ChosenBest { shape, best })),
         Step::End => unreachable!(),
         Step::Undecided => Ok(None),
     }
 }
 
-/// The choice in a bracket that has a candidate, on the heap. None says that the budget's limit was reached first.
+/// The choice in a bracket that has a candidate, with a lister and a room of its own. None says that the budget's limit was reached
+/// first.
 #[inline(never)]
-pub fn choose_in<F: Finder>(
+fn choose_alone<F: Finder>(
     context: &Context<'_>,
     budget: &mut Budget,
 ) -> Result<Option<ChosenBest>, PairFault>
@@ -88,7 +91,7 @@ pub fn choose_in<F: Finder>(
         wish: None,
     };
     let mut lister = Lister::boxed(context.alloc(), context.frame(), &rule)?;
-    chosen_by::<F>(context, &mut lister, budget)
+    choose_in::<F>(context, &mut lister, &mut F::Room::default(), budget)
 }
 
 /// The choice in a bracket of a field that has a candidate, above all lower seats by rank. In the penultimate bracket
@@ -107,7 +110,8 @@ pub fn choose<F: Finder>(
         (budget.new.used ≡ budget.new.limit)) }
     ensures spends { Spends budget.old budget.new }
 {
-    let Some(chosen) = choose_in::<F>(&Context::new(alloc, field, reached, lower), budget)? else {
+    let context = Context::new(alloc, field, reached, lower);
+    let Some(chosen) = choose_alone::<F>(&context, budget)? else {
         return Ok(Choice::Undecided);
     };
     let best = Box::into_inner(chosen.best);

@@ -44,11 +44,16 @@ pub struct FinderRequest<'a> {
 
 /// Finds the best candidate of a shape.
 pub trait Finder {
+    /// Room in which it works. It is lent for each bracket, so that a round makes it once. What stands in it changes no
+    /// answer, but how much memory it takes to find it.
+    type Room: Default + Drop;
+
     /// Of the candidates of a shape that can be chosen, and that grant the wish if there is one, the first that none of
     /// them is better than. `End` says that there is none.
     fn best_of(
         asked: &FinderRequest<'_>,
         lister: &mut Lister<'_, NarrowedRule<'_>>,
+        room: &mut Self::Room,
         budget: &mut Budget,
     ) -> Result<Step<Box<Best>>, PairFault>
         requires lister { IsLent asked.now.shaped.context.now asked.now.wish asked.now.shaped.shape asked.now.start
@@ -59,7 +64,7 @@ pub trait Finder {
         ensures spends { Spends budget.old budget.new };
 }
 
-/// The best candidate of a shape by any finder, with a lister of its own.
+/// The best candidate of a shape by any finder, with a lister and a room of its own.
 #[inline(never)]
 pub fn best_by<F: Finder>(
     shaped: &ShapedBracket<'_>,
@@ -81,5 +86,5 @@ pub fn best_by<F: Finder>(
         wish,
         start: Start::Anew,
     };
-    F::best_of(&asked, &mut lister, budget)
+    F::best_of(&asked, &mut lister, &mut F::Room::default(), budget)
 }

@@ -265,24 +265,24 @@ impl<'a, R: Rule> Candidates<'a, R> {
         }
     }
 
-    // Begins anew with a shape: all its candidates, or those that stand behind a cursor.
-    fn begin(&mut self, fitting: FittingShape<'a>, own: Option<&Arrangement>)
+    // Begins anew by a rule, with a shape: all its candidates, or those that stand behind a cursor.
+    fn begin(&mut self, fitting: FittingShape<'a>, rule: &'a R, own: Option<&Arrangement>)
         requires given { Of (λ cursor. IsIn cursor (arrangements fitting.bracket.now fitting.shape))
             (option_copied own) }
-        ensures coming { self.new.coming ≡ listings.candidates_from (R.meets self.old.rule)
-            (R.may_be_left self.old.rule)
+        ensures coming { self.new.coming ≡ listings.candidates_from (R.meets rule.now) (R.may_be_left rule.now)
             fitting.entry.bracket.now fitting.entry.shape (option_copied own.entry) }
         ensures frame { self.new.frame ≡ fitting.entry.bracket.now }
         ensures shape { self.new.shape ≡ fitting.entry.shape }
-        ensures rule { self.new.rule ≡ self.old.rule }
+        ensures rule { self.new.rule ≡ rule.now }
         ensures ended { self.new.ended ≡ false }
         ensures latest { self.new.latest ≡ option_copied own.entry }
     {
         self.fitting = fitting;
+        self.rule = rule;
         self.too_many_left = leaves_too_many(&fitting);
         self.ended = false;
         self.latest.put(own);
-        start_drawing(&mut self.drawing, &fitting, own, self.rule);
+        start_drawing(&mut self.drawing, &fitting, own, rule);
     }
 
     /// All candidates. The bracket has players enough for the shape.
@@ -296,7 +296,7 @@ impl<'a, R: Rule> Candidates<'a, R> {
         ensures latest { result.latest ≡ None }
     {
         let mut candidates = Candidates::ended(bracket, rule);
-        candidates.begin(FittingShape { bracket, shape }, None);
+        candidates.begin(FittingShape { bracket, shape }, rule, None);
         candidates
     }
 
@@ -317,7 +317,7 @@ impl<'a, R: Rule> Candidates<'a, R> {
         ensures latest { result.latest ≡ Some cursor }
     {
         let mut candidates = Candidates::ended(bracket, rule);
-        candidates.begin(FittingShape { bracket, shape }, Some(&cursor.lists));
+        candidates.begin(FittingShape { bracket, shape }, rule, Some(&cursor.lists));
         candidates
     }
 
@@ -332,8 +332,21 @@ impl<'a, R: Rule> Candidates<'a, R> {
         ensures ended { self.new.ended ≡ false }
         ensures latest { self.new.latest ≡ None }
     {
-        let bracket = self.fitting.bracket;
-        self.begin(FittingShape { bracket, shape }, None);
+        let (bracket, rule) = (self.fitting.bracket, self.rule);
+        self.begin(FittingShape { bracket, shape }, rule, None);
+    }
+
+    /// Begins anew in place with another bracket and by another rule, as `new` does.
+    pub fn move_to(&mut self, bracket: &'a Bracket, shape: Shape, rule: &'a R)
+        requires { Fits bracket.now shape }
+        ensures coming { self.new.coming ≡ candidates (R.meets rule.now) (R.may_be_left rule.now) bracket.now shape }
+        ensures frame { self.new.frame ≡ bracket.now }
+        ensures shape { self.new.shape ≡ shape }
+        ensures rule { self.new.rule ≡ rule.now }
+        ensures ended { self.new.ended ≡ false }
+        ensures latest { self.new.latest ≡ None }
+    {
+        self.begin(FittingShape { bracket, shape }, rule, None);
     }
 
     // The next candidate. Those that are known to be pruned may be skipped.

@@ -9,7 +9,8 @@ ghost use Rattle.dutch_rounds.specs.Outcomes.{AreStages, IsOutcome, IsBracketAt,
 
 use crate::boards::{Board, boards};
 use crate::stage::Stage;
-use crate::walk::{Halt, Walk, everybody};
+use crate::walk::{Ground, Halt, Walk, everybody};
+use bumpalo::Bump;
 use dutch_arrangements::Shape;
 use dutch_bracket::fault::PairFault;
 use dutch_bracket::reached::{Reached, Seats};
@@ -64,9 +65,16 @@ fn pairs_and_bye<F: Finder>(
         (IsHalt field.now limit) }
 {
     let all = everybody(field);
-    let mut walk = Walk::start(alloc, field, &all, limit)?;
+    let arena = Bump::new(alloc);
+    let ground = Ground {
+        alloc,
+        field,
+        arena: &arena,
+    };
+    let mut walk = Walk::start(ground, &all, limit)?;
+    let mut room = F::Room::default();
     let mut pairs = Vec::new(alloc);
-    while let Some(stage) = walk.settle_next::<F>(alloc)? {
+    while let Some(stage) = walk.settle_next::<F>(&mut room)? {
         stage.put_pairs(field, &mut pairs)?;
     }
     Ok((pairs, walk.bye()))
@@ -99,13 +107,20 @@ fn bracket_and_shape<F: Finder>(
         (IsHalt field.now limit) }
 {
     let all = everybody(field);
-    let mut walk = Walk::start(alloc, field, &all, limit)?;
+    let arena = Bump::new(alloc);
+    let ground = Ground {
+        alloc,
+        field,
+        arena: &arena,
+    };
+    let mut walk = Walk::start(ground, &all, limit)?;
+    let mut room = F::Room::default();
     while walk.number() != number {
-        if walk.settle_next::<F>(alloc)?.is_none() {
+        if walk.settle_next::<F>(&mut room)?.is_none() {
             return Ok(None);
         }
     }
-    walk.bracket(alloc)
+    walk.bracket()
 }
 
 /// The bracket of a number, counted from 1 as the round reaches them, and its shape. No bracket has the number 0. Each
@@ -139,9 +154,16 @@ fn all_stages<F: Finder>(
     ensures { MatchResult result (λ made. AreStages field.now limit (Paired made.0 made.1)) (IsHalt field.now limit) }
 {
     let all = everybody(field);
-    let mut walk = Walk::start(alloc, field, &all, limit)?;
+    let arena = Bump::new(alloc);
+    let ground = Ground {
+        alloc,
+        field,
+        arena: &arena,
+    };
+    let mut walk = Walk::start(ground, &all, limit)?;
+    let mut room = F::Room::default();
     let mut stages = Vec::new(alloc);
-    while let Some(stage) = walk.settle_next::<F>(alloc)? {
+    while let Some(stage) = walk.settle_next::<F>(&mut room)? {
         stages.push(stage).map_err(PairFault::from)?;
     }
     Ok((stages, walk.bye()))

@@ -1,8 +1,9 @@
 // A bracket that a round reaches, as it is settled: its choice, and whether it is paired again (C.04.3 B.8, A.9).
-ghost use Rattle.std.specs.Prelude.{◌≡◌, ◌≤◌, ◌++◌, false, length, map, IfOk, OnOk};
+ghost use Rattle.std.specs.Prelude.{◌≡◌, ◌≤◌, ◌++◌, None, false, length, map, IfOk, OnOk};
 ghost use Rattle.std.specs.Option.{MatchOption};
 ghost use Rattle.dutch_arrangements.specs.Prelude.{Spends};
 ghost use Rattle.dutch_bracket.specs.Prelude.{seat_of, HasCandidate, completable, Decides};
+ghost use Rattle.dutch_choice.specs.Prelude.{ListsHere};
 ghost use Rattle.dutch_rounds.specs.Outcomes.{IsStage};
 ghost use Rattle.dutch_rounds.specs.Stages.{IsSettled, is_again, own_pairs};
 
@@ -12,6 +13,8 @@ use dutch_bracket::fault::PairFault;
 use dutch_bracket::quality::Quality;
 use dutch_bracket::reached::{BracketKind, Reached, Seats};
 use dutch_bracket::seated::{Pair, by_seats};
+use dutch_candidates::greatest::Lister;
+use dutch_candidates::narrowed::NarrowedRule;
 use dutch_choice::choice::choose_in;
 use dutch_choice::finder::{Best, Finder};
 use dutch_completion::eligible::leaves_completable;
@@ -65,19 +68,22 @@ fn is_again(
     }
 }
 
-/// Settles a bracket that has a candidate. None says that the budget's limit was reached first, by its choice or by the
+/// Settles a bracket that has a candidate, with a lister of it. None says that the budget's limit was reached first, by its choice or by the
 /// test behind it.
 #[inline(never)]
 pub(crate) fn settle<F: Finder>(
     context: &Context<'_>,
+    lister: &mut Lister<'_, NarrowedRule<'_>>,
+    room: &mut F::Room,
     budget: &mut Budget,
 ) -> Result<Option<Stage>, PairFault>
     requires candidate { HasCandidate context.now.facts context.now.reached context.now.lower }
+    requires lists { ListsHere context.now None lister.old.listing }
     ensures answer { IfOk result (λ settled. MatchOption settled (budget.new.used ≡ budget.new.limit)
         (λ stage. (stage.reached ≡ context.now.reached) × IsSettled context.now.facts context.now.lower stage)) }
     ensures spends { Spends budget.old budget.new }
 {
-    let Some(chosen) = choose_in::<F>(context, budget)? else {
+    let Some(chosen) = choose_in::<F>(context, lister, room, budget)? else {
         return Ok(None);
     };
     let Ok(again) = is_again(context, &chosen.best.candidate, budget) else {

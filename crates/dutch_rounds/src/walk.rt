@@ -3,10 +3,11 @@
 //
 // Whatever bracket comes next, its players and all lower ones can be paired out, and no two of those moved down may
 // meet. So each bracket has a candidate that can be chosen, and at the end of the walk at most one player is left over.
-ghost use Rattle.std.specs.Prelude.{◌≡◌, ◌+◌, ◌<◌, ◌≤◌, ◌++◌, length, Some, IfErr};
+ghost use Rattle.std.specs.Prelude.{◌≡◌, ◌+◌, ◌<◌, ◌≤◌, ◌++◌, length, None, Some, IfErr, IfOk};
 ghost use Rattle.std.specs.Result.{MatchResult};
 ghost use Rattle.dutch_arrangements.specs.Prelude.{Spends};
-ghost use Rattle.dutch_bracket.specs.Prelude.{HasCandidate, FitsHere, first_group, scoregroups, shape_of};
+ghost use Rattle.dutch_choice.specs.Prelude.{ListsHere};
+ghost use Rattle.dutch_bracket.specs.Prelude.{HasCandidate, IsAbove, FitsHere, first_group, scoregroups, shape_of};
 ghost use Rattle.dutch_rounds.specs.declared.walk.Halt.TheVariants.{Fault};
 ghost use Rattle.dutch_rounds.specs.Round.{everybody, brackets, paired_again};
 ghost use Rattle.dutch_rounds.specs.Walk.{Goes};
@@ -14,12 +15,15 @@ ghost use Rattle.dutch_rounds.specs.WaysOut.{GoesOut, StandsBefore};
 ghost use Rattle.dutch_rounds.specs.Stages as stages;
 
 use crate::stage::{Stage, settle};
+use bumpalo::Bump;
 use dutch_arrangements::{Budget, Shape, Stopped, numbered_from};
 use dutch_bracket::context::Context;
 use dutch_bracket::fault::PairFault;
 use dutch_bracket::group::split_first_group;
 use dutch_bracket::reached::{BracketKind, Reached, Seats, bracket, copied};
 use dutch_bracket::seated::seats_of;
+use dutch_candidates::greatest::Lister;
+use dutch_candidates::narrowed::NarrowedRule;
 use dutch_choice::finder::Finder;
 use dutch_choice::shape::shape_of;
 use dutch_completion::eligible::can_complete;
@@ -44,10 +48,58 @@ enum Next<'a> {
     Bye(Seats),
 }
 
+/// What a round is paired of. What its lister lists by stands in the arena for as long as the round is paired: each
+/// bracket, and its rule.
+#[derive(Clone, Copy)]
+pub(crate) struct Ground<'a> {
+    pub(crate) alloc: Global,
+    pub(crate) field: &'a Field,
+    pub(crate) arena: &'a Bump,
+}
+
+impl<'a> Ground<'a> {
+    /// A bracket above all lower seats by rank.
+    fn context_of(self, reached: &Reached, lower: &'a [u16]) -> Result<&'a Context<'a>, PairFault>
+        requires { IsAbove self.field.now reached.now lower.now }
+        ensures { IfOk result (λ context. context.now
+            ≡ record { facts = self.entry.field.now; reached = reached.now; lower = lower.now }) }
+    {
+        let reached = self.arena.try_alloc(reached.copied())?;
+        let context = Context::new(self.alloc, self.field, reached, lower);
+        Ok(self.arena.try_alloc(context)?)
+    }
+}
+
+/// What lists the candidates of a bracket.
+type BracketLister<'a> = Lister<'a, NarrowedRule<'a>>;
+
+/// The lister of a round, at a bracket: the one that there is, or else a new one.
+fn lister_of<'a>(
+    before: Option<Box<BracketLister<'a>>>,
+    ground: Ground<'a>,
+    context: &'a Context<'a>,
+) -> Result<Box<BracketLister<'a>>, PairFault>
+    ensures { IfOk result (λ lister. ListsHere context.now None lister.value.listing) }
+{
+    let rule = ground.arena.try_alloc(NarrowedRule {
+        rule: context.rule(),
+        wish: None,
+    })?;
+    match before {
+        Some(mut lister) => {
+            lister.move_to(context.frame(), rule);
+            Ok(lister)
+        }
+        None => Ok(Lister::boxed(ground.alloc, context.frame(), rule)?),
+    }
+}
+
 /// A walk over the brackets of a round, before one of them or at the end.
 #[derive(Drop)]
 pub(crate) struct Walk<'a> {
-    field: &'a Field,
+    ground: Ground<'a>,
+    // from the first bracket that was settled on
+    lister: Option<Box<BracketLister<'a>>>,
     // of the bracket that comes next, as its number
     budget: Budget,
     number: u16,
@@ -60,15 +112,15 @@ impl<'a> Model for Walk<'a> {
     ghost Value = { Walk };
 
     ghost view = { λ w. record {
-      facts = w.field.now;
+      facts = w.ground.field.now;
       limit = w.budget.limit;
       used = w.budget.used;
       number = w.number;
-      rest = round_from w.field.now w.next;
+      rest = round_from w.ground.field.now w.next;
       bye = bye_at w.next;
     } };
 
-    ghost invariant = { λ w. IsUnderWay w.field.now w.number w.next };
+    ghost invariant = { λ w. IsUnderWay w.ground.field.now w.number w.next };
 }
 
 /// Why a question ends before the walk does.
@@ -183,20 +235,18 @@ impl<'a> Walk<'a> {
     /// A walk over the brackets of the next round. The test of all present players comes first, and counts to the first
     /// bracket.
     #[tactic(auto, using(crate::proofs::GroupWalk::everybody_few))]
-    pub(crate) fn start(
-        alloc: Global,
-        field: &'a Field,
-        all: &'a [u16],
-        limit: u64,
-    ) -> Result<Walk<'a>, Halt>
-        requires all { all.now ≡ everybody field.now }
-        ensures { MatchResult result (stages.Starts field.now limit) (stages.IsHalt field.now limit) }
+    pub(crate) fn start(ground: Ground<'a>, all: &'a [u16], limit: u64) -> Result<Walk<'a>, Halt>
+        requires all { all.now ≡ everybody ground.field.now }
+        ensures { MatchResult result (stages.Starts ground.entry.field.now limit)
+            (stages.IsHalt ground.entry.field.now limit) }
     {
+        let field = ground.field;
         scores_do_not_ascend(field);
         let mut budget = Budget { limit, used: 0 };
-        match can_complete(alloc, field, all, &mut budget) {
+        match can_complete(ground.alloc, field, all, &mut budget) {
             Ok(true) => Ok(Walk {
-                field,
+                ground,
+                lister: None,
                 budget,
                 number: 1,
                 next: first_group(field, 1, Seats::new(), split_first_group(field, all)),
@@ -228,23 +278,30 @@ impl<'a> Walk<'a> {
 
     /// Settles the bracket that comes next by its choice and the test behind it, and goes behind it, where the budget
     /// begins anew. The answer is none if no bracket comes.
-    pub(crate) fn settle_next<F: Finder>(&mut self, alloc: Global) -> Result<Option<Stage>, Halt>
+    pub(crate) fn settle_next<F: Finder>(
+        &mut self,
+        room: &mut F::Room,
+    ) -> Result<Option<Stage>, Halt>
         ensures goes { MatchResult result (stages.GoesOn self.old self.new) (stages.IsHalt self.old.facts
             self.old.limit) }
         ensures used { IfErr result (stages.TellsUsed self.new.used) }
     {
-        scores_do_not_ascend(self.field);
+        let ground = self.ground;
+        scores_do_not_ascend(ground.field);
         let Next::Bracket { reached, lower } = &self.next else {
             return Ok(None);
         };
-        let context = Context::new(alloc, self.field, reached, lower);
-        let Some(stage) = settle::<F>(&context, &mut self.budget)? else {
+        let lower = *lower;
+        let context = ground.context_of(reached, lower)?;
+        let mut lister = lister_of(self.lister.take(), ground, context)?;
+        let Some(stage) = settle::<F>(context, &mut *lister, room, &mut self.budget)? else {
             return Err(Halt::Undecided {
                 bracket: self.number,
                 used: self.budget.used,
             });
         };
-        self.next = behind(self.field, &stage, lower, context.next().len());
+        self.lister = Some(lister);
+        self.next = behind(ground.field, &stage, lower, context.next().len());
         self.number += 1;
         self.budget.used = 0;
         Ok(Some(stage))
@@ -252,16 +309,17 @@ impl<'a> Walk<'a> {
 
     /// The bracket that comes next, with its shape; nothing more is asked of it. The answer is none if no bracket
     /// comes.
-    pub(crate) fn bracket(&mut self, alloc: Global) -> Result<Option<(Reached, Shape)>, Halt>
+    pub(crate) fn bracket(&mut self) -> Result<Option<(Reached, Shape)>, Halt>
         ensures found { MatchResult result (stages.IsFound self.old.facts self.old.number)
             (stages.IsHalt self.old.facts self.old.limit) }
         ensures used { IfErr result (stages.TellsUsed self.new.used) }
     {
-        scores_do_not_ascend(self.field);
+        let ground = self.ground;
+        scores_do_not_ascend(ground.field);
         let Next::Bracket { reached, lower } = &self.next else {
             return Ok(None);
         };
-        let context = Context::new(alloc, self.field, reached, lower);
+        let context = Context::new(ground.alloc, ground.field, reached, lower);
         let Ok(shape) = shape_in(&context, &mut self.budget) else {
             return Err(Halt::Undecided {
                 bracket: self.number,

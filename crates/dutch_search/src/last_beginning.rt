@@ -43,6 +43,12 @@ pub(crate) struct WalkNotes {
 }
 
 impl WalkNotes {
+    /// Notes nothing of a walk, as at its beginning. (What is known of floors is cleared where a listing begins.)
+    pub(crate) fn clear(&mut self) {
+        self.last.note(&Prefix::nothing());
+        self.stood.note(&Prefix::nothing());
+    }
+
     /// Yes if the walk has come to another S1 or S1R since this was asked last. Then it is not stuck.
     pub(crate) fn has_moved(&mut self) -> bool {
         if self.stood.is(&self.last.scope) {

@@ -16,4 +16,4 @@ mod skipping;
 mod targets;
 mod with_floors;
 
-pub use with_floors::WithFloors;
+pub use with_floors::{SearchRoom, WithFloors};

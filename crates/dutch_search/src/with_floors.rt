@@ -7,6 +7,7 @@ ghost use Rattle.dutch_search.specs.Searching.{AreFor};
 ghost use Rattle.dutch_floors.specs.Behind.{IsBasisFor};
 
 use crate::both::BothFloors;
+use crate::last_beginning::WalkNotes;
 use dutch_arrangements::{Budget, Step};
 use dutch_bracket::fault::PairFault;
 use dutch_bracket::shaped::ShapedBracket;
@@ -16,12 +17,45 @@ use dutch_choice::finder::{Best, Finder, FinderRequest};
 use dutch_passes::{
     Incumbent, Pass, PassRoom, PassState, Target, Workroom, best_in_time, look_below,
 };
+use std::alloc::Global;
 
-/// The state in which the passes of a bracket begin. (Apart from its caller, as it is large until it stands on the
-/// heap.)
-#[inline(never)]
+/// Room for the passes of each bracket of a round. What is there is taken from it, and put back when the passes are over.
+#[derive(Default, Drop)]
+pub struct SearchRoom {
+    work: Option<Box<Workroom<WalkNotes>>>,
+    target: Option<Target>,
+}
+
+impl SearchRoom {
+    /// Where questions are worked out: the place that there is, with nothing noted in it, or else a new one. (Apart from
+    /// its caller, as it is large until it stands on the heap.)
+    #[inline(never)]
+    fn workroom(&mut self, alloc: Global) -> Result<Box<Workroom<WalkNotes>>, PairFault> {
+        match self.work.take() {
+            Some(mut work) => {
+                work.notes.clear();
+                Ok(work)
+            }
+            None => Ok(Box::new(alloc, Workroom::default())?),
+        }
+    }
+
+    /// An empty place for a target: the one that there is, or else a new one.
+    fn no_target(&mut self, alloc: Global) -> Result<Target, PairFault> {
+        match self.target.take() {
+            Some(mut target) => {
+                target.clear();
+                Ok(target)
+            }
+            None => Target::none(alloc),
+        }
+    }
+}
+
+/// The state in which the passes of a bracket begin.
 fn state_for<'a>(
     shaped: &ShapedBracket<'a>,
+    room: &mut SearchRoom,
 ) -> Result<Box<PassState<'a, BothFloors<'a>>>, PairFault>
     ensures look { IfOk result (λ state. LooksBelow shaped.now.context.now state.value.look) }
     ensures shaped { IfOk result (λ state. state.value.guide.value.shaped ≡ shaped.now) }
@@ -31,7 +65,7 @@ fn state_for<'a>(
     let alloc = shaped.context.alloc();
     let state = PassState {
         look: look_below(shaped.context)?,
-        work: Box::new(alloc, Workroom::default())?,
+        work: room.workroom(alloc)?,
         incumbent: Incumbent::none(alloc)?,
         guide: Box::new(alloc, BothFloors::by_counts(shaped)?)?,
     };
@@ -42,6 +76,7 @@ fn state_for<'a>(
 fn first_pass<'a>(
     asked: &FinderRequest<'a>,
     state: &mut PassState<'_, BothFloors<'_>>,
+    room: &mut SearchRoom,
 ) -> Result<Pass<'a>, PairFault>
     ensures shaped { IfOk result (λ pass. pass.shaped ≡ asked.now.shaped) }
     ensures wish { IfOk result (λ pass. pass.wish ≡ asked.now.wish) }
@@ -51,7 +86,7 @@ fn first_pass<'a>(
     let mut pass = Pass {
         shaped: asked.shaped,
         wish: asked.wish,
-        target: Target::none(asked.shaped.context.alloc())?,
+        target: room.no_target(asked.shaped.context.alloc())?,
     };
     if state.guide.fill_target(&None, &mut *state.work) {
         pass.target.keep(&state.work.room.quality);
@@ -63,6 +98,7 @@ fn first_pass<'a>(
 fn search_in_passes(
     pass: &mut Pass<'_>,
     search: PassRoom<'_, '_, '_, '_, BothFloors<'_>>,
+    room: &mut SearchRoom,
     budget: &mut Budget,
 ) -> Result<Step<Box<Best>>, PairFault>
     requires lister { IsLentFor pass.old search.start search.lister.now }
@@ -80,6 +116,7 @@ fn search_in_passes(
         return Ok(Step::Undecided);
     }
     let state = Box::into_inner(search.state);
+    room.work = Some(state.work);
     match state.incumbent.into_best() {
         Some(best) => Ok(Step::Found(best)),
         None => Ok(Step::End),
@@ -92,21 +129,26 @@ fn search_in_passes(
 pub struct WithFloors;
 
 impl Finder for WithFloors {
+    type Room = SearchRoom;
+
     fn best_of(
         asked: &FinderRequest<'_>,
         lister: &mut Lister<'_, NarrowedRule<'_>>,
+        room: &mut SearchRoom,
         budget: &mut Budget,
     ) -> Result<Step<Box<Best>>, PairFault> {
-        let mut state = state_for(&asked.shaped)?;
+        let mut state = state_for(&asked.shaped, room)?;
         if state.guide.look_below(budget).is_err() {
             return Ok(Step::Undecided);
         }
-        let mut pass = first_pass(asked, &mut *state)?;
+        let mut pass = first_pass(asked, &mut *state, room)?;
         let search = PassRoom {
             state,
             lister,
             start: asked.start,
         };
-        search_in_passes(&mut pass, search, budget)
+        let found = search_in_passes(&mut pass, search, room, budget)?;
+        room.target = Some(pass.target);
+        Ok(found)
     }
 }

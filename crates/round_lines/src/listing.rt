@@ -2,7 +2,7 @@
 ghost use Rattle.std.specs.Prelude.{◌≡◌, ◌++◌, IfOk, OnOk, codes};
 ghost use Rattle.std.specs.List.{flat_map};
 ghost use Rattle.std.specs.Fmt.{decimal};
-ghost use Rattle.dutch_arrangements.specs.Prelude.{Spends};
+ghost use Rattle.dutch_arrangements.specs.Prelude.{Spends, cursor_text, list_text};
 ghost use Rattle.dutch_bracket.specs.Prelude.{frame_of};
 ghost use Rattle.round_lines.specs.Listings.{IsListing, Puts, StopsAtLimit};
 ghost use Rattle.round_lines.specs.CandidateTexts.{down_text, candidate_text, line_text, pair_text, pairs_text};
@@ -85,11 +85,47 @@ pub fn put_line(
     ensures { OnOk result (text.new
         ≡ text.old ++ candidate_text bracket.now.field.now bracket.now.reached.now candidate.now) }
 {
-    text.push_str(candidate.cursor().print().as_str())?;
+    put_cursor(text, candidate)?;
     put_pairs(text, bracket, candidate.s1(), candidate.s2())?;
     put_pairs(text, bracket, candidate.s1r(), candidate.s2r())?;
     put_down(text, bracket, candidate.down())?;
     text.push_str("\n")
+}
+
+/// Puts the cursor of a candidate, list by list. (A cursor is large, and so is its text.)
+pub(crate) fn put_cursor(text: &mut Page, candidate: &Candidate) -> Result<(), AllocError>
+    ensures { OnOk result (text.new ≡ text.old ++ cursor_text candidate.now.lists) }
+{
+    put_list(text, candidate.s1())?;
+    text.push_str("/")?;
+    put_list(text, candidate.s2())?;
+    text.push_str("/")?;
+    put_list(text, candidate.s1r())?;
+    text.push_str("/")?;
+    put_list(text, candidate.s2r())
+}
+
+// Puts the numbers of a list with commas between them, or 0 where there is none.
+fn put_list(text: &mut Page, numbers: &[u16]) -> Result<(), AllocError>
+    ensures { OnOk result (text.new ≡ text.old ++ list_text numbers.now) }
+{
+    match numbers {
+        [] => text.push_str("0"),
+        [first, others @ ..] => {
+            write!(text, "{first}")?;
+            put_others(text, others)
+        }
+    }
+}
+
+// Puts numbers with a comma before each.
+fn put_others(text: &mut Page, numbers: &[u16]) -> Result<(), AllocError>
+    ensures { OnOk result (text.new ≡ text.old ++ flat_map (λ n. codes "," ++ decimal n) numbers.now) }
+{
+    for number in numbers {
+        write!(text, ",{number}")?;
+    }
+    Ok(())
 }
 
 impl<'a> Bracket<'a> {

@@ -6,6 +6,7 @@ ghost use Rattle.round_lines.specs.ValueTexts.{next_value, value_text, worse_wor
 
 use crate::item_texts::players_counted;
 use crate::item_words::words_of;
+use crate::listing::put_cursor;
 use crate::lists::put_listed;
 use crate::telling::Telling;
 use common_texts::Page;
@@ -142,7 +143,7 @@ pub fn put_candidate(
     let item = of.0.first_difference(of.1);
     match telling.wording {
         Wording::Plain => {
-            text.push_str(candidate.cursor().print().as_str())?;
+            put_cursor(text, candidate)?;
             put_against_line(text, of, item)
         }
         Wording::Words => put_against_words(text, of, item),

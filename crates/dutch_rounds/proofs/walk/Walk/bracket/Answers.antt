@@ -10,13 +10,13 @@ use Rattle.dutch_rounds.proofs.WalkSteps.{stands_above, stands_number, stands_sh
 use Rattle.dutch_rounds.proofs.walk.Walk.bracket.Goals as goal
 use Rattle.dutch_rounds.proofs.walk.Walk.bracket.Goals.{In-Bracket}
 
-stands : (c : In-Bracket) → StandsBefore c.self.inside.field.now c.self.inside.number c.in-Bracket.reached c.in-Bracket.lower.now
-stands c = let w = c.self.inside in subst (StandsAt w.field.now w.number) c.in-Bracket.is c.self.invariant.stands
+stands : (c : In-Bracket) → StandsBefore c.self.inside.ground.field.now c.self.inside.number c.in-Bracket.reached c.in-Bracket.lower.now
+stands c = let w = c.self.inside in subst (StandsAt w.ground.field.now w.number) c.in-Bracket.is c.self.invariant.stands
 
 pub new-context-requires : goal.new-context-requires
 new-context-requires c =
     let w = c.self.inside in
-    stands_above w.field.now w.number c.in-Bracket.reached c.in-Bracket.lower.now (stands (goal.at.new-context-requires c).In-Bracket)
+    stands_above w.ground.field.now w.number c.in-Bracket.reached c.in-Bracket.lower.now (stands (goal.at.new-context-requires c).In-Bracket)
     (record { falls = c.scores_do_not_ascend.ensures.scores; few = c.scores_do_not_ascend.ensures.few })
 
 pub shape_in-requires : goal.shape_in-requires
@@ -24,14 +24,14 @@ shape_in-requires c =
     let w = c.self.inside in
     record {
       candidate = subst (λ (k : Context). HasCandidate k.facts k.reached k.lower) (sym c.new-context.ensures)
-          (stands_has w.field.now w.number c.in-Bracket.reached c.in-Bracket.lower.now (stands (goal.at.shape_in-requires c).In-Bracket));
+          (stands_has w.ground.field.now w.number c.in-Bracket.reached c.in-Bracket.lower.now (stands (goal.at.shape_in-requires c).In-Bracket));
     }
 
 pub returns-in_default-clause-found : goal.returns-in_default-clause-found
 returns-in_default-clause-found c =
     let w = c.self.inside in
     let inv = c.self.invariant in
-    let facts = w.field.now in
+    let facts = w.ground.field.now in
     subst (λ (walk : Walk). visit_of walk.number (round walk.facts).reached ≡ None) c.self.view_is
     (visit_here w.number inv.passed (round_from facts w.next).reached (round facts).reached inv.count inv.whole
     ∙ ap (λ (next : Next). visit_at 0 (round_from facts next).reached) c.in_default.is)
@@ -40,7 +40,7 @@ pub returns-clause-found : goal.returns-clause-found
 returns-clause-found c =
     let w = c.self.inside in
     let inv = c.self.invariant in
-    let facts = w.field.now in
+    let facts = w.ground.field.now in
     let reached = c.in-Bracket.reached in
     let lower = c.in-Bracket.lower.now in
     let shape = c.in-Ok.shape in

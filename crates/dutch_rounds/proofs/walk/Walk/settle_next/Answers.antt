@@ -13,22 +13,22 @@ use Rattle.dutch_rounds.proofs.walk.Walk.settle_next.Given.{Over}
 use Rattle.dutch_rounds.proofs.walk.Walk.settle_next.Goals as goal
 use Rattle.dutch_rounds.proofs.walk.Walk.settle_next.Goals.{After-behind-self-inside, In-Bracket, In-Some}
 
-stands : (g : Over) (c : In-Bracket g) → StandsBefore c.self.inside.field.now c.self.inside.number c.in-Bracket.reached c.in-Bracket.lower.now
-stands g c = let w = c.self.inside in subst (StandsAt w.field.now w.number) c.in-Bracket.is c.self.invariant.stands
+stands : (g : Over) (c : In-Bracket g) → StandsBefore c.self.inside.ground.field.now c.self.inside.number c.in-Bracket.reached c.in-Bracket.lower.now
+stands g c = let w = c.self.inside in subst (StandsAt w.ground.field.now w.number) c.in-Bracket.is c.self.invariant.stands
 
-told : (g : Over) (c : After-behind-self-inside g) → (c.in-Some.stage.reached ≡ c.in-Bracket.reached) × IsSettled c.self.inside.field.now c.in-Bracket.lower.now c.in-Some.stage
+told : (g : Over) (c : After-behind-self-inside g) → (c.in-Some.stage.reached ≡ c.in-Bracket.reached) × IsSettled c.self.inside.ground.field.now c.in-Bracket.lower.now c.in-Some.stage
 told g c =
-    subst (λ (k : Context). (c.in-Some.stage.reached ≡ k.reached) × IsSettled k.facts k.lower c.in-Some.stage) c.new-context.ensures
+    subst (λ (k : Context). (c.in-Some.stage.reached ≡ k.reached) × IsSettled k.facts k.lower c.in-Some.stage) c.in_ok-context.ensures
     (MatchOption-at_some _ _ c.in-Some.stage c.in-Some.is c.in_ok-stage.ensures.answer)
 
-in_some : (g : Over) (c : In-Some g) → (c.in-Some.stage.reached ≡ c.in-Bracket.reached) × IsSettled c.self.inside.field.now c.in-Bracket.lower.now c.in-Some.stage
+in_some : (g : Over) (c : In-Some g) → (c.in-Some.stage.reached ≡ c.in-Bracket.reached) × IsSettled c.self.inside.ground.field.now c.in-Bracket.lower.now c.in-Some.stage
 in_some g c =
-    subst (λ (k : Context). (c.in-Some.stage.reached ≡ k.reached) × IsSettled k.facts k.lower c.in-Some.stage) c.new-context.ensures
+    subst (λ (k : Context). (c.in-Some.stage.reached ≡ k.reached) × IsSettled k.facts k.lower c.in-Some.stage) c.in_ok-context.ensures
     (MatchOption-at_some _ _ c.in-Some.stage c.in-Some.is c.in_ok-stage.ensures.answer)
 
-goes_on : (g : Over) (c : After-behind-self-inside g) → let facts = c.self.inside.field.now in round_from facts c.self.inside.next ≡ stage_first facts c.in-Some.stage (round_from facts c.behind-self-inside.result)
+goes_on : (g : Over) (c : After-behind-self-inside g) → let facts = c.self.inside.ground.field.now in round_from facts c.self.inside.next ≡ stage_first facts c.in-Some.stage (round_from facts c.behind-self-inside.result)
 goes_on g c =
-    let facts = c.self.inside.field.now in
+    let facts = c.self.inside.ground.field.now in
     ap (round_from facts) c.in-Bracket.is ∙ ap (λ (b : Reached). round_by facts b.kind b c.in-Bracket.lower.now) (sym (told g c).0) ∙ c.behind-self-inside.ensures.rest
 
 -- a context has the candidate of what it is made of
@@ -36,25 +36,24 @@ has_candidate : (context : Context) (facts : Facts) (reached : Reached) (lower :
     → HasCandidate facts reached lower → HasCandidate context.facts context.reached context.lower
 has_candidate context facts reached lower e h = subst (λ (k : Context). HasCandidate k.facts k.reached k.lower) (sym e) h
 
-pub new-context-requires : goal.new-context-requires
-new-context-requires g c =
+pub context_of-requires : goal.context_of-requires
+context_of-requires g c =
     let w = c.self.inside in
-    stands_above w.field.now w.number c.in-Bracket.reached c.in-Bracket.lower.now (stands g (goal.at.new-context-requires g c).In-Bracket)
+    stands_above w.ground.field.now w.number c.in-Bracket.reached c.in-Bracket.lower.now (stands g (goal.at.context_of-requires g c).In-Bracket)
     (record { falls = c.scores_do_not_ascend.ensures.scores; few = c.scores_do_not_ascend.ensures.few })
 
-pub settle-requires : goal.settle-requires
-settle-requires g c =
+pub settle-requires-clause-candidate : goal.settle-requires-clause-candidate
+settle-requires-clause-candidate g c =
     let w = c.self.inside in
-    record {
-      candidate = has_candidate c.new-context.result w.field.now c.in-Bracket.reached c.in-Bracket.lower.now c.new-context.ensures
-          (stands_has w.field.now w.number c.in-Bracket.reached c.in-Bracket.lower.now (stands g (goal.at.settle-requires g c).In-Bracket));
-    }
+    has_candidate c.in_ok-context.context.now w.ground.field.now c.in-Bracket.reached c.in-Bracket.lower.now c.in_ok-context.ensures
+    (stands_has w.ground.field.now w.number c.in-Bracket.reached c.in-Bracket.lower.now
+    (stands g (goal.at.settle-requires-clause-candidate g c).In-Bracket))
 
 pub invariant_of-self-2 : goal.invariant_of-self-2
 invariant_of-self-2 g c =
     let w = c.self.inside in
     let inv = c.self.invariant in
-    let facts = w.field.now in
+    let facts = w.ground.field.now in
     let stage = c.in-Some.stage in
     let next = c.behind-self-inside.result in
     let after = (goal.at.invariant_of-self-2 g c).After-behind-self-inside in
@@ -70,7 +69,7 @@ invariant_of-self-2 g c =
 pub returns-clause-goes : goal.returns-clause-goes
 returns-clause-goes g c =
     let w = c.self.inside in
-    let facts = w.field.now in
+    let facts = w.ground.field.now in
     let stage = c.in-Some.stage in
     let next = c.behind-self-inside.result in
     let after = (goal.at.returns-clause-goes g c).After-behind-self-inside in
@@ -98,10 +97,10 @@ pub behind-self-inside-requires-clause-stands : goal.behind-self-inside-requires
 behind-self-inside-requires-clause-stands g c =
     let w = c.self.inside in
     let before = stands g (goal.at.behind-self-inside-requires-clause-stands g c).In-Bracket in
-    let number = stands_number w.field.now w.number c.in-Bracket.reached c.in-Bracket.lower.now before in
-    subst (λ (b : Reached). StandsBefore w.field.now b.number b c.in-Bracket.lower.now)
+    let number = stands_number w.ground.field.now w.number c.in-Bracket.reached c.in-Bracket.lower.now before in
+    subst (λ (b : Reached). StandsBefore w.ground.field.now b.number b c.in-Bracket.lower.now)
     (sym (in_some g (goal.at.behind-self-inside-requires-clause-stands g c).In-Some).0)
-    (subst (λ (n : ℕ). StandsBefore w.field.now n c.in-Bracket.reached c.in-Bracket.lower.now) (sym number) before)
+    (subst (λ (n : ℕ). StandsBefore w.ground.field.now n c.in-Bracket.reached c.in-Bracket.lower.now) (sym number) before)
 
 pub behind-self-inside-requires-clause-settled : goal.behind-self-inside-requires-clause-settled
 behind-self-inside-requires-clause-settled g c = (in_some g (goal.at.behind-self-inside-requires-clause-settled g c).In-Some).1
@@ -116,7 +115,7 @@ pub returns-in_default-clause-goes : goal.returns-in_default-clause-goes
 returns-in_default-clause-goes g c =
     let w = c.self.inside in
     let inv = c.self.invariant in
-    let facts = w.field.now in
+    let facts = w.ground.field.now in
     let left = sym (ap bye_at c.in_default.is) in
     let passed = sym (append-nil inv.passed) ∙ ap (λ (next : Next). inv.passed ++ (round_from facts next).reached) (sym c.in_default.is) ∙ inv.whole in (
       refl,
@@ -130,14 +129,14 @@ returns-in_default-clause-goes g c =
 pub behind-self-inside-requires-clause-group : goal.behind-self-inside-requires-clause-group
 behind-self-inside-requires-clause-group g c =
     ap (λ (seats : List ℕ). length seats)
-    (subst (λ (k : Context). c.next.result.now ≡ first_group k.facts (scoregroups k.facts k.lower)) c.new-context.ensures c.next.ensures.value)
+    (subst (λ (k : Context). c.next.result.now ≡ first_group k.facts (scoregroups k.facts k.lower)) c.in_ok-context.ensures c.next.ensures.value)
 
 pub returns-in_default-2-clause-goes : goal.returns-in_default-2-clause-goes
 returns-in_default-2-clause-goes g c =
     let w = c.self.inside in
     let inv = c.self.invariant in
-    let rest = (round_from w.field.now w.next).reached in
-    let all : length (inv.passed ++ rest) ≡ length (round w.field.now).reached = ap (λ (visits : List Visit). length visits) inv.whole in
+    let rest = (round_from w.ground.field.now w.next).reached in
+    let all : length (inv.passed ++ rest) ≡ length (round w.ground.field.now).reached = ap (λ (visits : List Visit). length visits) inv.whole in
     let both : length (inv.passed ++ rest) ≡ length inv.passed + length rest = length-append inv.passed rest in (
       MatchOption-at_none _ _ c.in_default-2.is c.in_ok-stage.ensures.answer
           ∙ (c.in_ok-stage.ensures.spends.limit ∙ ap (λ (walk : Walk). walk.limit) c.self.view_is),

@@ -3,7 +3,7 @@ use Rattle.std.proofs.Common.{Option, subst}
 use Rattle.dutch_bracket.proofs.ShapeLaws.{has_room, shape_there}
 use Rattle.dutch_choice.specs.Prelude.{IsFoundShape}
 use Rattle.dutch_choice.specs.declared.start.FoundShape.{FoundShape}
-use Rattle.dutch_choice.proofs.choice.chosen_by.Goals as goal
+use Rattle.dutch_choice.proofs.choice.choose_in.Goals as goal
 
 pub unreachable-requires : goal.unreachable-requires
 unreachable-requires g c =
