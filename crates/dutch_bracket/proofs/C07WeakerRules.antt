@@ -1,16 +1,13 @@
--- A rule by which no fewer players may meet has no fewer pairs, in brackets with the same scores (C.04.3 C.5, C.7).
---
--- Each shape that has an arrangement by the stronger rule has one by the weaker. So the greatest that has one by the weaker rule is no less.
-use Rattle.std.proofs.Common.{◌≡◌, ℕ, ◌-◌, ◌/◌, ◌≤◌, Bool, true, false, not, ◌&&◌, ◌||◌, nat_lt, cond, inl, inr, List, [], ◌∷◌, length, Option, Some, None, refl, ap, ◌∙◌, arith}
-use Rattle.std.proofs.lemmas.Bool.{and_from, and_parts, cases_lt}
+-- What is legal by a rule is legal by a weaker one (C.04.3 B.3); and what is known of every greatest shape (C.5, C.7).
+use Rattle.std.proofs.Common.{◌≡◌, ℕ, ◌-◌, ◌/◌, ◌≤◌, Bool, true, false, not, ◌&&◌, ◌||◌, nat_lt, cond, List, [], ◌∷◌, length, Option, Some, None, refl, ap, ◌∙◌, arith}
+use Rattle.std.proofs.lemmas.Bool.{and_from, and_parts}
 use Rattle.std.proofs.lemmas.Bool.Decides.{nat_tests}
 use Rattle.dutch_arrangements.specs.declared.bracket.Shape.{Shape}
-use Rattle.dutch_arrangements.specs.Prelude.{all_meet, IsIn, Frame, Arrangement, arrangements, candidates, is_legal, leaves_one, down}
-use Rattle.dutch_sequence.proofs.Orders.{IsIn-filter, IsIn-flat_map, filter-IsIn}
+use Rattle.dutch_arrangements.specs.Prelude.{all_meet, Frame, Arrangement, candidates, is_legal, leaves_one, down}
+use Rattle.dutch_sequence.proofs.Orders.{IsIn-flat_map}
 use Rattle.dutch_player.proofs.PresentLemmas.{or_more}
 use Rattle.dutch_bracket.specs.Prelude.{down_from, fits, greatest_shape, has_member, shapes_with}
-use Rattle.dutch_bracket.proofs.ShapeLaws.{all, among, down_in, greatest_known, of_pairs}
-use Rattle.dutch_bracket.proofs.ShapeSearch.{has, has_in, member_of}
+use Rattle.dutch_bracket.proofs.ShapeLaws.{among, down_in, greatest_known, of_pairs}
 
 and_weaker : (s t s' t' : Bool) → (s ≡ true → s' ≡ true) → (t ≡ true → t' ≡ true) → (s && t) ≡ true → (s' && t') ≡ true
 and_weaker true t s' t' f g e = ap (λ b. b && t') (f refl) ∙ g e
@@ -37,36 +34,6 @@ module _ (meets meets' : ℕ → ℕ → Bool) (left left' : ℕ → Bool) (more
       (all_meet meets' a.s1r a.s2r) (not frame.last || leaves_one left' (down frame a))
       (all_weaker a.s1r a.s2r) (or_more (not frame.last) (leaves_one left (down frame a)) (leaves_one left' (down frame a)) (one_weaker (down frame a))))
       e
-
-  has_weaker : (frame : Frame) (shape : Shape) → has_member (candidates meets left frame shape) ≡ true → has_member (candidates meets' left' frame shape) ≡ true
-  has_weaker frame shape e =
-      let one = member_of (candidates meets left frame shape) e in
-      let kept = IsIn-filter (is_legal meets left frame) one.0 (arrangements frame shape) one.1 in
-      has_in one.0 (candidates meets' left' frame shape) (filter-IsIn (is_legal meets' left' frame) one.0 (arrangements frame shape) kept.0 (legal_weaker frame one.0 kept.1))
-
--- where a shape has an arrangement, one is found with no fewer pairs
-no_fewer : (e : Shape → List Arrangement) (frame : Frame) (s : Shape) → IsIn s (all (length frame.scores / 2)) → has e (fits frame) s ≡ true
-    → (o : Option Shape) → greatest_shape e frame ≡ o → (s' : Shape) × (greatest_shape e frame ≡ Some s') × (s.pairs ≤ s'.pairs)
-no_fewer e frame s listed counts None h = absurd (greatest_known e frame None h s listed counts)
-no_fewer e frame s listed counts (Some s') h = (
-  s',
-  h,
-  elim (cases_lt s'.pairs s.pairs) [
-    | inl more ↦ absurd ((greatest_known e frame (Some s') h).2 s listed counts (inl more))
-    | inr le ↦ le
-  ],
-)
-
--- a rule by which no fewer may meet has no fewer pairs
-pub a_weaker_rule_has_no_fewer_pairs : (meets meets' : ℕ → ℕ → Bool) (left left' : ℕ → Bool) → ((i j : ℕ) → meets i j ≡ true → meets' i j ≡ true) → ((i : ℕ) → left i ≡ true → left' i ≡ true)
-    → (frame : Frame) (s : Shape) → greatest_shape (candidates meets left frame) frame ≡ Some s
-    → (s' : Shape) × (greatest_shape (candidates meets' left' frame) frame ≡ Some s') × (s.pairs ≤ s'.pairs)
-a_weaker_rule_has_no_fewer_pairs meets meets' left left' more may frame s h =
-    let one = greatest_known (candidates meets left frame) frame (Some s) h in
-    let both = and_parts (fits frame s) (has_member (candidates meets left frame s)) one.1 in
-    no_fewer (candidates meets' left' frame) frame s one.0
-    (and_from (fits frame s) (has_member (candidates meets' left' frame s)) both.0 (has_weaker meets meets' left left' more may frame s both.1))
-    (greatest_shape (candidates meets' left' frame) frame) refl
 
 -- a shape that is found fits, has an arrangement, and has at most half the players in pairs
 pub found_fits : (e : Shape → List Arrangement) (frame : Frame) (s : Shape) → greatest_shape e frame ≡ Some s → fits frame s ≡ true

@@ -1,6 +1,6 @@
 pub mod AllLemmas
 pub mod C07WeakerRules
-pub mod GhostPairs
+pub mod DownCount
 pub mod RepeatedLemmas
 pub mod ArrangementParts
 pub mod C08ToC19Fixed

@@ -24,7 +24,6 @@ pub mod Beginnings
 pub mod ColourFloors
 pub mod PsdFloors
 pub mod Floors
-pub mod Ghosts
-pub mod GhostLaws
+pub mod NextByCounts
 pub mod BitTables
 pub mod Prelude

@@ -35,7 +35,5 @@ pub use Rattle.dutch_bracket.specs.PsdFloors.{IsUniform, floor_psd, is_uniform, 
 unfoldable pub use Rattle.dutch_bracket.specs.PsdFloors.{psd_with}
 pub use Rattle.dutch_bracket.specs.Floors.{IsFloor, NotBelow, floor_with}
 unfoldable pub use Rattle.dutch_bracket.specs.Floors.{floor_over}
-pub use Rattle.dutch_bracket.specs.Ghosts.{IsNotBetter, ghost_floor, ghost_frame, ghost_pair, ghost_scores, is_upto, may_bye, pairs_by_counts, some_meets}
-unfoldable pub use Rattle.dutch_bracket.specs.Ghosts.{ghost_may_be_left, ghosts_meet}
-pub use Rattle.dutch_bracket.specs.GhostLaws.{ghosts_meet_sym}
+pub use Rattle.dutch_bracket.specs.NextByCounts.{IsNotBetter, floor_below, pairs_by_counts, scores_down}
 unfoldable pub use Rattle.dutch_bracket.specs.BitTables.{has_bit}

@@ -20,11 +20,6 @@ pub const FIRST_STEPS: u64 = 64;
 /// too great, a matching takes far more than the listing before it; if it is too small, the listing takes far more.
 pub const CUBE_DIVISOR: u64 = 8;
 
-/// Steps for each player of the bracket and the next scoregroup: of the listing of ghosts for what the next bracket can
-/// be at best (C.7). With fewer, counts alone tell of it more often, and more candidates are looked at; with more, a
-/// listing that does not end takes more in vain. (Of 113 hard reports 105 were decided with ghosts, and 95 without.)
-const OUTLOOK_STEPS: u64 = 128;
-
 /// Steps of the first passes, without weights: so many for each player, and so many for each player with each. They
 /// decide most brackets. With fewer, more brackets are weighed; with more, a hard one is weighed later.
 const PASS_STEPS: u64 = 128;
@@ -77,22 +72,11 @@ pub const MOST_BITS: usize = 482;
 /// there is no floor.
 pub const NEVER_LEFT: u32 = 2048;
 
-/// So many steps for each player, and so many for each player with each.
-fn steps_for(players: usize, each: u64, with_each: u64) -> u64 {
-    let players = players as u64;
-    players
-        .saturating_mul(with_each)
-        .saturating_add(each)
-        .saturating_mul(players)
-}
-
-/// How many steps are spent on what the next bracket can be at best, by the players of both: a step for each player of
-/// the bracket with each of the next scoregroup, and a listing.
-pub fn outlook_steps(players: usize) -> u64 {
-    steps_for(players, OUTLOOK_STEPS, 1)
-}
-
 /// How many steps passes make before the pairs of a bracket of so many players are weighed.
 pub fn first_pass_steps(players: usize) -> u64 {
-    steps_for(players, PASS_STEPS, PASS_STEPS_WITH_EACH)
+    let players = players as u64;
+    players
+        .saturating_mul(PASS_STEPS_WITH_EACH)
+        .saturating_add(PASS_STEPS)
+        .saturating_mul(players)
 }

@@ -1,5 +1,5 @@
 -- What the next bracket can be at best, whatever arrangement is chosen (C.04.3 C.7): no more pairs than half its number of players, and no
--- better value than ghosts find, if the arrangement leaves the Limbo that they stand for.
+-- lower PSD than the floor for so many, if the arrangement leaves the Limbo of the first S1.
 use Rattle.std.proofs.Common.{◌≡◌, ℕ, ◌+◌, ◌-◌, ◌*◌, ◌/◌, ◌<◌, ◌≤◌, Bool, true, false, ◌||◌, nat_lt, List, [], ◌++◌, length, Option, Some, None, refl, sym, ap, subst, ◌∙◌, inl, inr, arith}
 use Rattle.std.proofs.lemmas.Bool.{and_parts, eqb-true, ltb-true}
 use Rattle.std.proofs.lemmas.List.{length-map, length-append}
@@ -13,12 +13,12 @@ use Rattle.dutch_bracket.specs.declared.reached.BracketKind.{BracketKind}
 use Rattle.dutch_bracket.specs.declared.reached.BracketKind.TheVariants.{Ordinary, Last, Penultimate, Collapsed}
 use Rattle.dutch_floors.specs.FloorOf.{is_flat, residents_score, s1_by}
 use Rattle.dutch_bracket.specs.Prelude.{is_uniform, has_s1, lists_by, IsNotBetter, pairs_by_counts, IsFlat, is_lower, next_bracket, no_value, value_in, quality, HasNoBetter, NextValue, quality_with, IsAbove, IsOf, Reached, frame_of, downfloaters, first_group, quality_of, scoregroups, score_at, seat_of}
-use Rattle.dutch_floors.specs.GhostValues.{first_limbo, ghost_value}
+use Rattle.dutch_floors.specs.FirstValues.{first_limbo, first_value}
 use Rattle.dutch_floors.specs.Outlooks.{IsOutlook, Outlook, best_next_for, first_or_any, limbo_scores, leaves_first}
 use Rattle.dutch_candidates.proofs.C06Psd.{flat_by_ends, uniform_of}
-use Rattle.dutch_bracket.proofs.GhostPairs.{down_count}
-use Rattle.dutch_floors.proofs.C07Ghosts.{no_value_has_more_than_half_the_players_in_pairs}
-use Rattle.dutch_floors.proofs.C07GhostValues.{first_limbo_of_all, no_value_is_better_than_by_ghosts}
+use Rattle.dutch_bracket.proofs.DownCount.{down_count}
+use Rattle.dutch_floors.proofs.C07ByCounts.{no_value_has_more_than_half_the_players_in_pairs}
+use Rattle.dutch_floors.proofs.C07FirstValues.{first_limbo_of_all, no_value_is_better_than_the_first}
 use Rattle.dutch_bracket.proofs.NextGroups.{first_is_next}
 
 not_better : (value next : NextValue) → IsNotBetter value next.pairs next.psd
@@ -93,27 +93,20 @@ module _ (facts : Facts) (reached : Reached) (lower : List ℕ) (shape : Shape) 
       (subst (λ n. IsNotBetter (value_at Ordinary a) n []) (half_of a of' fits m)
       (no_value_has_more_than_half_the_players_in_pairs facts (next_bracket (downfloaters facts reached a) group))))
 
-  -- by counts alone
-  pub by_counts : (outlook : Outlook) → IsOf facts reached → Fits (frame_of facts reached) shape → reached.kind ≡ Ordinary
-      → outlook.first ≡ None → outlook.any ≡ record { pairs = pairs_by_counts reached shape group; psd = [] } → IsOutlook facts reached lower shape outlook
-  by_counts outlook of' fits ordinary first any = record {
-    any = λ a m. counts_hold a outlook.any of' fits ordinary any m;
-    first = λ value some. let bad : None ≡ Some value = sym first ∙ some in absurd (cc);
-  }
-
-  -- and with ghosts, where all residents have one score
-  pub with_ghosts : (before outlook : Outlook) (value : NextValue) → IsAbove facts reached lower → reached.kind ≡ Ordinary → IsFlat facts reached
-      → IsOutlook facts reached lower shape before → value ≡ ghost_value facts reached shape group → outlook.first ≡ Some value
-      → outlook.any ≡ before.any → IsOutlook facts reached lower shape outlook
-  with_ghosts before outlook value above ordinary flat is by first any = record {
-    any = λ a m. subst (HasNoBetter (quality_of facts reached lower a)) (sym any) (is.any a m);
-    first = λ found some.
-        let same : found ≡ ghost_value facts reached shape group = (let one : Some value ≡ Some found = sym first ∙ some in let v : found ≡ value = cc in v) ∙ by in (
-          flat,
+  -- below an ordinary bracket; of the first value something is known where all residents have one score
+  pub by_counts : (outlook : Outlook) → IsAbove facts reached lower → Fits (frame_of facts reached) shape → reached.kind ≡ Ordinary
+      → ((value : NextValue) → outlook.first ≡ Some value → IsFlat facts reached × (value ≡ first_value facts reached shape group))
+      → outlook.any ≡ record { pairs = pairs_by_counts reached shape group; psd = [] } → IsOutlook facts reached lower shape outlook
+  by_counts outlook above fits ordinary first any = record {
+    any = λ a m. counts_hold a outlook.any above.bracket fits ordinary any m;
+    first = λ value some.
+        let known = first value some in (
+          known.0,
           λ a m limbo.
-              subst (HasNoBetter (quality_of facts reached lower a)) (sym same)
-              (from_value a (ghost_value facts reached shape group) (value_at Ordinary a) (ordinary_value a ordinary)
-              (no_value_is_better_than_by_ghosts facts reached above.bracket flat shape a m ordinary group (first_is_next facts reached lower above) limbo)),
+              subst (HasNoBetter (quality_of facts reached lower a)) (sym known.1)
+              (from_value a (first_value facts reached shape group) (value_at Ordinary a) (ordinary_value a ordinary)
+              (no_value_is_better_than_the_first facts reached above.bracket known.0 shape a m ordinary group (first_is_next facts reached lower above) limbo
+              (half_of a above.bracket fits m))),
         );
   }
 

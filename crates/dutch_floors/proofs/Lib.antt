@@ -1,7 +1,6 @@
 pub mod C07PsdFloor
-pub mod C07Ghosts
-pub mod C07GhostValues
-pub mod GhostBrackets
+pub mod C07ByCounts
+pub mod C07FirstValues
 pub mod C10Preferences
 pub mod LonelyLemmas
 pub mod FloorLemmas

@@ -1,6 +1,5 @@
 -- What the contracts of dutch_floors name: `Behind` what floors promise, the others how they are counted.
-pub mod GhostRules
-pub mod GhostValues
+pub mod FirstValues
 pub mod Behind
 pub mod FloorOf
 pub mod Outlooks

@@ -3,7 +3,7 @@ use Rattle.std.specs.Prelude.{◌≡◌, ℕ, Bool, if◌then◌else◌, List, m
 use Rattle.dutch_arrangements.specs.declared.bracket.Shape.{Shape}
 use Rattle.dutch_arrangements.specs.Prelude.{Arrangement, arrangements, left_of, is_same, numbers_from, IsIn}
 use Rattle.dutch_player.specs.Prelude.{Facts}
-use Rattle.dutch_floors.specs.GhostValues.{first_limbo}
+use Rattle.dutch_floors.specs.FirstValues.{first_limbo}
 use Rattle.dutch_bracket.specs.declared.shaped.ShapedBracket.{ShapedBracket}
 use Rattle.dutch_bracket.specs.Prelude.{IsFlat, HasNoBetter, NextValue, Reached, frame_of, quality_of, seat_of, score_at}
 

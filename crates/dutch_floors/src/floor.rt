@@ -1,8 +1,7 @@
 // The floor of a beginning: a quality that no candidate with this beginning is better than (C.04.3 C.6 to C.19). It is
 // asked for at each beginning that a choice comes to, so it takes no memory and looks at each player only a few times.
 ghost use Rattle.std.specs.Prelude.{◌≡◌, ◌≤◌, IfOk, ◌||◌, ◌&&◌, ℕ, [], true, filter, length};
-ghost use Rattle.std.specs.Result.{MatchResult};
-ghost use Rattle.dutch_arrangements.specs.Prelude.{Fits, Spends};
+ghost use Rattle.dutch_arrangements.specs.Prelude.{Fits};
 ghost use Rattle.dutch_arrangements.specs.declared.prefix.Filling.TheVariants.{S2r};
 ghost use Rattle.dutch_sequence.specs.declared.numbers.TheConstants.{LIMIT};
 ghost use Rattle.dutch_bracket.specs.Prelude as brackets;
@@ -19,7 +18,7 @@ use crate::known_pairs::{KnownPairs, PairSums, fill_uneven};
 use crate::lonely::{lonely, most_lonely};
 use crate::notes::{FloorNotes, FloorQuestion};
 use crate::outlook::{Outlook, is_flat};
-use dutch_arrangements::{Budget, Filling, LIMIT, Numbers, Prefix, Shape, Stopped};
+use dutch_arrangements::{Filling, LIMIT, Numbers, Prefix, Shape};
 use dutch_bracket::differences::fill_psd;
 use dutch_bracket::quality::{NextValue, Quality, QualityLists, fill_floats};
 use dutch_bracket::shaped::ShapedBracket;
@@ -68,7 +67,7 @@ impl<'a> Model for Floors<'a> {
 }
 
 impl<'a> Floors<'a> {
-    /// The floors of a shape, where counts alone tell of the next bracket.
+    /// The floors of a shape.
     #[tactic(auto, using(dutch_candidates::proofs::ShapeNumbers::small_mdps))]
     pub fn by_counts(shaped: &ShapedBracket<'a>) -> Result<Floors<'a>, AllocError>
         ensures { IfOk result (IsBasisFor shaped.now) }
@@ -86,15 +85,6 @@ impl<'a> Floors<'a> {
             wants: wants_in(context, false),
             firm_wants: wants_in(context, true),
         })
-    }
-
-    /// Looks for what the next bracket can be at best (C.7). If the steps end, less is known of it.
-    pub fn look_below(&mut self, budget: &mut Budget) -> Result<(), Stopped>
-        ensures floors { (shaped : ShapedBracket) → IsBasisFor shaped self.old → IsBasisFor shaped self.new }
-        ensures stopped { MatchResult result (λ _. Unit {0}) (λ _. budget.new.used ≡ budget.new.limit) }
-        ensures spends { Spends budget.old budget.new }
-    {
-        self.outlook.look_below(&self.shaped, budget)
     }
 
     /// The shape, and that the bracket has room for it.

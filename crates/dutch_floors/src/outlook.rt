@@ -1,14 +1,13 @@
-// The best that the next bracket can be, found before any candidate is looked at (C.04.3 C.7): by ghosts if the
-// bracket's residents have one score, otherwise by counting players.
-ghost use Rattle.std.specs.Prelude.{◌≡◌, IfOk};
-ghost use Rattle.std.specs.Result.{MatchResult};
+// The best that the next bracket can be, known before any candidate is looked at (C.04.3 C.7): no more pairs than half
+// of its players make; and if the bracket's residents have one score, no PSD below the floor for as many pairs.
+ghost use Rattle.std.specs.Prelude.{◌≡◌, IfOk, IfSome};
+ghost use Rattle.dutch_bracket.specs.declared.reached.BracketKind.TheVariants.{Ordinary};
+ghost use Rattle.dutch_bracket.specs.Prelude.{IsFlat, IsOf, group_here};
+ghost use Rattle.dutch_floors.specs.FirstValues.{first_value};
 ghost use Rattle.dutch_floors.specs.FloorOf.{is_flat};
-ghost use Rattle.dutch_bracket.specs.Prelude.{pairs_by_counts, group_here, IsAbove, IsOf};
 ghost use Rattle.dutch_floors.specs.Outlooks.{IsOutlookFrom, best_next_for, leaves_first};
-ghost use Rattle.dutch_arrangements.specs.Prelude.{Spends};
 
-use crate::ghost_value::ghost_value;
-use dutch_arrangements::{Budget, Stopped};
+use crate::first_value::{first_value, pairs_by_counts};
 use dutch_bracket::context::Context;
 use dutch_bracket::quality::NextValue;
 use dutch_bracket::reached::BracketKind;
@@ -58,17 +57,6 @@ fn leaves_first(shaped: &ShapedBracket<'_>, s1: &[u16]) -> bool
     passed == moved_down
 }
 
-/// The most pairs of the next bracket by counts: half of those who go down and of the next lower scoregroup.
-#[tactic(auto, using(crate::proofs::C07Outlook::few_pairs))]
-fn pairs_by_counts(shaped: &ShapedBracket<'_>) -> usize
-    ensures value { let context = shaped.now.context.now
-        in result ≡ pairs_by_counts context.reached shaped.now.shape (group_here context) }
-    ensures above { let context = shaped.now.context.now in IsAbove context.facts context.reached context.lower }
-{
-    let down = shaped.context.reached().seats().len() - 2 * shaped.shape.pairs;
-    (down + shaped.context.next().len()) / 2
-}
-
 /// Yes if a bracket has residents, and all of them have one score. (They stand by score, so the first and the last of
 /// them tell it.)
 pub(crate) fn is_flat(context: &Context<'_>) -> bool
@@ -83,42 +71,36 @@ pub(crate) fn is_flat(context: &Context<'_>) -> bool
     field.score(seats[reached.mdps()]) == field.score(seats[seats.len() - 1])
 }
 
+/// What is known below arrangements that leave the first Limbo, where all residents have one score.
+#[tactic(auto, using(crate::proofs::C07Outlook::flat_residents))]
+fn first_below(shaped: &ShapedBracket<'_>) -> Result<Option<Box<NextValue>>, AllocError>
+    requires { shaped.now.context.now.reached.kind ≡ Ordinary }
+    ensures { let context = shaped.now.context.now in IfOk result (λ found. IfSome found
+        (λ value. IsFlat context.facts context.reached
+        × (value.value ≡ first_value context.facts context.reached shaped.now.shape (group_here context)))) }
+{
+    if !is_flat(shaped.context) {
+        return Ok(None);
+    }
+    Ok(Some(Box::new(shaped.context.alloc(), first_value(shaped))?))
+}
+
 impl Outlook {
-    /// What counts alone tell of the next bracket below candidates of a shape. It counts only below an ordinary
-    /// bracket.
+    /// What counts tell of the next bracket below candidates of a shape. It counts only below an ordinary bracket.
     #[tactic(auto, using(crate::proofs::C07Outlook::none_counts, crate::proofs::C07Outlook::by_counts))]
     pub(crate) fn by_counts(shaped: &ShapedBracket<'_>) -> Result<Outlook, AllocError>
         ensures { IfOk result (IsOutlookFrom shaped.now) }
     {
         let mut any = Box::new(shaped.context.alloc(), NextValue::none())?;
         match shaped.context.reached().kind() {
-            BracketKind::Ordinary => any.pairs = pairs_by_counts(shaped),
-            BracketKind::Last | BracketKind::Penultimate | BracketKind::Collapsed => {}
-        }
-        Ok(Outlook { first: None, any })
-    }
-
-    /// Looks by ghosts for the best that the next bracket can be, below an ordinary bracket whose residents have one
-    /// score. If memory is refused, counts alone tell of it. (Apart from its caller, as not all brackets are so.)
-    #[inline(never)]
-    #[tactic(auto, using(crate::proofs::C07Outlook::with_ghosts, crate::proofs::C07Outlook::flat_residents))]
-    pub(crate) fn look_below(
-        &mut self,
-        shaped: &ShapedBracket<'_>,
-        budget: &mut Budget,
-    ) -> Result<(), Stopped>
-        requires { IsOutlookFrom shaped.now self.old }
-        ensures outlook { IsOutlookFrom shaped.now self.new }
-        ensures stopped { MatchResult result (λ _. Unit {0}) (λ _. budget.new.used ≡ budget.new.limit) }
-        ensures spends { Spends budget.old budget.new }
-    {
-        match shaped.context.reached().kind() {
-            BracketKind::Ordinary if is_flat(shaped.context) => {
-                let value = ghost_value(shaped, budget)?;
-                self.first = Box::new(shaped.context.alloc(), value).ok();
-                Ok(())
+            BracketKind::Ordinary => {
+                any.pairs = pairs_by_counts(shaped);
+                let first = first_below(shaped)?;
+                Ok(Outlook { first, any })
             }
-            _ => Ok(()),
+            BracketKind::Last | BracketKind::Penultimate | BracketKind::Collapsed => {
+                Ok(Outlook { first: None, any })
+            }
         }
     }
 

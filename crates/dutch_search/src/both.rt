@@ -1,15 +1,11 @@
 // What is known of the candidates of a bracket and a shape by floors of both kinds.
 ghost use Rattle.std.specs.Prelude.{◌≡◌, IfOk, None};
-ghost use Rattle.std.specs.Result.{MatchResult};
-ghost use Rattle.dutch_arrangements.specs.Prelude.{Spends};
 ghost use Rattle.dutch_floors.specs.Behind.{IsBasisFor};
 
-use dutch_arrangements::{Budget, Stopped};
 use dutch_bracket::context::Context;
 use dutch_bracket::fault::PairFault;
 use dutch_bracket::shaped::ShapedBracket;
-use dutch_bracket::spending::at_most;
-use dutch_bracket::tuning::{LARGE_BRACKET, MOST_WEIGHED, outlook_steps};
+use dutch_bracket::tuning::{LARGE_BRACKET, MOST_WEIGHED};
 use dutch_floors::floor::Floors;
 use dutch_weight_floors::weight_floor::WeightFloors;
 use std::alloc::Global;
@@ -45,24 +41,6 @@ impl<'a> BothFloors<'a> {
             counts: Floors::by_counts(shaped)?,
             weights: no_weights(shaped.context.alloc())?,
         })
-    }
-
-    /// Looks for what the next bracket can be at best, in few steps (C.7). If these do not suffice, counts alone tell
-    /// of it.
-    pub(crate) fn look_below(&mut self, budget: &mut Budget) -> Result<(), Stopped>
-        ensures shaped { self.new.shaped ≡ self.old.shaped }
-        ensures counts { IsBasisFor self.new.shaped self.new.counts }
-        ensures weights { self.new.weights ≡ self.old.weights }
-        ensures stopped { MatchResult result (λ _. Unit {0}) (λ _. budget.new.used ≡ budget.new.limit) }
-        ensures spends { Spends budget.old budget.new }
-    {
-        let mut few = at_most(outlook_steps(self.shaped.context.len_below()), budget);
-        let looked = self.counts.look_below(&mut few);
-        budget.used = few.used;
-        match looked {
-            Err(Stopped) if budget.used == budget.limit => Err(Stopped),
-            _ => Ok(()),
-        }
     }
 }
 

@@ -138,9 +138,6 @@ impl Finder for WithFloors {
         budget: &mut Budget,
     ) -> Result<Step<Box<Best>>, PairFault> {
         let mut state = state_for(&asked.shaped, room)?;
-        if state.guide.look_below(budget).is_err() {
-            return Ok(Step::Undecided);
-        }
         let mut pass = first_pass(asked, &mut *state, room)?;
         let search = PassRoom {
             state,

@@ -17,7 +17,7 @@ use Rattle.dutch_bracket.proofs.AllLemmas.{all_join}
 use Rattle.dutch_bracket.proofs.ArrangementParts.{parts_of}
 use Rattle.dutch_weighing.proofs.C06ToC19Weights.{IsSmallBelow, candidate_digits}
 use Rattle.dutch_bracket.proofs.Everybody.{arranged, bracket_whole}
-use Rattle.dutch_bracket.proofs.GhostPairs.{down_count}
+use Rattle.dutch_bracket.proofs.DownCount.{down_count}
 use Rattle.dutch_bracket.proofs.LegalPairs.{in_passes, legal_of}
 use Rattle.dutch_bracket.proofs.Totals.{total}
 

@@ -2,7 +2,7 @@
 use Rattle.std.proofs.Common.{◌≡◌, ◌+◌, ◌-◌, drop, map}
 use Rattle.arrayvec.specs.ArrayVec.{array_vec_len}
 use Rattle.dutch_bracket.specs.Prelude.{placed_all}
-use Rattle.dutch_floors.proofs.ghost_value.put_above.Given as goal
+use Rattle.dutch_floors.proofs.first_value.put_above.Given as goal
 
 abbrev pub invariant-loop-score : goal.invariant-loop-score
 invariant-loop-score l = record {

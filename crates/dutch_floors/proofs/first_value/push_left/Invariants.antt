@@ -3,7 +3,7 @@ use Rattle.std.proofs.Common.{◌≡◌, ◌+◌, ◌≤◌, ◌++◌, drop, map
 use Rattle.arrayvec.specs.ArrayVec.{array_vec_len}
 use Rattle.dutch_arrangements.specs.Prelude.{left_of}
 use Rattle.dutch_bracket.specs.Prelude.{seat_of, score_at}
-use Rattle.dutch_floors.proofs.ghost_value.push_left.Given as goal
+use Rattle.dutch_floors.proofs.first_value.push_left.Given as goal
 
 abbrev pub invariant-loop-number : goal.invariant-loop-number
 invariant-loop-number l = record {

@@ -5,7 +5,7 @@ use Rattle.dutch_arrangements.specs.Prelude.{left_of, numbers_from}
 use Rattle.dutch_sequence.proofs.Members.{length-numbers}
 use Rattle.dutch_bracket.specs.Prelude.{Reached, seat_of, score_at}
 use Rattle.dutch_bracket.proofs.ArrangementParts.{left_none}
-use Rattle.dutch_floors.proofs.ghost_value.first_limbo.Goals as goal
+use Rattle.dutch_floors.proofs.first_value.first_limbo.Goals as goal
 
 pub returns-clause-items : goal.returns-clause-items
 returns-clause-items c =
