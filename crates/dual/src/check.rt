@@ -32,7 +32,7 @@ impl Row<'_> {
     // What a pair of the row's player pays.
     fn tolls(&self, v: u16) -> Option<Wide>
         ensures { let tolls = sum_by (λ set. toll_of v set.now) self.now.sets.items in SomeIff result
-            (tolls < 2 ^ 512) tolls }
+            (tolls < 2 ^ 1024) tolls }
     {
         let mut sum = Wide::zero();
         for set in &self.sets {
@@ -80,7 +80,7 @@ impl CertificateTable {
         requires second { R.knows rule.now v }
         requires sets { (v : ℕ) → sum_by (λ set. toll_of v set.now) row.now.sets.items
             ≡ sum_by (toll (row.now.player, v)) (certificate_in self.now).sets }
-        ensures { SomeIff result (CanBear (R.costs rule.now) (certificate_in self.now) (2 ^ 512) row.now.player v)
+        ensures { SomeIff result (CanBear (R.costs rule.now) (certificate_in self.now) (2 ^ 1024) row.now.player v)
             (slack (R.costs rule.now) (certificate_in self.now) (row.now.player, v)) }
     {
         let weight = rule.weight(row.player, v);
@@ -93,7 +93,7 @@ impl CertificateTable {
     // What a player left over could bear beyond the potential; none if the player cannot bear it.
     fn slack_left<R: MatchingRule>(&self, rule: &R, v: u16) -> Option<Wide>
         requires { R.knows rule.now v }
-        ensures { SomeIff result (CanBearLeft (R.costs rule.now) (certificate_in self.now) (2 ^ 512) v)
+        ensures { SomeIff result (CanBearLeft (R.costs rule.now) (certificate_in self.now) (2 ^ 1024) v)
             (slack_left (R.costs rule.now) (certificate_in self.now) v) }
     {
         let bears = rule.left_cost(v).plus(self.given_left)?;
@@ -115,7 +115,7 @@ impl CertificateTable {
             ≡ sum_by (toll (row.now.player, v)) (certificate_in self.now).sets }
         ensures size { length slacks.new ≡ length slacks.old }
         ensures whole { IfOk result (λ all. IsTrue all ↔ AllBear (R.costs pool.now.rule.now) (certificate_in self.now)
-            (2 ^ 512) row.now.player pool.now.players.now) }
+            (2 ^ 1024) row.now.player pool.now.players.now) }
         ensures value { IfOk result (λ all. IsTrue all → HasSlacks (R.costs pool.now.rule.now) (certificate_in self.now)
             row.now.player pool.now.players.now row.now.start slacks.new) }
         ensures others { (k : ℕ) → (All (λ v. ¬ (row.now.start + v ≡ k)) pool.now.players.now)
@@ -143,7 +143,7 @@ impl CertificateTable {
         requires below { All (λ v. v < size) pool.now.players.now }
         requires few { size ≤ MOST }
         ensures whole { IfOk result (λ found. IsSome found ↔ All (λ u. AllBear (R.costs pool.now.rule.now)
-            (certificate_in self.now) (2 ^ 512) u pool.now.players.now) pool.now.players.now) }
+            (certificate_in self.now) (2 ^ 1024) u pool.now.players.now) pool.now.players.now) }
         ensures value { IfOk result (λ found. IfSome found (λ slacks. All (λ u. HasSlacks (R.costs pool.now.rule.now)
             (certificate_in self.now) u pool.now.players.now (u * size) slacks) pool.now.players.now)) }
     {
@@ -167,7 +167,7 @@ impl CertificateTable {
         requires known { All (R.knows pool.now.rule.now) pool.now.players.now }
         requires below { All (λ v. v < size) pool.now.players.now }
         ensures whole { let costs = R.costs pool.now.rule.now in IfOk result (λ found. IsSome found
-            ↔ All (λ v. costs.may_be_left v ≡ true → CanBearLeft costs (certificate_in self.now) (2 ^ 512) v)
+            ↔ All (λ v. costs.may_be_left v ≡ true → CanBearLeft costs (certificate_in self.now) (2 ^ 1024) v)
             pool.now.players.now) }
         ensures value { let costs = R.costs pool.now.rule.now in IfOk result (λ found. IfSome found (λ slacks.
             All (λ v. costs.may_be_left v ≡ true → slice_index slacks.items v ≡ slack_left costs
@@ -186,7 +186,7 @@ impl CertificateTable {
     }
 
     /// The floor that the certificate is, for matchings that leave so many players over. There is none if the
-    /// certificate is not feasible, or if a sum of its numbers is 2^512 or more.
+    /// certificate is not feasible, or if a sum of its numbers is 2^1024 or more.
     pub fn floor<R: MatchingRule>(
         &self,
         alloc: Global,
@@ -198,7 +198,7 @@ impl CertificateTable {
         requires some { left ≤ length pool.now.players.now }
         ensures whole { IfOk result (λ found. IsSome found
             ↔ (IsFeasible (R.costs pool.now.rule.now) pool.now.players.now (certificate_in self.now)
-            × IsBelow (R.costs pool.now.rule.now) pool.now.players.now left (certificate_in self.now) (2 ^ 512))) }
+            × IsBelow (R.costs pool.now.rule.now) pool.now.players.now left (certificate_in self.now) (2 ^ 1024))) }
         ensures value { IfOk result (λ found. IfSome found
             (IsFloorOf (R.costs pool.now.rule.now) pool.now.players.now left (certificate_in self.now))) }
         ensures least { IfOk result (λ found. IfSome found
@@ -238,7 +238,7 @@ impl CertificateTable {
 
     /// The floor that the certificate is for all matchings, however many they leave over. There is none if the
     /// certificate gives a pair another thing than twice what it gives a player left over, if it is not feasible, or if
-    /// a sum of its numbers is 2^512 or more.
+    /// a sum of its numbers is 2^1024 or more.
     pub fn floor_for_any<R: MatchingRule>(
         &self,
         alloc: Global,
@@ -249,7 +249,7 @@ impl CertificateTable {
         ensures whole { let players = pool.now.players.now in IfOk result (λ found. IsSome found
             ↔ (GivesEvenly (certificate_in self.now)
             × IsFeasible (R.costs pool.now.rule.now) players (certificate_in self.now)
-            × IsBelow (R.costs pool.now.rule.now) players (length players % 2) (certificate_in self.now) (2 ^ 512))) }
+            × IsBelow (R.costs pool.now.rule.now) players (length players % 2) (certificate_in self.now) (2 ^ 1024))) }
         ensures value { let players = pool.now.players.now in IfOk result (λ found. IfSome found
             (IsFloorOf (R.costs pool.now.rule.now) players (length players % 2) (certificate_in self.now))) }
         ensures least { IfOk result (λ found. IfSome found

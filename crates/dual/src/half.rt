@@ -1,18 +1,16 @@
-// Halves of a `Wide`: natural numbers below 2^256, each of two parts of 128 bits. What does not fit is handed on as a
+// Halves of a `Wide`: natural numbers below 2^512, each of two quarters of 256 bits. What does not fit is handed on as a
 // carry, from which the next half goes on.
 ghost use Rattle.std.specs.Prelude.{◌≡◌, ◌<◌, ◌+◌, ◌*◌, ◌^◌, ◌↔◌, IsTrue};
 ghost use Rattle.std.specs.Int.{from_bool};
 
+use crate::quarter::Quarter;
 use std::marker::Model;
 
-// An odd number by which the bits of a product depend on all bits below them: the golden ratio's first 64 bits.
-const MIXER: u64 = 0x9E37_79B9_7F4A_7C15;
-
-/// A natural number below 2^256.
-#[derive(Clone, Copy, PartialEq, Eq)]
+/// A natural number below 2^512.
+#[derive(Clone, Copy)]
 pub struct Half {
-    high: u128,
-    low: u128,
+    high: Quarter,
+    low: Quarter,
 }
 
 impl Model for Half {
@@ -23,30 +21,22 @@ impl Model for Half {
 
     ghost Value = { ℕ };
 
-    ghost view = { λ w. w.high * 2 ^ 128 + w.low };
+    ghost view = { λ w. w.high * 2 ^ 256 + w.low };
 
-    ghost invariant = { λ w. w.low < 2 ^ 128 };
+    ghost invariant = { λ w. (w.high < 2 ^ 256) × (w.low < 2 ^ 256) };
 
-    ghost inverse = { λ n. record { high = n / 2 ^ 128; low = n % 2 ^ 128 } };
+    ghost inverse = { λ n. record { high = n / 2 ^ 256; low = n % 2 ^ 256 } };
 
     ghost inverse_ok = { λ w h i. record {
-      high = div-mul-add w.high (2 ^ 128) w.low h i;
-      low = (mul-add-mod_self_right w.high (2 ^ 128) w.low ∙ mod-eq_of_lt h) i;
+      high = div-mul-add w.high (2 ^ 256) w.low h.1 i;
+      low = (mul-add-mod_self_right w.high (2 ^ 256) w.low ∙ mod-eq_of_lt h.1) i;
     } };
-}
-
-// Goes on with a hash by the 128 bits of a part.
-fn hash_on(hash: u64, part: u128) -> u64 {
-    let high = (part >> 64) as u64;
-    let low = (part % (1 << 64)) as u64;
-    let half_way = (hash ^ high).wrapping_mul(MIXER).rotate_left(32);
-    (half_way ^ low).wrapping_mul(MIXER).rotate_left(32)
 }
 
 impl Half {
     /// Goes on with a hash: equal numbers give equal ones.
     pub fn hash_on(self, hash: u64) -> u64 {
-        hash_on(hash_on(hash, self.high), self.low)
+        self.low.hash_on(self.high.hash_on(hash))
     }
 
     /// The number that a `u64` is.
@@ -54,26 +44,26 @@ impl Half {
         ensures { result ≡ number }
     {
         Half {
-            high: 0,
-            low: u128::from(number),
+            high: Quarter::from_u64(0),
+            low: Quarter::from_u64(number),
         }
     }
 
-    /// 2 to the power of `bit`, which is below 256.
+    /// 2 to the power of `bit`, which is below 512.
     pub fn power_of_two(bit: u32) -> Half
-        requires { bit < 256 }
+        requires { bit < 512 }
         ensures value { result ≡ 2 ^ bit }
-        ensures small { result < 2 ^ 256 }
+        ensures small { result < 2 ^ 512 }
     {
-        if bit < 128 {
+        if bit < 256 {
             Half {
-                high: 0,
-                low: 1 << bit,
+                high: Quarter::from_u64(0),
+                low: Quarter::power_of_two(bit),
             }
         } else {
             Half {
-                high: 1 << (bit - 128),
-                low: 0,
+                high: Quarter::power_of_two(bit - 256),
+                low: Quarter::from_u64(0),
             }
         }
     }
@@ -82,13 +72,14 @@ impl Half {
     pub fn is_less(self, other: Half) -> bool
         ensures { IsTrue result ↔ (self < other) }
     {
-        self.high < other.high || (self.high == other.high && self.low < other.low)
+        self.high.is_less(other.high)
+            || (!other.high.is_less(self.high) && self.low.is_less(other.low))
     }
 
     /// The sum with a carry, and the carry out of it.
     pub fn carrying_add(self, other: Half, carry: bool) -> (Half, bool)
-        ensures value { result.0 + from_bool result.1 * 2 ^ 256 ≡ self + other + from_bool carry }
-        ensures small { result.0 < 2 ^ 256 }
+        ensures value { result.0 + from_bool result.1 * 2 ^ 512 ≡ self + other + from_bool carry }
+        ensures small { result.0 < 2 ^ 512 }
     {
         let (low, carry) = self.low.carrying_add(other.low, carry);
         let (high, carry) = self.high.carrying_add(other.high, carry);
@@ -97,8 +88,8 @@ impl Half {
 
     /// The difference with a borrow, and the borrow out of it.
     pub fn borrowing_sub(self, other: Half, borrow: bool) -> (Half, bool)
-        ensures value { result.0 + other + from_bool borrow ≡ self + from_bool result.1 * 2 ^ 256 }
-        ensures small { result.0 < 2 ^ 256 }
+        ensures value { result.0 + other + from_bool borrow ≡ self + from_bool result.1 * 2 ^ 512 }
+        ensures small { result.0 < 2 ^ 512 }
     {
         let (low, borrow) = self.low.borrowing_sub(other.low, borrow);
         let (high, borrow) = self.high.borrowing_sub(other.high, borrow);
@@ -107,8 +98,8 @@ impl Half {
 
     /// So many times the number and a carry, and the carry out of it.
     pub fn carrying_mul(self, count: u128, carry: u128) -> (Half, u128)
-        ensures value { result.0 + result.1 * 2 ^ 256 ≡ self * count + carry }
-        ensures small { result.0 < 2 ^ 256 }
+        ensures value { result.0 + result.1 * 2 ^ 512 ≡ self * count + carry }
+        ensures small { result.0 < 2 ^ 512 }
     {
         let (low, carry) = self.low.carrying_mul(count, carry);
         let (high, carry) = self.high.carrying_mul(count, carry);
@@ -118,21 +109,12 @@ impl Half {
     /// Half of it with a carry from above, and what is left over.
     pub fn carrying_half(self, carry: u128) -> (Half, u128)
         requires { carry < 2 }
-        ensures value { 2 * result.0 + result.1 ≡ carry * 2 ^ 256 + self }
+        ensures value { 2 * result.0 + result.1 ≡ carry * 2 ^ 512 + self }
         ensures rest { result.1 < 2 }
-        ensures small { result.0 < 2 ^ 256 }
+        ensures small { result.0 < 2 ^ 512 }
     {
-        let (high, carry) = half_of_part(self.high, carry);
-        let (low, carry) = half_of_part(self.low, carry);
+        let (high, carry) = self.high.carrying_half(carry);
+        let (low, carry) = self.low.carrying_half(carry);
         (Half { high, low }, carry)
     }
-}
-
-/// Half of a part with a carry from above, and what is left over.
-fn half_of_part(part: u128, carry: u128) -> (u128, u128)
-    requires { carry < 2 }
-    ensures value { 2 * result.0 + result.1 ≡ carry * 2 ^ 128 + part }
-    ensures rest { result.1 < 2 }
-{
-    ((carry << 127) + part / 2, part % 2)
 }

@@ -14,7 +14,7 @@
 //! bytes for each pair, and what pairs add, each number once. A `WideTable` is such a table, for callers too. A check
 //! takes time with the square of the number of players, for a certificate times the number of its sets.
 //!
-//! To mind: certificates and costs are counted in `Wide`, natural numbers below 2^512; a sum that does not fit is none.
+//! To mind: certificates and costs are counted in `Wide`, natural numbers below 2^1024; a sum that does not fit is none.
 //! Potentials below 0, and a multiplier of the number left over, are had by giving more.
 #![tactic(auto)]
 
@@ -22,6 +22,7 @@ mod barrier;
 mod check;
 mod floor;
 mod half;
+mod quarter;
 mod rule;
 mod table;
 mod wide;

@@ -52,7 +52,7 @@ impl MarkedSet {
 
     fn most_toll(&self, players: &[u16]) -> Option<Wide>
         requires { length players.now ≤ MOST }
-        ensures { SomeIff result (most_toll players.now self.now < 2 ^ 512) (most_toll players.now self.now) }
+        ensures { SomeIff result (most_toll players.now self.now < 2 ^ 1024) (most_toll players.now self.now) }
     {
         self.price.times((self.size(players) / 2) as u32)
     }
@@ -72,7 +72,7 @@ impl CertificateTable {
 
     // What the potentials come to.
     pub(crate) fn gains(&self, players: &[u16]) -> Option<Wide>
-        ensures { SomeIff result (gains (certificate_in self.now) players.now < 2 ^ 512)
+        ensures { SomeIff result (gains (certificate_in self.now) players.now < 2 ^ 1024)
             (gains (certificate_in self.now) players.now) }
     {
         let mut sum = Wide::zero();
@@ -86,7 +86,7 @@ impl CertificateTable {
     #[tactic(auto, using(crate::proofs::FloorLemmas::sum_next))]
     fn most_tolls(&self, players: &[u16]) -> Option<Wide>
         requires { length players.now ≤ MOST }
-        ensures { SomeIff result (most_tolls self.now players.now < 2 ^ 512) (most_tolls self.now players.now) }
+        ensures { SomeIff result (most_tolls self.now players.now < 2 ^ 1024) (most_tolls self.now players.now) }
     {
         let mut sum = Wide::zero();
         for set in &self.sets {
@@ -100,7 +100,7 @@ impl CertificateTable {
         requires few { length players.now ≤ MOST }
         requires some { left ≤ length players.now }
         ensures { let lost = losses (certificate_in self.now) players.now
-            (pairs_of players.now left) left in SomeIff result (lost < 2 ^ 512) lost }
+            (pairs_of players.now left) left in SomeIff result (lost < 2 ^ 1024) lost }
     {
         let pairs = (players.len() - left) / 2;
         let given = self.given.times(pairs as u32)?;

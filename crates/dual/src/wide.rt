@@ -1,4 +1,4 @@
-// Numbers of two halves of 256 bits each, in which the costs and the sums of a certificate are counted. What does not
+// Numbers of two halves of 512 bits each, in which the costs and the sums of a certificate are counted. What does not
 // fit is answered by none: no sum wraps, and no difference stops at zero. A sum or a difference goes from the lower
 // half to the upper one, half of a number from the upper one to the lower one, and a carry goes with it.
 ghost use Rattle.std.specs.Prelude.{◌≡◌, ◌≤◌, ◌<◌, ◌+◌, ◌-◌, ◌*◌, ◌/◌, ◌^◌, ◌↔◌, SomeIff, IsTrue};
@@ -6,8 +6,8 @@ ghost use Rattle.std.specs.Prelude.{◌≡◌, ◌≤◌, ◌<◌, ◌+◌, ◌-
 use crate::half::Half;
 use std::marker::Model;
 
-/// A natural number below 2^512.
-#[derive(Clone, Copy, PartialEq, Eq)]
+/// A natural number below 2^1024.
+#[derive(Clone, Copy)]
 pub struct Wide {
     high: Half,
     low: Half,
@@ -21,15 +21,15 @@ impl Model for Wide {
 
     ghost Value = { ℕ };
 
-    ghost view = { λ w. w.high * 2 ^ 256 + w.low };
+    ghost view = { λ w. w.high * 2 ^ 512 + w.low };
 
-    ghost invariant = { λ w. (w.high < 2 ^ 256) × (w.low < 2 ^ 256) };
+    ghost invariant = { λ w. (w.high < 2 ^ 512) × (w.low < 2 ^ 512) };
 
-    ghost inverse = { λ n. record { high = n / 2 ^ 256; low = n % 2 ^ 256 } };
+    ghost inverse = { λ n. record { high = n / 2 ^ 512; low = n % 2 ^ 512 } };
 
     ghost inverse_ok = { λ w h i. record {
-      high = div-mul-add w.high (2 ^ 256) w.low h.1 i;
-      low = (mul-add-mod_self_right w.high (2 ^ 256) w.low ∙ mod-eq_of_lt h.1) i;
+      high = div-mul-add w.high (2 ^ 512) w.low h.1 i;
+      low = (mul-add-mod_self_right w.high (2 ^ 512) w.low ∙ mod-eq_of_lt h.1) i;
     } };
 }
 
@@ -51,18 +51,18 @@ impl Wide {
         }
     }
 
-    /// 2 to the power of `bit`; none from 512 on.
+    /// 2 to the power of `bit`; none from 1024 on.
     pub fn power_of_two(bit: u32) -> Option<Wide>
-        ensures { SomeIff result (bit < 512) (2 ^ bit) }
+        ensures { SomeIff result (bit < 1024) (2 ^ bit) }
     {
-        if bit < 256 {
+        if bit < 512 {
             Some(Wide {
                 high: Half::from_u64(0),
                 low: Half::power_of_two(bit),
             })
-        } else if bit < 512 {
+        } else if bit < 1024 {
             Some(Wide {
-                high: Half::power_of_two(bit - 256),
+                high: Half::power_of_two(bit - 512),
                 low: Half::from_u64(0),
             })
         } else {
@@ -86,12 +86,13 @@ impl Wide {
     pub fn is_less(self, other: Wide) -> bool
         ensures { IsTrue result ↔ (self < other) }
     {
-        self.high.is_less(other.high) || (self.high == other.high && self.low.is_less(other.low))
+        self.high.is_less(other.high)
+            || (!other.high.is_less(self.high) && self.low.is_less(other.low))
     }
 
-    /// The sum; none if it is 2^512 or more.
+    /// The sum; none if it is 2^1024 or more.
     pub fn plus(self, other: Wide) -> Option<Wide>
-        ensures { SomeIff result (self + other < 2 ^ 512) (self + other) }
+        ensures { SomeIff result (self + other < 2 ^ 1024) (self + other) }
     {
         let (low, carry) = self.low.carrying_add(other.low, false);
         let (high, is_over) = self.high.carrying_add(other.high, carry);
@@ -115,9 +116,9 @@ impl Wide {
         }
     }
 
-    /// Twice the number; none if that is 2^512 or more.
+    /// Twice the number; none if that is 2^1024 or more.
     pub fn doubled(self) -> Option<Wide>
-        ensures { SomeIff result (2 * self < 2 ^ 512) (2 * self) }
+        ensures { SomeIff result (2 * self < 2 ^ 1024) (2 * self) }
     {
         self.plus(self)
     }
@@ -131,9 +132,9 @@ impl Wide {
         Wide { high, low }
     }
 
-    /// So many times the number; none if that is 2^512 or more.
+    /// So many times the number; none if that is 2^1024 or more.
     pub fn times(self, count: u32) -> Option<Wide>
-        ensures { SomeIff result (self * count < 2 ^ 512) (self * count) }
+        ensures { SomeIff result (self * count < 2 ^ 1024) (self * count) }
     {
         let count = u128::from(count);
         let (low, carry) = self.low.carrying_mul(count, 0);
@@ -144,4 +145,25 @@ impl Wide {
             None
         }
     }
+}
+
+impl PartialEq for Wide {
+    ghost use Rattle.std.specs.Prelude.{nat_eq};
+    ghost use Rattle.std.specs.Cmp.Rules.{comparing};
+    ghost use Rattle.std.proofs.Common.{rules};
+
+    ghost eq = { nat_eq };
+
+    ghost laws = { Prim.search (comparing, rules) };
+
+    fn eq(&self, other: &Wide) -> bool {
+        !self.is_less(*other) && !other.is_less(*self)
+    }
+}
+
+impl Eq for Wide {
+    ghost use Rattle.std.specs.Cmp.Rules.{comparing};
+    ghost use Rattle.std.proofs.Common.{rules};
+
+    ghost laws = { Prim.search (comparing, rules) };
 }

@@ -7,13 +7,13 @@ use Rattle.dutch_weighing.specs.Weights.{Scale, Weighing, weight_below, weight_o
 use Rattle.dutch_weighing.specs.declared.weighing.NextWeight.{NextWeight}
 use Rattle.dutch_weighing.specs.declared.weighing.PairTable.{PairTable}
 
--- a number that is there exactly where it is less than 2^512 [own]
+-- a number that is there exactly where it is less than 2^1024 [own]
 abbrev pub IsThere : Option ℕ → ℕ → Type 0
-IsThere number k = SomeIff number (k < 2 ^ 512) k
+IsThere number k = SomeIff number (k < 2 ^ 1024) k
 
--- a number that is written: there is none only where it is 2^512 or more
+-- a number that is written: there is none only where it is 2^1024 or more
 abbrev pub IsWritten : Option ℕ → ℕ → Type 0
-IsWritten None k = ¬ (k < 2 ^ 512)
+IsWritten None k = ¬ (k < 2 ^ 1024)
 IsWritten (Some number) k = number ≡ k
 
 -- behind a number, if it is written, stand digits too

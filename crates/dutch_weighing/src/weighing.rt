@@ -115,10 +115,10 @@ fn seat_one_down(context: &Context<'_>, a: u16, seated: &mut Seated)
     seated.lowest = context.lowest();
 }
 
-/// What some pairs and downfloaters by seats weigh, whatever the next bracket is; none if it is 2^512 or more.
+/// What some pairs and downfloaters by seats weigh, whatever the next bracket is; none if it is 2^1024 or more.
 fn weigh(field: &Field, scale: &Scale, seated: &Seated, quality: &mut Quality) -> Option<Wide>
     ensures { let weight = weight_with scale.now 0 [] (quality_with field.now seated.now no_value) in SomeIff result
-        (weight < 2 ^ 512) weight }
+        (weight < 2 ^ 1024) weight }
 {
     fill_seated(field, seated, quality);
     scale.weigh_alone(quality)
@@ -152,18 +152,18 @@ impl PairTable {
 }
 
 impl Weigher<'_> {
-    /// What a pair weighs alone; none if it is 2^512 or more.
+    /// What a pair weighs alone; none if it is 2^1024 or more.
     fn pair(&self, a: u16, b: u16, room: &mut QualityLists) -> Option<Wide>
-        ensures { SomeIff result (tables.pair_weight self.now a b < 2 ^ 512) (tables.pair_weight self.now a b) }
+        ensures { SomeIff result (tables.pair_weight self.now a b < 2 ^ 1024) (tables.pair_weight self.now a b) }
     {
         seat_pair(self.context, a, b, &mut room.seated);
         let field = self.context.field();
         weigh(field, self.scale, &room.seated, &mut room.quality)
     }
 
-    /// What a downfloater weighs alone; none if it is 2^512 or more.
+    /// What a downfloater weighs alone; none if it is 2^1024 or more.
     fn one_down(&self, a: u16, room: &mut QualityLists) -> Option<Wide>
-        ensures { SomeIff result (tables.down_weight self.now a < 2 ^ 512) (tables.down_weight self.now a) }
+        ensures { SomeIff result (tables.down_weight self.now a < 2 ^ 1024) (tables.down_weight self.now a) }
     {
         seat_one_down(self.context, a, &mut room.seated);
         let field = self.context.field();
@@ -176,7 +176,7 @@ impl Weigher<'_> {
         self.context.rule().may_meet(a, b)
     }
 
-    /// Puts what a pair weighs into a table, and whether the two may meet; no if it weighs 2^512 or more.
+    /// Puts what a pair weighs into a table, and whether the two may meet; no if it weighs 2^1024 or more.
     fn put_pair(
         &self,
         pair: Pair,
@@ -190,7 +190,7 @@ impl Weigher<'_> {
         ensures room { tables.HasPairs self.now table.new }
         ensures told { IfOk result (λ fits. fits ≡ true
             → tables.TellsPairsUpto self.now table.new (tables.place_in self.now pair.0 pair.1 + 1)) }
-        ensures heavy { IfOk result (λ fits. fits ≡ false → tables.IsHeavy self.now (2 ^ 512)) }
+        ensures heavy { IfOk result (λ fits. fits ≡ false → tables.IsHeavy self.now (2 ^ 1024)) }
     {
         let (a, b) = pair;
         let meets = self.may_meet(a, b);
@@ -214,7 +214,7 @@ impl Weigher<'_> {
         ensures room { tables.HasPairs self.now table.new }
         ensures told { IfOk result (λ fits. fits ≡ true
             → tables.TellsPairsUpto self.now table.new (length self.now.reached.seats * a)) }
-        ensures heavy { IfOk result (λ fits. fits ≡ false → tables.IsHeavy self.now (2 ^ 512)) }
+        ensures heavy { IfOk result (λ fits. fits ≡ false → tables.IsHeavy self.now (2 ^ 1024)) }
     {
         for b in 0..self.context.len() {
             if !self.put_pair((a, b as u16 + 1), room, table)? {
@@ -229,7 +229,7 @@ impl Weigher<'_> {
         requires { tables.HasPairs self.now table.old }
         ensures room { tables.HasPairs self.now table.new }
         ensures told { IfOk result (λ fits. fits ≡ true → tables.TellsPairs self.now table.new) }
-        ensures heavy { IfOk result (λ fits. fits ≡ false → tables.IsHeavy self.now (2 ^ 512)) }
+        ensures heavy { IfOk result (λ fits. fits ≡ false → tables.IsHeavy self.now (2 ^ 1024)) }
     {
         for a in 0..self.context.len() {
             if !self.put_row(a as u16 + 1, room, table)? {
@@ -243,7 +243,7 @@ impl Weigher<'_> {
     fn put_down(&self, room: &mut QualityLists, table: &mut [Wide]) -> bool
         requires { tables.HasAll self.now table.old }
         ensures told { result ≡ true → tables.TellsDown self.now table.new }
-        ensures heavy { result ≡ false → tables.IsHeavy self.now (2 ^ 512) }
+        ensures heavy { result ≡ false → tables.IsHeavy self.now (2 ^ 1024) }
     {
         for a in 0..self.context.len() {
             match self.one_down(a as u16 + 1, room) {
@@ -280,10 +280,10 @@ impl BelowWeigher<'_> {
         }
     }
 
-    /// What a number weighs that meets one of the next lower scoregroup; none if it is 2^512 or more.
+    /// What a number weighs that meets one of the next lower scoregroup; none if it is 2^1024 or more.
     fn met(&self, a: u16) -> Option<Wide>
         requires { tables.IsNumberBelow self.now.weigher.now a }
-        ensures { SomeIff result (tables.met_weight self.now.weigher.now a < 2 ^ 512)
+        ensures { SomeIff result (tables.met_weight self.now.weigher.now a < 2 ^ 1024)
             (tables.met_weight self.now.weigher.now a) }
     {
         let weigher = self.weigher;
@@ -294,10 +294,10 @@ impl BelowWeigher<'_> {
         self.own(a).plus(weight)
     }
 
-    /// What a number weighs that is in no pair of the next bracket; none if it is 2^512 or more.
+    /// What a number weighs that is in no pair of the next bracket; none if it is 2^1024 or more.
     fn alone(&self, a: u16) -> Option<Wide>
         requires { tables.IsNumberBelow self.now.weigher.now a }
-        ensures { SomeIff result (tables.alone_weight self.now.weigher.now a < 2 ^ 512)
+        ensures { SomeIff result (tables.alone_weight self.now.weigher.now a < 2 ^ 1024)
             (tables.alone_weight self.now.weigher.now a) }
     {
         let weigher = self.weigher;
@@ -311,10 +311,10 @@ impl BelowWeigher<'_> {
         self.own(a).plus(weight)
     }
 
-    /// What a number weighs in the next bracket; none if that is 2^512 or more.
+    /// What a number weighs in the next bracket; none if that is 2^1024 or more.
     fn next_weight(&self, a: u16) -> Option<NextWeight>
         requires { tables.IsNumberBelow self.now.weigher.now a }
-        ensures { MatchOption result (tables.IsHeavy self.now.weigher.now (2 ^ 512))
+        ensures { MatchOption result (tables.IsHeavy self.now.weigher.now (2 ^ 1024))
             (λ weight. weight ≡ tables.next_weight_of self.now.weigher.now a) }
     {
         let met = self.met(a)?;
@@ -326,7 +326,7 @@ impl BelowWeigher<'_> {
     fn put_all(&self, table: &mut [NextWeight]) -> bool
         requires { tables.HasBelow self.now.weigher.now table.old }
         ensures told { result ≡ true → tables.TellsEachBelow self.now.weigher.now table.new }
-        ensures heavy { result ≡ false → tables.IsHeavy self.now.weigher.now (2 ^ 512) }
+        ensures heavy { result ≡ false → tables.IsHeavy self.now.weigher.now (2 ^ 1024) }
     {
         let weigher = self.weigher;
         for a in 0..weigher.context.len_below() {
@@ -339,13 +339,13 @@ impl BelowWeigher<'_> {
     }
 }
 
-/// The weights of all pairs, row by row; none if one of them is 2^512 or more.
+/// The weights of all pairs, row by row; none if one of them is 2^1024 or more.
 fn weigh_pairs(
     alloc: Global,
     weigher: &Weigher<'_>,
     room: &mut QualityLists,
 ) -> Result<Option<PairTable>, AllocError>
-    ensures { IfOk result (λ weighed. MatchOption weighed (tables.IsHeavy weigher.now (2 ^ 512))
+    ensures { IfOk result (λ weighed. MatchOption weighed (tables.IsHeavy weigher.now (2 ^ 1024))
         (λ table. tables.HasPairs weigher.now table × tables.TellsPairs weigher.now table)) }
 {
     let count = weigher.context.len();
@@ -357,13 +357,13 @@ fn weigh_pairs(
     }
 }
 
-/// The weights of all downfloaters; none if one of them is 2^512 or more.
+/// The weights of all downfloaters; none if one of them is 2^1024 or more.
 fn weigh_down(
     alloc: Global,
     weigher: &Weigher<'_>,
     room: &mut QualityLists,
 ) -> Result<Option<Vec<Wide>>, AllocError>
-    ensures { IfOk result (λ weighed. MatchOption weighed (tables.IsHeavy weigher.now (2 ^ 512))
+    ensures { IfOk result (λ weighed. MatchOption weighed (tables.IsHeavy weigher.now (2 ^ 1024))
         (λ table. tables.HasAll weigher.now table.items × tables.TellsDown weigher.now table.items)) }
 {
     let mut table = vec![in alloc; Wide::zero(); weigher.context.len()]?;
@@ -374,7 +374,7 @@ fn weigh_down(
     }
 }
 
-/// What all numbers weigh in the next bracket, if C.7 is measured; none if one of them weighs 2^512 or more.
+/// What all numbers weigh in the next bracket, if C.7 is measured; none if one of them weighs 2^1024 or more.
 fn weigh_next(
     alloc: Global,
     weigher: &Weigher<'_>,
@@ -383,7 +383,7 @@ fn weigh_next(
     requires room { tables.HasAll weigher.now down.now }
     requires told { tables.TellsDown weigher.now down.now }
     requires next { ForSome weigher.now.scale.next (λ _. weigher.now.reached.kind ≡ Ordinary) }
-    ensures { IfOk result (λ weighed. MatchOption weighed (tables.IsHeavy weigher.now (2 ^ 512))
+    ensures { IfOk result (λ weighed. MatchOption weighed (tables.IsHeavy weigher.now (2 ^ 1024))
         (λ table. tables.TellsBelow weigher.now table.items)) }
 {
     if !weigher.scale.counts_next() {
@@ -403,12 +403,12 @@ fn weigh_next(
 }
 
 impl<'a> Weighing<'a> {
-    /// Works out all weights of a bracket; none if one of them is 2^512 or more.
+    /// Works out all weights of a bracket; none if one of them is 2^1024 or more.
     #[inline(never)]
     pub fn read(context: &'a Context<'a>, scale: Scale) -> Result<Option<Weighing<'a>>, AllocError>
         requires { ForSome scale.next (λ _. context.now.reached.kind ≡ Ordinary) }
         ensures { let weighed = tables.weighed_on context.now scale
-            in IfOk result (λ read. MatchOption read (tables.IsHeavy weighed (2 ^ 512)) (λ weighing. weighing
+            in IfOk result (λ read. MatchOption read (tables.IsHeavy weighed (2 ^ 1024)) (λ weighing. weighing
             ≡ weighed)) }
     {
         let mut room = QualityLists::default();

@@ -116,7 +116,7 @@ module _ (facts : Facts) (reached : Reached) (scale : Scale) (lower : List ℕ) 
   both_cost u v first second =
       let going = less_as_going ((bracket_costs s).meets u v) (both_go s u v) ((bracket_costs s).weight u v) (both_weigh s u v)
       (and_from (goes_down s u) (goes_down s v) first second) in
-      omega (arith, going, no_more (nat_lt (going_weight s u + going_weight s v) (2 ^ 512)) (going_weight s u) (going_weight s v))
+      omega (arith, going, no_more (nat_lt (going_weight s u + going_weight s v) (2 ^ 1024)) (going_weight s u) (going_weight s v))
 
   module _ (shape : Shape) (a : Arrangement) (of' : IsOf facts reached) (fits : Fits (frame_of facts reached) shape)
       (m : IsIn a (candidates_of facts reached shape)) (b : Beginning) (begins : Begins b a) (covers : Covers scope b) (granted : is_wished wish a ≡ true) where

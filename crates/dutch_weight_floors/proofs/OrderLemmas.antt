@@ -200,4 +200,4 @@ chosen_most true w l m le = omega (arith, le)
 chosen_most false w l m le = omega arith
 
 pub with_first : (order : Order) (w a b : ℕ) → with_lesser order w a b ≤ w + added_for order a
-with_first order w a b = chosen_most (nat_lt (w + lesser order a b) (2 ^ 512)) w (lesser order a b) (added_for order a) (omega arith)
+with_first order w a b = chosen_most (nat_lt (w + lesser order a b) (2 ^ 1024)) w (lesser order a b) (added_for order a) (omega arith)

@@ -16,10 +16,10 @@ more_of order x = slice_index_or order.more (x - 1) 0
 abbrev pub added_for : Order → ℕ → ℕ
 added_for order x = order.unit * x + more_of order x
 
--- a table has what each of the first numbers adds, those from 1 on, and that is below 2^512
+-- a table has what each of the first numbers adds, those from 1 on, and that is below 2^1024
 abbrev pub AreAdded : Order → List ℕ → Type 0
 AreAdded order table =
-    (x : ℕ) → 0 < x → x ≤ length table → (slice_index table (x - 1) ≡ added_for order x) × (added_for order x < 2 ^ 512)
+    (x : ℕ) → 0 < x → x ≤ length table → (slice_index table (x - 1) ≡ added_for order x) × (added_for order x < 2 ^ 1024)
 
 -- of two players who meet, one at most is in S1R: the lesser of what both add
 abbrev pub lesser : Order → ℕ → ℕ → ℕ
@@ -27,7 +27,7 @@ lesser order a b = min (added_for order a) (added_for order b)
 
 -- a weight with that, if there is room for it
 abbrev pub with_lesser : Order → ℕ → ℕ → ℕ → ℕ
-with_lesser order w a b = if nat_lt (w + lesser order a b) (2 ^ 512) then w + lesser order a b else w
+with_lesser order w a b = if nat_lt (w + lesser order a b) (2 ^ 1024) then w + lesser order a b else w
 
 -- the most that a number of the original S1R adds, if these are not in S1R: no more than its units if it is one of them
 abbrev pub kept : Order → List ℕ → ℕ → ℕ

@@ -77,7 +77,7 @@ both_go s a b = goes_down s a && goes_down s b
 -- what both weigh who go down (the first one alone if the sum does not fit)
 abbrev pub both_weigh : Scoped → ℕ → ℕ → ℕ
 both_weigh s a b =
-    if nat_lt (going_weight s a + going_weight s b) (2 ^ 512) then going_weight s a + going_weight s b else going_weight s a
+    if nat_lt (going_weight s a + going_weight s b) (2 ^ 1024) then going_weight s a + going_weight s b else going_weight s a
 
 -- what two weigh at least, as a pair of the bracket or as two who go down
 abbrev pub least_of : Bool → Bool → ℕ → ℕ → ℕ

@@ -134,9 +134,9 @@ impl Order {
         self.top
     }
 
-    /// What a number adds; none if that is 2^512 or more.
+    /// What a number adds; none if that is 2^1024 or more.
     pub(crate) fn added_for(&self, number: u16) -> Option<Wide>
-        ensures { SomeIff result (added_for self.now number < 2 ^ 512) (added_for self.now number) }
+        ensures { SomeIff result (added_for self.now number < 2 ^ 1024) (added_for self.now number) }
     {
         let place = usize::from(number);
         if 0 < place && place <= self.table.len() {
@@ -147,7 +147,7 @@ impl Order {
             .plus(self.order_bonus(number))
     }
 
-    /// A table of what each number up to a last one adds, as far as that is below 2^512.
+    /// A table of what each number up to a last one adds, as far as that is below 2^1024.
     fn table_upto(&self, alloc: Global, last: u16) -> Result<Vec<Wide>, AllocError>
         ensures { IfOk result (λ table. AreAdded self.now table.items) }
     {
@@ -161,9 +161,9 @@ impl Order {
         Ok(table)
     }
 
-    /// The lesser of what two numbers add; none if that is 2^512 or more.
+    /// The lesser of what two numbers add; none if that is 2^1024 or more.
     fn lesser(&self, a: u16, b: u16) -> Option<Wide>
-        ensures { SomeIff result (lesser self.now a b < 2 ^ 512) (lesser self.now a b) }
+        ensures { SomeIff result (lesser self.now a b < 2 ^ 1024) (lesser self.now a b) }
     {
         let Some(first) = self.added_for(a) else {
             return self.added_for(b);

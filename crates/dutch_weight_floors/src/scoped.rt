@@ -121,7 +121,7 @@ fn lesser(one: Wide, other: Wide) -> Wide
 
 /// A sum, or the first of the two if it does not fit.
 fn sum_or_first(one: Wide, other: Wide) -> Wide
-    ensures { result ≡ (if nat_lt (one + other) (2 ^ 512) then one + other else one) }
+    ensures { result ≡ (if nat_lt (one + other) (2 ^ 1024) then one + other else one) }
 {
     match one.plus(other) {
         Some(sum) => sum,

@@ -11,6 +11,6 @@ returns c =
     let scale = c.args.scale.now in
     let facts = c.args.field.now in
     let seated = c.args.seated.now in
-    some_of_same c.weigh_alone.result (2 ^ 512) (weight_with scale 0 [] (quality_in c.fill_seated.new.quality))
+    some_of_same c.weigh_alone.result (2 ^ 1024) (weight_with scale 0 [] (quality_in c.fill_seated.new.quality))
     (weight_with scale 0 [] (quality_with facts seated no_value))
     (ap (weight_with scale 0 []) c.fill_seated.ensures ∙ next_is_pruned scale facts seated (next_in (quality_in c.args.quality.now))) c.weigh_alone.ensures

@@ -7,7 +7,7 @@ abbrev pub invariant-loop-v : goal.invariant-loop-v
 invariant-loop-v g l = record {
   size : length l.slacks ≡ length l.initial.slacks;
   bear : (k : ℕ) → k < l.v-index → (g.R.MatchingRule.costs l.pool.rule.now).meets l.row.player (get_or l.pool.players.now k 0) ≡ true
-      → CanBear (g.R.MatchingRule.costs l.pool.rule.now) (certificate_in l.self) (2 ^ 512) l.row.player (get_or l.pool.players.now k 0);
+      → CanBear (g.R.MatchingRule.costs l.pool.rule.now) (certificate_in l.self) (2 ^ 1024) l.row.player (get_or l.pool.players.now k 0);
   told : (k : ℕ) → k < l.v-index → (g.R.MatchingRule.costs l.pool.rule.now).meets l.row.player (get_or l.pool.players.now k 0) ≡ true
       → get_or l.slacks (l.row.start + get_or l.pool.players.now k 0) 0
       ≡ slack (g.R.MatchingRule.costs l.pool.rule.now) (certificate_in l.self) (l.row.player, get_or l.pool.players.now k 0);

@@ -6,6 +6,6 @@ use Rattle.dual.proofs.table.CertificateTable.slacks_of.Given as goal
 abbrev pub invariant-loop-a : goal.invariant-loop-a
 invariant-loop-a g l = record {
   size : length l.slacks ≡ l.size * l.size;
-  bear : All (λ u. AllBear (g.R.MatchingRule.costs l.pool.rule.now) (certificate_in l.self) (2 ^ 512) u l.pool.players.now) (take l.a-index l.pool.players.now);
+  bear : All (λ u. AllBear (g.R.MatchingRule.costs l.pool.rule.now) (certificate_in l.self) (2 ^ 1024) u l.pool.players.now) (take l.a-index l.pool.players.now);
   told : All (λ u. HasSlacks (g.R.MatchingRule.costs l.pool.rule.now) (certificate_in l.self) u l.pool.players.now (u * l.size) l.slacks) (take l.a-index l.pool.players.now);
 }

@@ -13,4 +13,4 @@ returns-in-None-clause-heavy c =
     c.len-a-end.ensures.value ∙ ap (λ (v : Weighing). length v.reached.seats) c.self.view_is in
     let some : 0 < a = omega arith in
     let within : a ≤ length w.reached.seats = omega (arith, len, c.loop-a-test.true) in
-    λ _. one_down a (some, within) (at_least (down_weight w a) (2 ^ 512) c.in-None.ensures)
+    λ _. one_down a (some, within) (at_least (down_weight w a) (2 ^ 1024) c.in-None.ensures)

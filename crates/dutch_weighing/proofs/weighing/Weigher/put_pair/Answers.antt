@@ -18,4 +18,4 @@ returns-clause-told c =
 pub returns-in_default-clause-heavy : goal.returns-in_default-clause-heavy
 returns-in_default-clause-heavy c =
     λ _. pair c.args.pair.0 c.args.pair.1 c.requires.first c.requires.second
-    (at_least (pair_weight c.args.self.now c.args.pair.0 c.args.pair.1) (2 ^ 512) c.in_default.ensures)
+    (at_least (pair_weight c.args.self.now c.args.pair.0 c.args.pair.1) (2 ^ 1024) c.in_default.ensures)
