@@ -1,5 +1,5 @@
-// Halves of a `Wide`: natural numbers below 2^512, each of two quarters of 256 bits. What does not fit is handed on as a
-// carry, from which the next half goes on.
+// Halves of a `Wide`: natural numbers below 2^512, each of two quarters of 256 bits. What does not fit is handed on as
+// a carry, from which the next half goes on.
 ghost use Rattle.std.specs.Prelude.{◌≡◌, ◌<◌, ◌+◌, ◌*◌, ◌^◌, ◌↔◌, IsTrue};
 ghost use Rattle.std.specs.Int.{from_bool};
 

@@ -14,8 +14,8 @@
 //! bytes for each pair, and what pairs add, each number once. A `WideTable` is such a table, for callers too. A check
 //! takes time with the square of the number of players, for a certificate times the number of its sets.
 //!
-//! To mind: certificates and costs are counted in `Wide`, natural numbers below 2^1024; a sum that does not fit is none.
-//! Potentials below 0, and a multiplier of the number left over, are had by giving more.
+//! To mind: certificates and costs are counted in `Wide`, natural numbers below 2^1024; a sum that does not fit is
+//! none. Potentials below 0, and a multiplier of the number left over, are had by giving more.
 #![tactic(auto)]
 
 mod barrier;

@@ -62,10 +62,18 @@ pub const MOST_HALVINGS: u32 = 16;
 /// is forgotten that would rule more out; with more, questions take longer, as each floor is asked at each beginning.
 pub const FLOORS_KEPT: usize = 4;
 
-/// The most bits of a weight, of the 512 of a number. They leave room for the sum of weights over all players, for
+/// The most bits of a weight, of the 1,024 of a number. They leave room for the sum of weights over all players, for
 /// twice that sum, and for what it costs to be left over. With fewer, weights leave out D.2 and C.16 to C.19 more
-/// often; with more, a sum may not fit, and then there is no floor.
-pub const MOST_BITS: usize = 482;
+/// often; with more, a sum may not fit, and then there is no floor. (After 23 to 43 rounds 56 players have differences
+/// of so many sizes that some of their weights take more than 738 bits.)
+const MOST_BITS: usize = 994;
+
+/// The most bits of a weight in a bracket of more than `MANY` players: there questions take longer with each digit
+/// more. (With `MOST_BITS`, two reports of 381 and 389 players needed a third more steps, and were undecided.)
+const MOST_BITS_OF_MANY: usize = 482;
+
+/// The most players of a bracket whose weights may have `MOST_BITS` bits.
+const MANY: usize = 128;
 
 /// Times what is more than any weight: so much it costs to leave over a player who is in a pair in all arrangements. If
 /// it is too small, a matching may do so, and its floor says less; if it is too great, a sum may not fit, and then
@@ -79,4 +87,13 @@ pub fn first_pass_steps(players: usize) -> u64 {
         .saturating_mul(PASS_STEPS_WITH_EACH)
         .saturating_add(PASS_STEPS)
         .saturating_mul(players)
+}
+
+/// The most bits of a weight in a bracket of so many players.
+pub fn most_bits(players: usize) -> usize {
+    if players <= MANY {
+        MOST_BITS
+    } else {
+        MOST_BITS_OF_MANY
+    }
 }

@@ -74,8 +74,8 @@ pub fn choose_in<F: Finder>(
     }
 }
 
-/// The choice in a bracket that has a candidate, with a lister and a room of its own. None says that the budget's limit was reached
-/// first.
+/// The choice in a bracket that has a candidate, with a lister and a room of its own. None says that the budget's limit
+/// was reached first.
 #[inline(never)]
 fn choose_alone<F: Finder>(
     context: &Context<'_>,

@@ -44,8 +44,8 @@ pub struct FinderRequest<'a> {
 
 /// Finds the best candidate of a shape.
 pub trait Finder {
-    /// Room in which it works. It is lent for each bracket, so that a round makes it once. What stands in it changes no
-    /// answer, but how much memory it takes to find it.
+    /// Room in which it works. A round makes it once, and lends it for each bracket. What stands in it may spare memory,
+    /// and changes no answer.
     type Room: Default + Drop;
 
     /// Of the candidates of a shape that can be chosen, and that grant the wish if there is one, the first that none of

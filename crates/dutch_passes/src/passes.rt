@@ -311,8 +311,8 @@ fn best_by_weight<G: Guide>(
 }
 
 /// Keeps what the passes end with. Most brackets need few steps. The others have their pairs weighed; and if
-/// `TIMES_BY_WEIGHT` times the few steps do not suffice then, those of the next bracket too, where C.7 counts. (Nothing here depends on the
-/// limit: with a higher one the same way goes on.)
+/// `TIMES_BY_WEIGHT` times the few steps do not suffice then, those of the next bracket too, where C.7 counts. (Nothing
+/// here depends on the limit: with a higher one the same way goes on.)
 pub fn best_in_time<G: Guide>(
     pass: &mut Pass<'_>,
     search: &mut PassRoom<'_, '_, '_, '_, G>,

@@ -12,10 +12,10 @@
 //! Who finds the best candidate of a shape is a type parameter of the calls that choose: a `Finder`, as
 //! `dutch_search::WithFloors`. They promise the same by each.
 //!
-//! Lists are arrays with room for 1,024 numbers. On the heap are the boards, for a bracket some bits for each two
-//! players and what lists its candidates, a matching while it is looked for, and what a finder keeps there. If memory
-//! is refused, a call says so; only are players then paired out by the search without a matching, and a finder may do
-//! without what it would keep.
+//! Lists are arrays with room for 1,024 numbers. On the heap are the boards, the brackets of a round in an arena as long
+//! as it is paired, for a bracket some bits for each two players, one lister of candidates for all brackets, a matching
+//! while it is looked for, and what a finder keeps there. If memory is refused, a call says so; only are players then
+//! paired out by the search without a matching, and a finder may do without what it would keep.
 //!
 //! To mind: players are named by seat in a field, by number from 1 in a bracket, and by start rank on boards alone.
 #![tactic(auto)]

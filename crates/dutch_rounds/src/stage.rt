@@ -68,8 +68,8 @@ fn is_again(
     }
 }
 
-/// Settles a bracket that has a candidate, with a lister of it. None says that the budget's limit was reached first, by its choice or by the
-/// test behind it.
+/// Settles a bracket that has a candidate, with a lister of it. None says that the budget's limit was reached first, by
+/// its choice or by the test behind it.
 #[inline(never)]
 pub(crate) fn settle<F: Finder>(
     context: &Context<'_>,

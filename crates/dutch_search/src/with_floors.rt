@@ -19,7 +19,8 @@ use dutch_passes::{
 };
 use std::alloc::Global;
 
-/// Room for the passes of each bracket of a round. What is there is taken from it, and put back when the passes are over.
+/// Room for the passes of each bracket of a round. What is there is taken from it, and put back when the passes are
+/// over.
 #[derive(Default, Drop)]
 pub struct SearchRoom {
     work: Option<Box<Workroom<WalkNotes>>>,
@@ -27,8 +28,8 @@ pub struct SearchRoom {
 }
 
 impl SearchRoom {
-    /// Where questions are worked out: the place that there is, with nothing noted in it, or else a new one. (Apart from
-    /// its caller, as it is large until it stands on the heap.)
+    /// Where questions are worked out: the place that there is, with nothing noted in it, or else a new one. (Apart
+    /// from its caller, as it is large until it stands on the heap.)
     #[inline(never)]
     fn workroom(&mut self, alloc: Global) -> Result<Box<Workroom<WalkNotes>>, PairFault> {
         match self.work.take() {

@@ -21,7 +21,7 @@ use dual::{CertificateTable, Floor, Wide};
 use dutch_arrangements::{Exchange, Filling, LIMIT, Prefix, Shape};
 use dutch_bracket::context::Context;
 use dutch_bracket::quality::Quality;
-use dutch_bracket::tuning::{FLOORS_KEPT, MOST_BITS, MOST_REACHED};
+use dutch_bracket::tuning::{FLOORS_KEPT, MOST_REACHED, most_bits};
 use dutch_candidates::fixed_lists::fixed_lists;
 use dutch_candidates::wish::Wish;
 use dutch_weighing::{DigitPlan, Scale, Weighing};
@@ -237,12 +237,13 @@ fn order_bits(context: &Context<'_>) -> u32 {
     }
 }
 
-/// A scale with digits for C.16 to C.19 and room for the order of S1R (D.2), if its weights have at most `MOST_BITS`
-/// bits; else one without that room, or without those digits, or without both.
+/// A scale with digits for C.16 to C.19 and room for the order of S1R (D.2), if its weights have at most so many bits
+/// as `most_bits` says; else one without that room, or without those digits, or without both.
 fn scale_for(context: &Context<'_>, shape: Shape, next: bool) -> Scale
     ensures { IsScaleHere context.now shape result }
 {
     let order = order_bits(context);
+    let most = most_bits(context.len());
     for floats in [true, false] {
         for spare in [order, 0] {
             let plan = DigitPlan {
@@ -251,7 +252,7 @@ fn scale_for(context: &Context<'_>, shape: Shape, next: bool) -> Scale
                 spare,
             };
             let scale = Scale::of(context, shape, plan);
-            if scale.width() <= MOST_BITS {
+            if scale.width() <= most {
                 return scale;
             }
         }
