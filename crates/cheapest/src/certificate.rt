@@ -36,16 +36,30 @@ impl Forest {
         Ok(marks)
     }
 
+    fn has_price(&self, blossom: u16) -> bool {
+        self.live.at(usize::from(blossom)) && !self.label(blossom).is_zero()
+    }
+
+    // A blossom as a set, with its price.
+    fn marked_set(&self, alloc: Global, size: u16, blossom: u16) -> Result<MarkedSet, AllocError>
+        ensures { IfOk result (λ set. length set.marks.items ≡ size) }
+    {
+        let marks = self.marks_of(alloc, size, blossom)?;
+        Ok(MarkedSet {
+            marks,
+            price: self.label(blossom),
+        })
+    }
+
     // The blossoms that have a price.
     fn priced_sets(&self, alloc: Global, size: u16) -> Result<Vec<MarkedSet>, AllocError>
         ensures { IfOk result (λ sets. All (λ set. length set.marks.items ≡ size) sets.items) }
     {
         let mut sets = Vec::new(alloc);
         for blossom in self.size..self.end {
-            let price = self.label(blossom);
-            if self.live.at(usize::from(blossom)) && !price.is_zero() {
-                let marks = self.marks_of(alloc, size, blossom)?;
-                sets.push(MarkedSet { marks, price })?;
+            if self.has_price(blossom) {
+                let set = self.marked_set(alloc, size, blossom)?;
+                sets.push(set)?;
             }
         }
         Ok(sets)
