@@ -1,11 +1,12 @@
 -- Tables of weights that are filled place by place.
-use Rattle.std.proofs.Common.{◌≡◌, ℕ, Bool, ◌+◌, ◌*◌, ◌<◌, ◌≤◌, List, [], length, get_or, set, Option, None, MatchOption}
+use Rattle.std.proofs.Common.{◌≡◌, ℕ, Bool, ◌+◌, ◌-◌, ◌*◌, ◌<◌, ◌≤◌, List, [], length, get_or, set, Option, None, MatchOption}
 use Rattle.std.proofs.Common.{inl, inr, refl, sym, ap, subst, ◌∙◌, arith}
 use Rattle.std.proofs.lemmas.Bool.{cases_eq}
 use Rattle.std.proofs.lemmas.List.{get_or-set_other, get_or-set_same}
 use Rattle.dutch_player.specs.Prelude.{Facts}
 use Rattle.dutch_bracket.specs.Prelude.{no_value, NextValue, quality_with, numbers_meet, Seated}
-use Rattle.dutch_weighing.specs.Prelude.{Scale, Weighing, weight_with, HasPairs, IsNumber, TellsPairsUpto, TellsUpto, pair_weight, place_in}
+use Rattle.dutch_weighing.specs.Prelude.{Scale, Weighing, weight_with, HasPairs, IsNumber, TellsBelowUpto, TellsPairsUpto, TellsUpto, next_weight_of, pair_weight, place_in}
+use Rattle.dutch_weighing.specs.declared.weighing.NextWeight.{NextWeight}
 use Rattle.dutch_weighing.specs.declared.weighing.PairTable.{PairTable}
 use Rattle.dutch_weighing.proofs.PairPlaces.{inside, same_place}
 
@@ -60,3 +61,15 @@ module _ (w : Weighing) where
     told_by (numbers_meet w.facts w.reached) old.meets.items new.meets.items x y at meets same are
         (told_more (numbers_meet w.facts w.reached) old.meets.items x y meets p q room.1 may told.1),
   )
+
+-- a table that tells of the first numbers, of the bracket or below, with one more put at its place
+pub one_more_below : (w : Weighing) (table : List NextWeight) (end : ℕ) (value : NextWeight) → end < length table
+    → TellsBelowUpto w table end → value ≡ next_weight_of w (end + 1) → TellsBelowUpto w (set table end value) (end + 1)
+one_more_below w table end value inside told is a d number upto =
+    elim (cases_eq (a - 1) end) [
+      | inl same ↦
+          let here : end + 1 ≡ a = omega (arith, same, number.0) in
+          ap (λ (i : ℕ). get_or (set table end value) i d) same
+          ∙ (get_or-set_same table end value d inside ∙ (is ∙ ap (next_weight_of w) here))
+      | inr other ↦ get_or-set_other table end (a - 1) value d other ∙ told a d number (omega (arith, other, upto, number.0))
+    ]
