@@ -115,7 +115,7 @@ impl Quarter {
         (Quarter { high, low }, carry)
     }
 
-    /// Quarter of it with a carry from above, and what is left over.
+    /// Half of it with a carry from above, and what is left over.
     pub fn carrying_half(self, carry: u128) -> (Quarter, u128)
         requires { carry < 2 }
         ensures value { 2 * result.0 + result.1 ≡ carry * 2 ^ 256 + self }
@@ -128,7 +128,7 @@ impl Quarter {
     }
 }
 
-/// Quarter of a part with a carry from above, and what is left over.
+/// Half of a part with a carry from above, and what is left over.
 fn half_of_part(part: u128, carry: u128) -> (u128, u128)
     requires { carry < 2 }
     ensures value { 2 * result.0 + result.1 ≡ carry * 2 ^ 128 + part }

@@ -33,7 +33,7 @@ pub const TIMES_BY_WEIGHT: u64 = 4;
 /// The most players of a bracket whose pairs are weighed; if C.7 is weighed, with those of the next scoregroup. With
 /// fewer, larger brackets have floors by counts alone; with more, weights take more memory, and matchings more steps.
 /// (Before pairs of up to 512 players were weighed, and some exchanges passed over, some questions of `explain` were
-/// undecided. Two reports in which pairs of 381 players are weighed take 14 MB each.)
+/// undecided. Two reports in which pairs of 381 players are weighed take 22 MB each.)
 pub const MOST_WEIGHED: usize = 512;
 
 /// The most players that a matching for a floor goes over if it takes in all lower ones (C.4). With fewer, floors of
