@@ -69,12 +69,13 @@ pub(crate) struct Forest {
 
 impl Forest {
     /// A forest whose lists have no places yet.
-    pub(crate) fn new(alloc: Global, size: u16, nodes: u16) -> Forest {
-        Forest {
+    pub(crate) fn new(alloc: Global, size: u16, nodes: u16) -> Result<Forest, AllocError> {
+        let gains = Gains::new(alloc, size)?;
+        Ok(Forest {
             size,
             nodes,
             end: size,
-            gains: Gains::new(alloc, size),
+            gains,
             labels: Places::new(alloc, Wide::zero()),
             partner: Places::new(alloc, None),
             base: Places::new(alloc, None),
@@ -93,7 +94,7 @@ impl Forest {
             counts: Places::new(alloc, 0),
             live: Places::new(alloc, false),
             on_way: Places::new(alloc, false),
-        }
+        })
     }
 
     /// Makes the places of all nodes: no vertex is paired or reached, and all labels are 0.

@@ -31,7 +31,7 @@ impl Forest {
     {
         self.make_places()?;
         self.gains.weigh_all(costs, left)?;
-        self.begin(left)?;
+        self.begin(alloc, costs, left)?;
         self.settle_all(left)?;
         let certificate = self.certificate(alloc, costs.size())?;
         self.unfold_all();
@@ -57,7 +57,7 @@ pub fn cheapest<C: Costs>(alloc: Global, costs: &C, left: &mut u64) -> Result<Fo
 {
     let size = costs.size();
     let nodes = size.checked_mul(2).ok_or(Fault::TooGreat)?;
-    let mut forest = Forest::new(alloc, size, nodes);
+    let mut forest = Forest::new(alloc, size, nodes)?;
     let mut looks = left.saturating_mul(LOOKS_IN_A_STEP);
     let found = forest.find(alloc, costs, &mut looks);
     *left = (looks / LOOKS_IN_A_STEP).min(*left);

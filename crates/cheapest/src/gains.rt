@@ -5,16 +5,17 @@ ghost use Rattle.cheapest.specs.declared.fault.Fault.TheVariants.{Stopped, TooGr
 
 use crate::fault::Fault;
 use crate::graph::Costs;
+use crate::pair_numbers::PairNumbers;
 use crate::places::Places;
 use crate::steps::{rest, sum, take_step};
 use dual::Wide;
-use std::alloc::Global;
+use std::alloc::{AllocError, Global};
 
 /// What each pair gains; 0 for two that are not joined.
 #[derive(Drop)]
 pub(crate) struct Gains {
     size: u16,
-    gains: Places<Wide>,
+    gains: PairNumbers,
     // which pairs gain something
     joined: Places<bool>,
     /// Twice what it costs to leave each vertex over.
@@ -61,13 +62,14 @@ fn more_than_any<C: Costs>(costs: &C) -> Result<Wide, Fault>
 
 impl Gains {
     /// No gains yet, of so many vertices.
-    pub(crate) fn new(alloc: Global, size: u16) -> Gains {
-        Gains {
+    pub(crate) fn new(alloc: Global, size: u16) -> Result<Gains, AllocError> {
+        let gains = PairNumbers::zeros(alloc, size)?;
+        Ok(Gains {
             size,
-            gains: Places::new(alloc, Wide::zero()),
+            gains,
             joined: Places::new(alloc, false),
             left: Places::new(alloc, Wide::zero()),
-        }
+        })
     }
 
     /// Finds the gains of all pairs, with a step for each pair that is asked about.
@@ -77,7 +79,6 @@ impl Gains {
     {
         let count = usize::from(costs.size());
         self.left.grow(count)?;
-        self.gains.grow(count * count)?;
         self.joined.grow(count * count)?;
         self.weigh_left_over(costs)?;
         for a in 0..costs.size() {
@@ -93,11 +94,7 @@ impl Gains {
 
     /// What a pair gains; nothing outside of the vertices.
     pub(crate) fn at(&self, a: u16, b: u16) -> Wide {
-        if a < self.size && b < self.size {
-            self.gains.at(self.place(a, b))
-        } else {
-            Wide::zero()
-        }
+        self.gains.at(a, b)
     }
 
     /// Only pairs that gain something are joined.
@@ -132,13 +129,12 @@ impl Gains {
     }
 
     fn put(&mut self, a: u16, b: u16, cost: Wide) -> Result<(), Fault>
-        ensures { IfErr result (λ fault. fault ≡ TooGreat) }
+        ensures { IfErr result (λ fault. fault ≡ Stopped → ⊥) }
     {
         let left = sum(self.left.at(usize::from(a)), self.left.at(usize::from(b)))?;
         let gain = rest(left, sum(cost, cost)?);
         let (place, turned) = (self.place(a, b), self.place(b, a));
-        self.gains.put(place, gain);
-        self.gains.put(turned, gain);
+        self.gains.put(a, b, gain)?;
         self.joined.put(place, !gain.is_zero());
         self.joined.put(turned, !gain.is_zero());
         Ok(())

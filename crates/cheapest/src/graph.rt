@@ -5,6 +5,9 @@ use dual::Wide;
 
 /// Vertices from 0 on. Some of them are joined, at a cost, and each that is left over costs something too.
 pub trait Costs {
+    /// What vertices have in common that cost about the same with all others.
+    type Class: Copy + PartialEq + Drop;
+
     /// How many vertices there are.
     ghost vertices: { Self → ℕ };
 
@@ -23,5 +26,9 @@ pub trait Costs {
 
     /// What it costs to leave a vertex over; none if it must not be, which is taken for more than any matching costs.
     fn left_cost(&self, a: u16) -> Option<Wide>
+        requires { a < vertices self.now };
+
+    /// The class of a vertex. Nothing is said of it, and nothing but the time of a search depends on it.
+    fn class(&self, a: u16) -> Self::Class
         requires { a < vertices self.now };
 }

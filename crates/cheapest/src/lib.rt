@@ -6,6 +6,9 @@
 //! sets of vertices. It is meant to be feasible, and to be worth just what the matching costs: then nothing is cheaper.
 //! All its numbers are of costs that count twice, so that halves are whole.
 //!
+//! The graph may say which vertices are alike (`Costs::class`). Then the first labels come from a transport between the
+//! classes, and fewer searches are left. Whatever it says, nothing but their time depends on it.
+//!
 //! What is proved: the search is safe and ends; it gives no step back, and says that it was stopped only where none is
 //! left; what it hands out is a matching of the graph, with a potential for each vertex and a mark for each in each
 //! set. That no matching is cheaper, and that the certificate shows it, is only tested: who relies on either has to
@@ -17,6 +20,7 @@
 
 mod blossom;
 mod certificate;
+mod classes;
 mod events;
 mod expansion;
 mod fault;
@@ -24,12 +28,15 @@ mod forest;
 mod found;
 mod gains;
 mod graph;
+mod pair_numbers;
 mod pairs;
 mod places;
 mod scan;
 mod search;
 mod start;
 mod steps;
+mod transport;
+mod ways;
 
 pub use fault::Fault;
 pub use found::{Found, LOOKS_IN_A_STEP, cheapest};

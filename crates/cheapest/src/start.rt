@@ -1,12 +1,16 @@
-// The first labels, and the first pairs: labels as low as one vertex after the other can have them, and pairs that gain
-// just as much.
+// The first labels, and the first pairs: labels by class, then as low as one vertex after the other can have them, and
+// pairs that gain just as much.
 ghost use Rattle.std.specs.Prelude.{◌≡◌, ◌≤◌, IfErr};
-ghost use Rattle.cheapest.specs.declared.fault.Fault.TheVariants.{Stopped};
+ghost use Rattle.cheapest.specs.declared.fault.Fault.TheVariants.{Stopped, TooGreat};
 
+use crate::classes::Classes;
 use crate::fault::Fault;
 use crate::forest::Forest;
+use crate::graph::Costs;
 use crate::steps::{rest, take_step};
+use crate::transport::Transport;
 use dual::Wide;
+use std::alloc::Global;
 
 // A vertex, and what the labels have beyond the gain of the pair with it.
 #[derive(Clone, Copy)]
@@ -28,7 +32,7 @@ impl Forest {
         most
     }
 
-    fn label_all(&mut self) {
+    fn label_by_gains(&mut self) {
         for v in 0..self.size {
             let label = self.first_label(v);
             self.labels.put(usize::from(v), label);
@@ -49,7 +53,8 @@ impl Forest {
         }
     }
 
-    // The nearest neighbour of a vertex, with a step for each vertex asked about.
+    // The nearest neighbour of a vertex, with a step for each vertex asked about. (None is better than one that is alone
+    // and as near as can be.)
     fn nearest_neighbour(&self, v: u16, left: &mut u64) -> Result<Option<Neighbour>, Fault>
         ensures falls { left.new ≤ left.old }
         ensures stopped { IfErr result (λ fault. fault ≡ Stopped → left.new ≡ 0) }
@@ -60,6 +65,9 @@ impl Forest {
             if self.gains.joins(v, vertex) {
                 let slack = self.slack(v, vertex)?;
                 nearest = Some(self.nearer(nearest, Neighbour { vertex, slack }));
+                if slack.is_zero() && self.is_alone(vertex) {
+                    return Ok(nearest);
+                }
             }
         }
         Ok(nearest)
@@ -81,12 +89,76 @@ impl Forest {
         Ok(())
     }
 
-    /// Labels all vertices, and pairs those that are paired at once.
-    pub(crate) fn begin(&mut self, left: &mut u64) -> Result<(), Fault>
+    // Notes in a transport what a vertex gains with all behind it.
+    fn note_gains_of(&self, a: u16, classes: &Classes, transport: &mut Transport) {
+        for b in a..self.size {
+            if self.gains.joins(a, b) {
+                transport.note_pair(classes.of(a), classes.of(b), self.gains.at(a, b));
+            }
+        }
+    }
+
+    // Notes in a transport what each two vertices gain.
+    fn note_gains(&self, classes: &Classes, transport: &mut Transport) {
+        for a in 0..self.size {
+            self.note_gains_of(a, classes, transport);
+        }
+    }
+
+    // Gives each vertex the label of its class.
+    fn label_by_class(&mut self, classes: &Classes, transport: &Transport) -> Result<(), Fault>
+        ensures { IfErr result (λ fault. fault ≡ TooGreat) }
+    {
+        for v in 0..self.size {
+            let label = transport.label(classes.of(v))?;
+            self.labels.put(usize::from(v), label);
+        }
+        Ok(())
+    }
+
+    // Labels all vertices by a transport between their classes.
+    fn transport_labels(
+        &mut self,
+        classes: &Classes,
+        transport: &mut Transport,
+        left: &mut u64,
+    ) -> Result<(), Fault>
         ensures falls { left.new ≤ left.old }
         ensures stopped { IfErr result (λ fault. fault ≡ Stopped → left.new ≡ 0) }
     {
-        self.label_all();
+        transport.make_places(classes)?;
+        self.note_gains(classes, transport);
+        transport.find(left)?;
+        self.label_by_class(classes, transport)
+    }
+
+    // Labels all vertices: by class, unless most are in a class of their own. (Then a transport would take longer than
+    // the searches.)
+    fn label_all<C: Costs>(&mut self, alloc: Global, costs: &C, left: &mut u64) -> Result<(), Fault>
+        ensures falls { left.new ≤ left.old }
+        ensures stopped { IfErr result (λ fault. fault ≡ Stopped → left.new ≡ 0) }
+    {
+        let mut classes = Classes::new(alloc);
+        classes.read(alloc, costs)?;
+        if classes.count() > self.size / 2 {
+            self.label_by_gains();
+            return Ok(());
+        }
+        let mut transport = Transport::new(alloc);
+        self.transport_labels(&classes, &mut transport, left)
+    }
+
+    /// Labels all vertices, and pairs those that are paired at once.
+    pub(crate) fn begin<C: Costs>(
+        &mut self,
+        alloc: Global,
+        costs: &C,
+        left: &mut u64,
+    ) -> Result<(), Fault>
+        ensures falls { left.new ≤ left.old }
+        ensures stopped { IfErr result (λ fault. fault ≡ Stopped → left.new ≡ 0) }
+    {
+        self.label_all(alloc, costs, left)?;
         for v in 0..self.size {
             if self.is_alone(v) {
                 self.lower(v, left)?;

@@ -16,9 +16,10 @@
 pub const FIRST_STEPS: u64 = 64;
 
 /// A divisor of the cube of the players: a matching of least cost takes at least that part of it in looks, and the
-/// listing before it gets no fewer steps. (A sixteenth in steps is usual, and up to a sixth was measured.) If it is
-/// too great, a matching takes far more than the listing before it; if it is too small, the listing takes far more.
-pub const CUBE_DIVISOR: u64 = 8;
+/// listing before it gets no fewer steps. If it is too great, a matching takes far more than the listing before it; if
+/// it is too small, the listing takes far more. (Without such a part, reports of 1,024 players took up to nine times as
+/// long; with an eighth, four reports fewer were decided in 1,000,000 steps.)
+pub const CUBE_DIVISOR: u64 = 1024;
 
 /// Steps of the first passes, without weights: so many for each player, and so many for each player with each. They
 /// decide most brackets. With fewer, more brackets are weighed; with more, a hard one is weighed later.
@@ -33,7 +34,7 @@ pub const TIMES_BY_WEIGHT: u64 = 4;
 /// The most players of a bracket whose pairs are weighed; if C.7 is weighed, with those of the next scoregroup. With
 /// fewer, larger brackets have floors by counts alone; with more, weights take more memory, and matchings more steps.
 /// (Before pairs of up to 512 players were weighed, and some exchanges passed over, some questions of `explain` were
-/// undecided. Two reports in which pairs of 381 players are weighed take 22 MB each.)
+/// undecided. With 1,024 players, one report fewer was decided in 10,000,000 steps, and one took three times as long.)
 pub const MOST_WEIGHED: usize = 512;
 
 /// The most players that a matching for a floor goes over if it takes in all lower ones (C.4). With fewer, floors of
@@ -42,7 +43,8 @@ pub const MOST_REACHED: usize = 400;
 
 /// A bracket with more players is large: a floor by weight takes many steps there. So a walk makes about as many before
 /// the next one may be asked for, and that only where it is stuck. If it is too small, walks go on long without a floor
-/// that would end them; if it is too great, most steps go into floors.
+/// that would end them; if it is too great, most steps go into floors. (If no bracket is large, one of the longest
+/// questions of `explain` is undecided.)
 pub const LARGE_BRACKET: usize = 400;
 
 /// Turns of a walk that have together as many steps as the last floor took, though each at least one for each player.
@@ -69,7 +71,7 @@ pub const FLOORS_KEPT: usize = 4;
 const MOST_BITS: usize = 994;
 
 /// The most bits of a weight in a bracket of more than `MANY` players: there questions take longer with each digit
-/// more. (With `MOST_BITS`, two reports of 381 and 389 players needed a third more steps, and were undecided.)
+/// more. (With `MOST_BITS`, one of the longest questions of `explain` was undecided.)
 const MOST_BITS_OF_MANY: usize = 482;
 
 /// The most players of a bracket whose weights may have `MOST_BITS` bits.

@@ -39,6 +39,14 @@ pub(crate) struct Players<'a> {
     pub lower: &'a [u16],
 }
 
+/// What players have in common that cost the same with all others: what it costs to be in no pair, and whether they may
+/// be left over.
+#[derive(Clone, Copy, PartialEq, Eq)]
+pub(crate) struct PlayerClass {
+    alone_cost: u64,
+    may_stay: bool,
+}
+
 impl<'a> Model for Players<'a> {
     ghost use Rattle.std.specs.Prelude.{◌+◌, ◌≤◌, length};
     ghost use Rattle.dutch_sequence.specs.declared.numbers.TheConstants.{LIMIT};
@@ -201,6 +209,8 @@ impl dual::MatchingRule for Players<'_> {
 
 // (the vertices are the numbers, and the vertex 0, which is joined to nobody)
 impl Costs for Players<'_> {
+    type Class = PlayerClass;
+
     ghost use Rattle.dutch_choice.specs.ShapeCosts.{joined, vertices};
 
     ghost vertices = { vertices };
@@ -226,5 +236,12 @@ impl Costs for Players<'_> {
             return None;
         }
         Some(dual::MatchingRule::left_cost(self, a).halved())
+    }
+
+    fn class(&self, a: u16) -> PlayerClass {
+        PlayerClass {
+            alone_cost: self.alone_cost(a),
+            may_stay: self.may_stay(a),
+        }
     }
 }

@@ -6,6 +6,7 @@
 //! few certificates, and a matching while it is looked for; if memory is refused, there is no floor.
 #![tactic(auto)]
 
+mod alike;
 mod ask_schedule;
 pub mod asking;
 mod certificate_table;

@@ -212,7 +212,7 @@ impl<'a, 'b> Scoped<'a, 'b> {
     }
 
     /// Where a number of the bracket stands.
-    fn standing(&self, number: u16) -> Standing
+    pub(crate) fn standing(&self, number: u16) -> Standing
         ensures { result ≡ scoped.side_in self.now number }
     {
         let place = usize::from(number);

@@ -9,6 +9,8 @@ ghost use Rattle.std.specs.Prelude.{◌≡◌, ◌≤◌, All, IfOk, length};
 ghost use Rattle.dutch_sequence.specs.declared.numbers.TheConstants.{LIMIT};
 ghost use Rattle.dutch_weight_floors.specs.ScopedCosts.{IsReached};
 
+use crate::alike::Alike;
+use crate::scope::Standing;
 use crate::scoped::Scoped;
 use cheapest::Costs;
 use dual::{MatchingRule, Wide};
@@ -24,12 +26,22 @@ pub(crate) struct LeftOverCost {
     pub(crate) never: Wide,
 }
 
+/// What vertices have in common that cost about the same with all others: the first number that weighs as much, where
+/// they stand, and whether they may be left over.
+#[derive(Clone, Copy, PartialEq, Eq)]
+pub(crate) struct VertexClass {
+    first: u16,
+    standing: Standing,
+    may_be_left: bool,
+}
+
 /// The players that matchings go over, without those who are in some pairs.
 #[derive(Drop)]
 pub(crate) struct UnpairedGraph<'a, 'b> {
     scoped: &'b Scoped<'a, 'b>,
     // the vertices, by number
     numbers: Vec<u16>,
+    alike: &'b Alike,
     left_over: LeftOverCost,
 }
 
@@ -69,6 +81,7 @@ impl<'a, 'b> UnpairedGraph<'a, 'b> {
     /// The players who are in none of some pairs of numbers, and what it costs to be left over.
     pub(crate) fn beside(
         scoped: &'b Scoped<'a, 'b>,
+        alike: &'b Alike,
         pairs: &[Pair],
         left_over: LeftOverCost,
     ) -> Result<UnpairedGraph<'a, 'b>, AllocError> {
@@ -76,6 +89,7 @@ impl<'a, 'b> UnpairedGraph<'a, 'b> {
         Ok(UnpairedGraph {
             scoped,
             numbers,
+            alike,
             left_over,
         })
     }
@@ -98,6 +112,8 @@ impl<'a, 'b> UnpairedGraph<'a, 'b> {
 }
 
 impl<'a, 'b> Costs for UnpairedGraph<'a, 'b> {
+    type Class = VertexClass;
+
     ghost use Rattle.dutch_weight_floors.specs.UnpairedGraphs.{joined, vertices};
 
     ghost vertices = { vertices };
@@ -125,5 +141,14 @@ impl<'a, 'b> Costs for UnpairedGraph<'a, 'b> {
             return None;
         }
         self.scoped.left_cost(a).halved().plus(self.left_over.cost)
+    }
+
+    fn class(&self, a: u16) -> VertexClass {
+        let a = self.numbers[usize::from(a)];
+        VertexClass {
+            first: self.alike.first(a),
+            standing: self.scoped.standing(a),
+            may_be_left: self.scoped.may_be_left(a),
+        }
     }
 }

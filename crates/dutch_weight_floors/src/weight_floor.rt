@@ -13,6 +13,7 @@ ghost use Rattle.dutch_weighing.specs.Prelude.{IsScaleFor, IsScaleHere};
 ghost use Rattle.dutch_weight_floors.specs.WeightFloors.{IsMostAdded, IsWeightFloor, Weighed, bound_behind, is_first};
 ghost use Rattle.dutch_weight_floors.specs.WeightFloors.{left_known, passed_over, weighed_for};
 
+use crate::alike::Alike;
 use crate::ask_schedule::AskSchedule;
 use crate::order::{Halves, Order};
 use crate::scope::Scope;
@@ -55,6 +56,7 @@ impl Model for ScopedFloor {
 #[derive(Drop)]
 pub struct WeightFloors<'a> {
     pub(crate) weighing: Weighing<'a>,
+    pub(crate) alike: Alike,
     pub(crate) shape: Shape,
     pub(crate) wish: Option<Wish>,
     pub(crate) floors: Vec<ScopedFloor>,
@@ -264,18 +266,24 @@ impl<'a> WeightFloors<'a> {
     ghost use Rattle.dutch_weight_floors.specs.WeightFloors.{AreOf, IsBar, IsLeast, IsLeastWith};
 
     /// The floors of a bracket and a shape: none so far.
-    fn new(weighing: Weighing<'a>, shape: Shape, wish: Option<Wish>) -> WeightFloors<'a>
+    fn new(
+        weighing: Weighing<'a>,
+        shape: Shape,
+        wish: Option<Wish>,
+    ) -> Result<WeightFloors<'a>, AllocError>
         requires { IsScaleFor weighing.facts weighing.reached weighing.lower shape weighing.scale }
-        ensures { result ≡ weighed_for weighing.entry shape wish }
+        ensures { IfOk result (λ floors. floors ≡ weighed_for weighing.entry shape wish) }
     {
         let alloc = weighing.context().alloc();
-        WeightFloors {
+        let alike = Alike::read(&weighing)?;
+        Ok(WeightFloors {
             weighing,
+            alike,
             shape,
             wish,
             floors: Vec::new(alloc),
             schedule: AskSchedule::new(alloc),
-        }
+        })
     }
 
     /// Weighs a bracket's pairs and downfloaters on a scale, for floors of a shape. No floor is kept yet. None says
@@ -290,7 +298,7 @@ impl<'a> WeightFloors<'a> {
         ensures { IfOk result (λ found. IfSome found (AreOf context.now shape wish)) }
     {
         match Weighing::read(context, scale)? {
-            Some(weighing) => return Ok(Some(WeightFloors::new(weighing, shape, wish))),
+            Some(weighing) => return Ok(Some(WeightFloors::new(weighing, shape, wish)?)),
             None => return Ok(None),
         }
     }

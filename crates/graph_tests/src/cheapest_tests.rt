@@ -19,6 +19,8 @@ struct Graph<'a> {
     size: u16,
     costs: &'a [u32],
     left: &'a [u32],
+    // so many classes have vertices, whether these cost the same or not
+    classes: u16,
 }
 
 // A number of a list; the most of all behind it.
@@ -52,6 +54,8 @@ fn place(a: u16, b: u16) -> usize
 }
 
 impl Costs for Graph<'_> {
+    type Class = u16;
+
     ghost use Rattle.std.specs.Prelude.{◌+◌, ◌*◌, nat_lt, get_or};
 
     ghost vertices = { λ g. g.size };
@@ -68,6 +72,10 @@ impl Costs for Graph<'_> {
 
     fn left_cost(&self, a: u16) -> Option<Wide> {
         below_most(self.left, usize::from(a))
+    }
+
+    fn class(&self, a: u16) -> u16 {
+        a % self.classes.max(1)
     }
 }
 
@@ -253,6 +261,7 @@ fn sets_of_drawn(alloc: Global, state: &mut u64, turn: usize) -> Result<Option<u
         size: (turn % 9) as u16,
         costs: &costs,
         left: &left,
+        classes: 1 + (turn / 20 % 8) as u16,
     };
     sets_of(alloc, &graph)
 }
@@ -284,6 +293,7 @@ fn tailed(size: u16) -> Graph<'static> {
         size,
         costs: &TAILED,
         left: &[9; 8],
+        classes: size,
     }
 }
 

@@ -1,0 +1,153 @@
+// A transport between classes of vertices, from which the first labels come. Each class is a row and a column. A row
+// has a unit for each vertex of its class, and a column a place for each. A unit that goes from a row into a column
+// gains the most that two joined vertices of the two classes gain; where none are joined, none goes. It may also stay.
+ghost use Rattle.std.specs.Prelude.{◌≡◌, IfErr};
+ghost use Rattle.cheapest.specs.declared.fault.Fault.TheVariants.{TooGreat};
+
+use crate::classes::Classes;
+use crate::fault::Fault;
+use crate::places::Places;
+use crate::steps::sum;
+use dual::Wide;
+use std::alloc::{AllocError, Global};
+
+/// The rows of a transport, or its columns.
+#[derive(Drop)]
+pub(crate) struct Side {
+    pub(crate) labels: Places<Wide>,
+    /// Units of a row that stay, or places of a column that are free.
+    pub(crate) open: Places<u16>,
+    pub(crate) reached: Places<bool>,
+    /// The row or the column of the other side from which it is reached.
+    pub(crate) from: Places<u16>,
+}
+
+/// A transport between the classes of a graph.
+#[derive(Drop)]
+pub(crate) struct Transport {
+    pub(crate) classes: u16,
+    /// What a unit gains, if it may go; by row and column.
+    pub(crate) gains: Places<Option<Wide>>,
+    /// How many units go; by row and column.
+    pub(crate) units: Places<u16>,
+    pub(crate) rows: Side,
+    pub(crate) columns: Side,
+    /// What the labels of a column and of the row nearest to it have beyond the gain.
+    pub(crate) slacks: Places<Option<Wide>>,
+}
+
+impl Side {
+    fn new(alloc: Global) -> Side {
+        Side {
+            labels: Places::new(alloc, Wide::zero()),
+            open: Places::new(alloc, 0),
+            reached: Places::new(alloc, false),
+            from: Places::new(alloc, 0),
+        }
+    }
+
+    fn grow(&mut self, classes: &Classes) -> Result<(), AllocError> {
+        let count = usize::from(classes.count());
+        self.labels.grow(count)?;
+        self.open.grow(count)?;
+        self.reached.grow(count)?;
+        self.from.grow(count)?;
+        for class in 0..classes.count() {
+            self.open.put(usize::from(class), classes.size(class));
+        }
+        Ok(())
+    }
+
+    pub(crate) fn label(&self, class: u16) -> Wide {
+        self.labels.at(usize::from(class))
+    }
+
+    pub(crate) fn open(&self, class: u16) -> u16 {
+        self.open.at(usize::from(class))
+    }
+
+    /// So many units more stay.
+    pub(crate) fn open_more(&mut self, class: u16, count: u16) {
+        let open = self.open(class).saturating_add(count);
+        self.open.put(usize::from(class), open);
+    }
+
+    /// So many units less stay, or so many places less are free.
+    pub(crate) fn close(&mut self, class: u16, count: u16) {
+        let open = self.open(class).saturating_sub(count);
+        self.open.put(usize::from(class), open);
+    }
+
+    pub(crate) fn is_reached(&self, class: u16) -> bool {
+        self.reached.at(usize::from(class))
+    }
+
+    pub(crate) fn from(&self, class: u16) -> u16 {
+        self.from.at(usize::from(class))
+    }
+}
+
+impl Transport {
+    /// A transport that has no class yet.
+    pub(crate) fn new(alloc: Global) -> Transport {
+        Transport {
+            classes: 0,
+            gains: Places::new(alloc, None),
+            units: Places::new(alloc, 0),
+            rows: Side::new(alloc),
+            columns: Side::new(alloc),
+            slacks: Places::new(alloc, None),
+        }
+    }
+
+    /// Makes places for some classes: no unit may go yet.
+    pub(crate) fn make_places(&mut self, classes: &Classes) -> Result<(), AllocError> {
+        let count = usize::from(classes.count());
+        self.classes = classes.count();
+        self.gains.grow(count * count)?;
+        self.units.grow(count * count)?;
+        self.slacks.grow(count)?;
+        self.rows.grow(classes)?;
+        self.columns.grow(classes)
+    }
+
+    /// Where a row and a column stand.
+    pub(crate) fn place(&self, row: u16, column: u16) -> usize {
+        usize::from(row) * usize::from(self.classes) + usize::from(column)
+    }
+
+    pub(crate) fn units(&self, row: u16, column: u16) -> u16 {
+        self.units.at(self.place(row, column))
+    }
+
+    pub(crate) fn put_units(&mut self, row: u16, column: u16, units: u16) {
+        let place = self.place(row, column);
+        self.units.put(place, units);
+    }
+
+    fn note(&mut self, row: u16, column: u16, gain: Wide) {
+        let place = self.place(row, column);
+        let is_more = match self.gains.at(place) {
+            Some(most) => most.is_less(gain),
+            None => true,
+        };
+        if is_more {
+            self.gains.put(place, Some(gain));
+        }
+    }
+
+    /// Notes what two joined vertices of two classes gain.
+    pub(crate) fn note_pair(&mut self, one: u16, other: u16, gain: Wide) {
+        self.note(one, other, gain);
+        self.note(other, one, gain);
+    }
+
+    /// The label of a class: half of what its row and its column have. So no two joined vertices of two classes gain
+    /// more than the labels of their classes.
+    pub(crate) fn label(&self, class: u16) -> Result<Wide, Fault>
+        ensures { IfErr result (λ fault. fault ≡ TooGreat) }
+    {
+        let both = sum(self.rows.label(class), self.columns.label(class))?;
+        Ok(both.halved())
+    }
+}
