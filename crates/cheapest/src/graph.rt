@@ -28,7 +28,8 @@ pub trait Costs {
     fn left_cost(&self, a: u16) -> Option<Wide>
         requires { a < vertices self.now };
 
-    /// The class of a vertex. Nothing is said of it, and nothing but the time of a search depends on it.
+    /// The class of a vertex. Nothing is said of it: it changes only how long a search takes, and which of several
+    /// cheapest matchings is found.
     fn class(&self, a: u16) -> Self::Class
         requires { a < vertices self.now };
 }

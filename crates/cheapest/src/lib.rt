@@ -7,7 +7,8 @@
 //! All its numbers are of costs that count twice, so that halves are whole.
 //!
 //! The graph may say which vertices are alike (`Costs::class`). Then the first labels come from a transport between the
-//! classes, and fewer searches are left. Whatever it says, nothing but their time depends on it.
+//! classes, and fewer searches are left. Whatever it says, it changes only how long that takes, and which of several
+//! cheapest matchings is found.
 //!
 //! What is proved: the search is safe and ends; it gives no step back, and says that it was stopped only where none is
 //! left; what it hands out is a matching of the graph, with a potential for each vertex and a mark for each in each

@@ -8,7 +8,7 @@ use dutch_weighing::Weighing;
 use std::alloc::AllocError;
 
 /// Of each number of a bracket, from 1 on, the first that weighs as much: as one left over, and with each third one.
-/// (Nothing is said of it, since nothing but the steps of a matching depends on it.)
+/// (Nothing is said of it: it changes only how many steps a matching takes, and which of several is found.)
 #[derive(Drop)]
 pub(crate) struct Alike {
     firsts: Vec<u16>,
