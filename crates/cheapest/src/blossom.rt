@@ -1,6 +1,7 @@
 // The folding of a blossom: two outer vertices are joined, so that the ways from both to the root close a circle of odd
 // length. All its nodes lie in one blossom from then on, which is outer.
 use crate::forest::{Forest, Mark};
+use crate::graph::Costs;
 use dual::Wide;
 
 // The two pairs of vertices that lead from an outer node up to the next one.
@@ -12,7 +13,7 @@ struct Way {
     reached: (u16, u16),
 }
 
-impl Forest {
+impl<C: Costs> Forest<'_, C> {
     // The way from an outer node up to the next one; none from the root.
     fn way_up(&self, node: u16) -> Option<Way> {
         let base = self.base_of(node);

@@ -5,11 +5,12 @@ ghost use Rattle.cheapest.specs.declared.fault.Fault.TheVariants.{Stopped};
 
 use crate::fault::Fault;
 use crate::forest::Forest;
+use crate::graph::Costs;
 use crate::steps::{rest, sum};
 use dual::{CertificateTable, MarkedSet, Wide};
 use std::alloc::{AllocError, Global};
 
-impl Forest {
+impl<C: Costs> Forest<'_, C> {
     // A vertex is in all blossoms around its own one, so that each parent is looked at.
     fn is_inside(&self, v: u16, blossom: u16) -> bool {
         let mut node = v;
@@ -88,6 +89,36 @@ impl Forest {
             potentials.push(rest(most, self.label(v)))?;
         }
         Ok(potentials)
+    }
+
+    // The label of a vertex, and half of the price, rounded up, of each blossom around it: with such labels no price is
+    // needed.
+    fn whole_label(&self, v: u16) -> Result<Wide, Fault>
+        ensures going { IfErr result (λ fault. fault ≡ Stopped → ⊥) }
+    {
+        let mut label = self.label(v);
+        let mut node = v;
+        for _ in 0..self.nodes {
+            let Some(parent) = self.parent_of(node) else {
+                return Ok(label);
+            };
+            let price = self.label(parent);
+            label = sum(label, rest(price, price.halved()))?;
+            node = parent;
+        }
+        Ok(label)
+    }
+
+    /// The labels of all vertices, for another search to begin with.
+    pub(crate) fn labels(&self, alloc: Global, size: u16) -> Result<Vec<Wide>, Fault>
+        ensures places { IfOk result (λ labels. vec_len labels ≡ size) }
+        ensures going { IfErr result (λ fault. fault ≡ Stopped → ⊥) }
+    {
+        let mut labels = Vec::with_capacity(alloc, usize::from(size))?;
+        for v in 0..size {
+            labels.push(self.whole_label(v)?)?;
+        }
+        Ok(labels)
     }
 
     /// The certificate that the labels are. Potentials below 0 are had by giving more.

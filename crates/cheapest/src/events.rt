@@ -4,6 +4,7 @@ ghost use Rattle.cheapest.specs.declared.fault.Fault.TheVariants.{TooGreat};
 
 use crate::fault::Fault;
 use crate::forest::{Forest, Mark};
+use crate::graph::Costs;
 use crate::steps::{rest, sum};
 use dual::Wide;
 
@@ -34,7 +35,7 @@ fn sooner(first: Option<Event>, second: Option<Event>) -> Option<Event> {
     }
 }
 
-impl Forest {
+impl<C: Costs> Forest<'_, C> {
     // Labels are compared; where there is no other one yet, any node is lower.
     fn is_lower(&self, node: u16, other: Option<u16>) -> bool {
         match other {
@@ -64,15 +65,20 @@ impl Forest {
         self.nearest.at(place).is_some() && self.noted.at(place) != Mark::Inner
     }
 
-    // Where there is no other one yet, any vertex comes first.
+    // Whether the search ends if a vertex is joined: its node was not reached, and has a base without a partner.
+    fn is_end(&self, v: u16) -> bool {
+        let base = self.base_of(self.outer_of(v));
+        self.noted.at(usize::from(v)) == Mark::Free && self.partner_of(base).is_none()
+    }
+
+    // Where there is no other one yet, any vertex comes first. Of two at once, the one at which the search ends.
     fn joins_before(&self, v: u16, other: Option<u16>) -> bool {
-        match other {
-            Some(other) => {
-                let due = self.due.at(usize::from(other));
-                self.due.at(usize::from(v)).is_less(due)
-            }
-            None => true,
-        }
+        let Some(other) = other else {
+            return true;
+        };
+        let due = self.due.at(usize::from(v));
+        let other_due = self.due.at(usize::from(other));
+        due.is_less(other_due) || (due == other_due && self.is_end(v) && !self.is_end(other))
     }
 
     // The first vertex that can be joined to the nearest one.
@@ -146,10 +152,20 @@ impl Forest {
         Ok(())
     }
 
+    // The bound that the labels are rises by as much as the root's label comes down: the tree has one outer node more
+    // than inner ones.
+    fn take_room(&mut self, by: Wide) {
+        if let Some(room) = self.room {
+            self.room = room.minus(by);
+            self.is_enough = room.is_less(by);
+        }
+    }
+
     /// Changes all labels.
     pub(crate) fn adjust(&mut self, by: Wide) -> Result<(), Fault>
         ensures { IfErr result (λ fault. fault ≡ TooGreat) }
     {
+        self.take_room(by);
         self.fallen = sum(self.fallen, by)?;
         self.adjust_vertices(by)?;
         self.adjust_blossoms(sum(by, by)?)

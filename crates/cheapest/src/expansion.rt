@@ -1,8 +1,9 @@
 // The unfolding of a blossom: its nodes are outermost again, and those in which its base is not are paired along the
 // circle.
 use crate::forest::{Forest, Mark};
+use crate::graph::Costs;
 
-impl Forest {
+impl<C: Costs> Forest<'_, C> {
     // The node that lies in a blossom, and holds a vertex of it.
     fn node_in(&self, blossom: u16, v: u16) -> u16 {
         let mut node = v;

@@ -10,7 +10,15 @@
 // its two labels and those of the blossoms that hold both, and just as much if it is in the matching. A search ends
 // with a partner for its root, or with a vertex of label 0 that is left over in its place. So in the end whoever is
 // left over has a label of 0, and the certificate is worth what the matching costs.
+//
+// The labels may come from another search. They need not be all even or all odd: gains are even, so the labels of two
+// vertices of one tree are both even or both odd, and halves of what two outer ones have beyond the gain are whole.
+//
+// All labels together are a bound: no matching costs less than to leave all vertices over, less the labels. Blossoms
+// count for as many pairs as they can hold. While a search goes on, the bound rises by as much as its root's label comes
+// down, since the tree has one outer node more than inner ones. A matching that costs as much as the bound is cheapest.
 use crate::gains::Gains;
+use crate::graph::Costs;
 use crate::places::Places;
 use dual::Wide;
 use std::alloc::{AllocError, Global};
@@ -28,12 +36,12 @@ pub(crate) enum Mark {
 
 /// The state of all searches, node by node.
 #[derive(Drop)]
-pub(crate) struct Forest {
+pub(crate) struct Forest<'c, C: Costs> {
     pub(crate) size: u16,
     pub(crate) nodes: u16,
     /// Behind the last node that was in use.
     pub(crate) end: u16,
-    pub(crate) gains: Gains,
+    pub(crate) gains: Gains<'c, C>,
     pub(crate) labels: Places<Wide>,
     pub(crate) partner: Places<Option<u16>>,
     pub(crate) base: Places<Option<u16>>,
@@ -65,17 +73,21 @@ pub(crate) struct Forest {
     pub(crate) live: Places<bool>,
     /// The nodes on the way from a vertex to the root, for the folding of a blossom.
     pub(crate) on_way: Places<bool>,
+    /// By how much the bound that the labels are may still rise before it shows enough; none: however far.
+    pub(crate) room: Option<Wide>,
+    /// The bound is greater than what is enough.
+    pub(crate) is_enough: bool,
 }
 
-impl Forest {
-    /// A forest whose lists have no places yet.
-    pub(crate) fn new(alloc: Global, size: u16, nodes: u16) -> Result<Forest, AllocError> {
-        let gains = Gains::new(alloc, size)?;
-        Ok(Forest {
+impl<'c, C: Costs> Forest<'c, C> {
+    /// A forest of so many nodes whose lists have no places yet.
+    pub(crate) fn new(alloc: Global, costs: &'c C, nodes: u16) -> Forest<'c, C> {
+        let size = costs.size();
+        Forest {
             size,
             nodes,
             end: size,
-            gains,
+            gains: Gains::new(alloc, costs),
             labels: Places::new(alloc, Wide::zero()),
             partner: Places::new(alloc, None),
             base: Places::new(alloc, None),
@@ -94,7 +106,9 @@ impl Forest {
             counts: Places::new(alloc, 0),
             live: Places::new(alloc, false),
             on_way: Places::new(alloc, false),
-        })
+            room: None,
+            is_enough: false,
+        }
     }
 
     /// Makes the places of all nodes: no vertex is paired or reached, and all labels are 0.

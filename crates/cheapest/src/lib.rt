@@ -6,14 +6,21 @@
 //! sets of vertices. It is meant to be feasible, and to be worth just what the matching costs: then nothing is cheaper.
 //! All its numbers are of costs that count twice, so that halves are whole.
 //!
+//! `cheapest_from` begins where another search ended, for example on a graph that has lost pairs since: with its labels,
+//! and with those of its pairs that the labels still allow. So it is left with few searches if little has changed. It
+//! may be told what is enough, and then ends as soon as its labels show that each matching costs more.
+//!
+//! What a pair costs is asked each time that it is needed, and kept nowhere. It counts as a look where a vertex asks about
+//! all others, and for each pair to begin with; not where a single pair is asked about again.
+//!
 //! The graph may say which vertices are alike (`Costs::class`). Then the first labels come from a transport between the
 //! classes, and fewer searches are left. Whatever it says, it changes only how long that takes, and which of several
 //! cheapest matchings is found.
 //!
-//! What is proved: the search is safe and ends; it gives no step back, and says that it was stopped only where none is
-//! left; what it hands out is a matching of the graph, with a potential for each vertex and a mark for each in each
-//! set. That no matching is cheaper, and that the certificate shows it, is only tested: who relies on either has to
-//! check the certificate.
+//! What is proved of both: the search is safe and ends; it gives no step back, and says that it was stopped only where
+//! none is left; what it hands out is a matching of the graph, with a potential and a label for each vertex, and a mark
+//! for each in each set. That no matching is cheaper, that the certificate shows it, and that a search ends early only
+//! where the certificate shows more than enough, is only tested: who relies on it has to check the certificate.
 //!
 //! To mind: a graph has at most 32,767 vertices, counted from 0. What two vertices cost is asked with the smaller one
 //! first.
@@ -29,7 +36,6 @@ mod forest;
 mod found;
 mod gains;
 mod graph;
-mod pair_numbers;
 mod pairs;
 mod places;
 mod scan;
@@ -37,8 +43,9 @@ mod search;
 mod start;
 mod steps;
 mod transport;
+mod warm;
 mod ways;
 
 pub use fault::Fault;
-pub use found::{Found, LOOKS_IN_A_STEP, cheapest};
+pub use found::{Found, LOOKS_IN_A_STEP, Start, cheapest, cheapest_from};
 pub use graph::Costs;

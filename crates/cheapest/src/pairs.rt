@@ -8,9 +8,9 @@ use crate::graph::Costs;
 use std::alloc::{AllocError, Global};
 
 // Whom the searches have paired with each vertex.
-fn wanted_partners(
+fn wanted_partners<C: Costs>(
     alloc: Global,
-    forest: &Forest,
+    forest: &Forest<'_, C>,
     size: u16,
 ) -> Result<Vec<Option<u16>>, AllocError>
     ensures { IfOk result (λ wanted. vec_len wanted ≡ size) }
@@ -45,7 +45,7 @@ fn partner<C: Costs>(costs: &C, wanted: &[Option<u16>], a: u16) -> Option<u16>
 pub(crate) fn partners<C: Costs>(
     alloc: Global,
     costs: &C,
-    forest: &Forest,
+    forest: &Forest<'_, C>,
 ) -> Result<Vec<Option<u16>>, AllocError>
     ensures { IfOk result (λ found. IsMatching (C.vertices costs.now) (C.joined costs.now) found.items) }
 {

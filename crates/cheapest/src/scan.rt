@@ -5,21 +5,25 @@ ghost use Rattle.cheapest.specs.declared.fault.Fault.TheVariants.{Stopped, TooGr
 
 use crate::fault::Fault;
 use crate::forest::{Forest, Mark};
+use crate::graph::Costs;
 use crate::steps::{rest, sum, take_step};
 use dual::Wide;
 
-impl Forest {
+impl<C: Costs> Forest<'_, C> {
     /// What the labels of two vertices that are in no common blossom have beyond the gain of the pair.
-    pub(crate) fn slack(&self, a: u16, b: u16) -> Result<Wide, Fault>
+    pub(crate) fn slack(&self, a: u16, b: u16, gain: Wide) -> Result<Wide, Fault>
         ensures { IfErr result (λ fault. fault ≡ TooGreat) }
     {
         let labels = sum(self.label(a), self.label(b))?;
-        Ok(rest(labels, self.gains.at(a, b)))
+        Ok(rest(labels, gain))
     }
 
-    /// Two vertices of one blossom are not joined again.
-    fn can_be_joined(&self, a: u16, b: u16) -> bool {
-        self.gains.joins(a, b) && self.outer_of(a) != self.outer_of(b)
+    /// What two vertices gain that can be joined. Two vertices of one blossom are not joined again.
+    fn gain_apart(&self, a: u16, b: u16) -> Option<Wide> {
+        if self.outer_of(a) == self.outer_of(b) {
+            return None;
+        }
+        self.gains.of(a, b)
     }
 
     /// The nearest vertex is stale once a blossom has taken in both.
@@ -29,15 +33,29 @@ impl Forest {
 
     // How far the labels will have come down when a vertex can be joined to an outer one. Where both are outer, both
     // labels come down.
-    fn due_of(&self, u: u16, v: u16) -> Result<Wide, Fault>
+    fn due_of(&self, u: u16, v: u16, gain: Wide) -> Result<Wide, Fault>
         ensures { IfErr result (λ fault. fault ≡ TooGreat) }
     {
-        let slack = self.slack(u, v)?;
+        let slack = self.slack(u, v, gain)?;
         match self.noted.at(usize::from(v)) {
             Mark::Free => sum(self.fallen, slack),
             Mark::Outer => sum(self.fallen, slack.halved()),
             Mark::Inner => Ok(slack),
         }
+    }
+
+    // Works out anew when a vertex can be joined to the one nearest to it.
+    fn note_due(&mut self, v: u16) -> Result<(), Fault>
+        ensures { IfErr result (λ fault. fault ≡ TooGreat) }
+    {
+        let place = usize::from(v);
+        if let Some(nearest) = self.nearest.at(place)
+            && let Some(gain) = self.gains.of(nearest, v)
+        {
+            let due = self.due_of(nearest, v, gain)?;
+            self.due.put(place, due);
+        }
+        Ok(())
     }
 
     /// Notes the marks of vertices, and works out anew when those can be joined that have got another one.
@@ -48,10 +66,7 @@ impl Forest {
             let (place, mark) = (usize::from(v), self.mark_of(v));
             if self.noted.at(place) != mark {
                 self.noted.put(place, mark);
-                if let Some(nearest) = self.nearest.at(place) {
-                    let due = self.due_of(nearest, v)?;
-                    self.due.put(place, due);
-                }
+                self.note_due(v)?;
             }
         }
         Ok(())
@@ -59,11 +74,11 @@ impl Forest {
 
     /// Notes an outer vertex if it is nearer to a vertex than any before. What is stale stays so, until all are looked
     /// at anew.
-    fn consider(&mut self, u: u16, v: u16) -> Result<(), Fault>
+    fn consider(&mut self, u: u16, v: u16, gain: Wide) -> Result<(), Fault>
         ensures { IfErr result (λ fault. fault ≡ TooGreat) }
     {
         let place = usize::from(v);
-        let due = self.due_of(u, v)?;
+        let due = self.due_of(u, v, gain)?;
         let is_nearer = match self.nearest.at(place) {
             None => true,
             Some(nearest) => !self.is_stale(v, nearest) && due.is_less(self.due.at(place)),
@@ -83,8 +98,8 @@ impl Forest {
         self.scanned.put(usize::from(u), true);
         for v in 0..self.size {
             take_step(left)?;
-            if self.can_be_joined(u, v) {
-                self.consider(u, v)?;
+            if let Some(gain) = self.gain_apart(u, v) {
+                self.consider(u, v, gain)?;
             }
         }
         Ok(())
@@ -112,8 +127,10 @@ impl Forest {
         self.nearest.put(usize::from(v), None);
         for u in 0..self.size {
             take_step(left)?;
-            if self.noted.at(usize::from(u)) == Mark::Outer && self.can_be_joined(u, v) {
-                self.consider(u, v)?;
+            if self.noted.at(usize::from(u)) == Mark::Outer
+                && let Some(gain) = self.gain_apart(u, v)
+            {
+                self.consider(u, v, gain)?;
             }
         }
         Ok(())

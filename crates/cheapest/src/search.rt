@@ -6,9 +6,10 @@ ghost use Rattle.cheapest.specs.declared.fault.Fault.TheVariants.{Stopped};
 use crate::events::NextMove;
 use crate::fault::Fault;
 use crate::forest::{Forest, Mark};
+use crate::graph::Costs;
 use dual::Wide;
 
-impl Forest {
+impl<C: Costs> Forest<'_, C> {
     // Gives an outer vertex a partner, or none, and pairs all anew on the way from its node to the root.
     fn pair_up_to_root(&mut self, vertex: u16, partner: Option<u16>) {
         let (mut vertex, mut partner) = (vertex, partner);
@@ -72,7 +73,8 @@ impl Forest {
         }
     }
 
-    // Changes the labels until something can be done, and does it; whether the search is at its end.
+    // Changes the labels until something can be done, and does it; whether the search is at its end, also because the
+    // labels show enough.
     fn go_on(&mut self, left: &mut u64) -> Result<bool, Fault>
         ensures falls { left.new ≤ left.old }
         ensures stopped { IfErr result (λ fault. fault ≡ Stopped → left.new ≡ 0) }
@@ -85,6 +87,9 @@ impl Forest {
         };
         if !event.by.is_zero() {
             self.adjust(event.by)?;
+        }
+        if self.is_enough {
+            return Ok(true);
         }
         Ok(self.act(event.next_move))
     }
@@ -112,13 +117,18 @@ impl Forest {
         Ok(())
     }
 
-    /// Searches from each vertex that is alone and has a label beyond 0.
+    /// Whether a search has to begin from a vertex.
+    pub(crate) fn is_unsettled(&self, v: u16) -> bool {
+        !self.is_enough && self.is_alone(v) && !self.label(v).is_zero()
+    }
+
+    /// Searches from each vertex that is alone and has a label beyond 0, until the labels show enough.
     pub(crate) fn settle_all(&mut self, left: &mut u64) -> Result<(), Fault>
         ensures falls { left.new ≤ left.old }
         ensures stopped { IfErr result (λ fault. fault ≡ Stopped → left.new ≡ 0) }
     {
         for v in 0..self.size {
-            if self.is_alone(v) && !self.label(v).is_zero() {
+            if self.is_unsettled(v) {
                 self.settle(v, left)?;
             }
         }

@@ -1,5 +1,5 @@
-// The first labels, and the first pairs: labels by class, then as low as one vertex after the other can have them, and
-// pairs that gain just as much.
+// The first labels and pairs of a search that begins anew: labels by class, then as low as one vertex after the other
+// can have them, and pairs that gain just as much.
 ghost use Rattle.std.specs.Prelude.{◌≡◌, ◌≤◌, IfErr};
 ghost use Rattle.cheapest.specs.declared.fault.Fault.TheVariants.{Stopped, TooGreat};
 
@@ -7,7 +7,7 @@ use crate::classes::Classes;
 use crate::fault::Fault;
 use crate::forest::Forest;
 use crate::graph::Costs;
-use crate::steps::{rest, take_step};
+use crate::steps::{greater, rest, take_step};
 use crate::transport::Transport;
 use dual::Wide;
 use std::alloc::Global;
@@ -19,24 +19,31 @@ struct Neighbour {
     slack: Wide,
 }
 
-impl Forest {
-    // Half of the most that a pair of a vertex gains.
-    fn first_label(&self, v: u16) -> Wide {
+impl<C: Costs> Forest<'_, C> {
+    // Half of the most that a pair of a vertex gains, with a step for each vertex asked about.
+    fn first_label(&self, v: u16, left: &mut u64) -> Result<Wide, Fault>
+        ensures falls { left.new ≤ left.old }
+        ensures stopped { IfErr result (λ fault. fault ≡ Stopped → left.new ≡ 0) }
+    {
         let mut most = Wide::zero();
         for u in 0..self.size {
-            let half = self.gains.at(v, u).halved();
-            if most.is_less(half) {
-                most = half;
+            take_step(left)?;
+            if let Some(gain) = self.gains.of(v, u) {
+                most = greater(most, gain.halved());
             }
         }
-        most
+        Ok(most)
     }
 
-    fn label_by_gains(&mut self) {
+    fn label_by_gains(&mut self, left: &mut u64) -> Result<(), Fault>
+        ensures falls { left.new ≤ left.old }
+        ensures stopped { IfErr result (λ fault. fault ≡ Stopped → left.new ≡ 0) }
+    {
         for v in 0..self.size {
-            let label = self.first_label(v);
+            let label = self.first_label(v, left)?;
             self.labels.put(usize::from(v), label);
         }
+        Ok(())
     }
 
     // The nearer of two neighbours; of two that are equally near one that is alone.
@@ -62,8 +69,8 @@ impl Forest {
         let mut nearest = None;
         for vertex in 0..self.size {
             take_step(left)?;
-            if self.gains.joins(v, vertex) {
-                let slack = self.slack(v, vertex)?;
+            if let Some(gain) = self.gains.of(v, vertex) {
+                let slack = self.slack(v, vertex, gain)?;
                 nearest = Some(self.nearer(nearest, Neighbour { vertex, slack }));
                 if slack.is_zero() && self.is_alone(vertex) {
                     return Ok(nearest);
@@ -89,76 +96,74 @@ impl Forest {
         Ok(())
     }
 
-    // Notes in a transport what a vertex gains with all behind it.
-    fn note_gains_of(&self, a: u16, classes: &Classes, transport: &mut Transport) {
+    // Notes in a transport what a vertex gains with all behind it, with a step for each.
+    fn note_gains_of(&self, a: u16, transport: &mut Transport, left: &mut u64) -> Result<(), Fault>
+        ensures falls { left.new ≤ left.old }
+        ensures stopped { IfErr result (λ fault. fault ≡ Stopped → left.new ≡ 0) }
+    {
         for b in a..self.size {
-            if self.gains.joins(a, b) {
-                transport.note_pair(classes.of(a), classes.of(b), self.gains.at(a, b));
+            take_step(left)?;
+            if let Some(gain) = self.gains.of(a, b) {
+                transport.note_pair(a, b, gain);
             }
         }
+        Ok(())
     }
 
     // Notes in a transport what each two vertices gain.
-    fn note_gains(&self, classes: &Classes, transport: &mut Transport) {
+    fn note_gains(&self, transport: &mut Transport, left: &mut u64) -> Result<(), Fault>
+        ensures falls { left.new ≤ left.old }
+        ensures stopped { IfErr result (λ fault. fault ≡ Stopped → left.new ≡ 0) }
+    {
         for a in 0..self.size {
-            self.note_gains_of(a, classes, transport);
+            self.note_gains_of(a, transport, left)?;
         }
+        Ok(())
     }
 
     // Gives each vertex the label of its class.
-    fn label_by_class(&mut self, classes: &Classes, transport: &Transport) -> Result<(), Fault>
+    fn label_by_class(&mut self, transport: &Transport) -> Result<(), Fault>
         ensures { IfErr result (λ fault. fault ≡ TooGreat) }
     {
         for v in 0..self.size {
-            let label = transport.label(classes.of(v))?;
+            let label = transport.label(v)?;
             self.labels.put(usize::from(v), label);
         }
         Ok(())
     }
 
     // Labels all vertices by a transport between their classes.
-    fn transport_labels(
-        &mut self,
-        classes: &Classes,
-        transport: &mut Transport,
-        left: &mut u64,
-    ) -> Result<(), Fault>
+    fn transport_labels(&mut self, transport: &mut Transport, left: &mut u64) -> Result<(), Fault>
         ensures falls { left.new ≤ left.old }
         ensures stopped { IfErr result (λ fault. fault ≡ Stopped → left.new ≡ 0) }
     {
-        transport.make_places(classes)?;
-        self.note_gains(classes, transport);
+        transport.make_places()?;
+        self.note_gains(transport, left)?;
         transport.find(left)?;
-        self.label_by_class(classes, transport)
+        self.label_by_class(transport)
     }
 
     // Labels all vertices: by class, unless most are in a class of their own. (Then a transport would take longer than
     // the searches.)
-    fn label_all<C: Costs>(&mut self, alloc: Global, costs: &C, left: &mut u64) -> Result<(), Fault>
+    fn label_all(&mut self, alloc: Global, left: &mut u64) -> Result<(), Fault>
         ensures falls { left.new ≤ left.old }
         ensures stopped { IfErr result (λ fault. fault ≡ Stopped → left.new ≡ 0) }
     {
         let mut classes = Classes::new(alloc);
-        classes.read(alloc, costs)?;
+        classes.read(alloc, self.gains.costs)?;
         if classes.count() > self.size / 2 {
-            self.label_by_gains();
-            return Ok(());
+            return self.label_by_gains(left);
         }
-        let mut transport = Transport::new(alloc);
-        self.transport_labels(&classes, &mut transport, left)
+        let mut transport = Transport::new(alloc, classes);
+        self.transport_labels(&mut transport, left)
     }
 
     /// Labels all vertices, and pairs those that are paired at once.
-    pub(crate) fn begin<C: Costs>(
-        &mut self,
-        alloc: Global,
-        costs: &C,
-        left: &mut u64,
-    ) -> Result<(), Fault>
+    pub(crate) fn begin(&mut self, alloc: Global, left: &mut u64) -> Result<(), Fault>
         ensures falls { left.new ≤ left.old }
         ensures stopped { IfErr result (λ fault. fault ≡ Stopped → left.new ≡ 0) }
     {
-        self.label_all(alloc, costs, left)?;
+        self.label_all(alloc, left)?;
         for v in 0..self.size {
             if self.is_alone(v) {
                 self.lower(v, left)?;

@@ -19,6 +19,11 @@ pub(crate) fn take_step(left: &mut u64) -> Result<(), Fault>
     Ok(())
 }
 
+/// The greater of two numbers.
+pub(crate) fn greater(a: Wide, b: Wide) -> Wide {
+    if a.is_less(b) { b } else { a }
+}
+
 /// The sum of two numbers, if it fits.
 pub(crate) fn sum(a: Wide, b: Wide) -> Result<Wide, Fault>
     ensures { MatchResult result (λ sum. sum ≡ a + b) (λ fault. fault ≡ TooGreat) }

@@ -26,6 +26,7 @@ pub(crate) struct Side {
 #[derive(Drop)]
 pub(crate) struct Transport {
     pub(crate) classes: u16,
+    by_vertex: Classes,
     /// What a unit gains, if it may go; by row and column.
     pub(crate) gains: Places<Option<Wide>>,
     /// How many units go; by row and column.
@@ -88,10 +89,11 @@ impl Side {
 }
 
 impl Transport {
-    /// A transport that has no class yet.
-    pub(crate) fn new(alloc: Global) -> Transport {
+    /// A transport between the classes of all vertices, with no places yet.
+    pub(crate) fn new(alloc: Global, by_vertex: Classes) -> Transport {
         Transport {
-            classes: 0,
+            classes: by_vertex.count(),
+            by_vertex,
             gains: Places::new(alloc, None),
             units: Places::new(alloc, 0),
             rows: Side::new(alloc),
@@ -100,15 +102,14 @@ impl Transport {
         }
     }
 
-    /// Makes places for some classes: no unit may go yet.
-    pub(crate) fn make_places(&mut self, classes: &Classes) -> Result<(), AllocError> {
-        let count = usize::from(classes.count());
-        self.classes = classes.count();
+    /// Makes places for all classes: no unit may go yet.
+    pub(crate) fn make_places(&mut self) -> Result<(), AllocError> {
+        let count = usize::from(self.classes);
         self.gains.grow(count * count)?;
         self.units.grow(count * count)?;
         self.slacks.grow(count)?;
-        self.rows.grow(classes)?;
-        self.columns.grow(classes)
+        self.rows.grow(&self.by_vertex)?;
+        self.columns.grow(&self.by_vertex)
     }
 
     /// Where a row and a column stand.
@@ -136,17 +137,19 @@ impl Transport {
         }
     }
 
-    /// Notes what two joined vertices of two classes gain.
-    pub(crate) fn note_pair(&mut self, one: u16, other: u16, gain: Wide) {
+    /// Notes what two joined vertices gain.
+    pub(crate) fn note_pair(&mut self, a: u16, b: u16, gain: Wide) {
+        let (one, other) = (self.by_vertex.of(a), self.by_vertex.of(b));
         self.note(one, other, gain);
         self.note(other, one, gain);
     }
 
-    /// The label of a class: half of what its row and its column have. So no two joined vertices of two classes gain
-    /// more than the labels of their classes.
-    pub(crate) fn label(&self, class: u16) -> Result<Wide, Fault>
+    /// The label of a vertex: half of what the row and the column of its class have. So no two joined vertices gain more
+    /// than their labels.
+    pub(crate) fn label(&self, v: u16) -> Result<Wide, Fault>
         ensures { IfErr result (λ fault. fault ≡ TooGreat) }
     {
+        let class = self.by_vertex.of(v);
         let both = sum(self.rows.label(class), self.columns.label(class))?;
         Ok(both.halved())
     }

@@ -24,7 +24,7 @@ inside_square a v size first second =
     let rows : (a + 1) * size ≤ size * size = mul-le-mul_right size step in
     omega (arith, rows, add-mul a 1 size)
 
-other_row : (a u w v size : ℕ) → w < size → v < size → a ≢ u → a * size + w ≢ u * size + v
+pub other_row : (a u w v size : ℕ) → w < size → v < size → a ≢ u → a * size + w ≢ u * size + v
 other_row a u w v size first second ne e = elim (cases_lt a u) [
   | inl below ↦
       let step : a + 1 ≤ u = omega arith in
@@ -35,34 +35,6 @@ other_row a u w v size first second ne e = elim (cases_lt a u) [
       let rows : (u + 1) * size ≤ a * size = mul-le-mul_right size step in
       omega (arith, rows, e, add-mul u 1 size)
 ]
-
-module _ (costs : Costs) (certificate : Certificate) (size : ℕ) (players : List ℕ) (below : All (λ v. v < size) players) where
-  abbrev Row : List ℕ → ℕ → Type 0
-  Row slacks u = HasSlacks costs certificate u players (u * size) slacks
-
-  row_kept : (a u start : ℕ) (old new : List ℕ) → start ≡ a * size
-      → ((k : ℕ) → All (λ v. ¬ (start + v ≡ k)) players → get_or new k 0 ≡ get_or old k 0)
-      → HasSlacks costs certificate a players start new → Row old u → Row new u
-  row_kept a u start old new begins others row h = elim (cases_Bool (nat_eq a u)) [
-    | inl here ↦
-        let is : a ≡ u = eqb-true a u here in
-        subst (Row new) is (subst (λ n. HasSlacks costs certificate a players n new) begins row)
-    | inr other ↦ λ k d lt met.
-        let ne : a ≢ u = λ is. cc (eq-eqb a u is, other) in
-        let v : ℕ = get_or players k d in
-        others (u * size + v) (λ j e there is.
-        other_row a u (get_or players j e) v size (below j e there) (below k d lt) ne (ap (λ n. n + get_or players j e) (sym begins) ∙ is))
-        ∙ h k d lt met
-  ]
-
-  pub rows_more : (i start : ℕ) (old new : List ℕ) → i < length players → start ≡ get_or players i 0 * size
-      → ((k : ℕ) → All (λ v. ¬ (start + v ≡ k)) players → get_or new k 0 ≡ get_or old k 0)
-      → HasSlacks costs certificate (get_or players i 0) players start new
-      → All (Row old) (take i players) → All (Row new) (take (i + 1) players)
-  rows_more i start old new lt begins others row told =
-      All-more (Row new) players i 0 lt
-      (All-weaker (Row old) (Row new) (λ u h. row_kept (get_or players i 0) u start old new begins others row h) (take i players) told)
-      (subst (λ n. HasSlacks costs certificate (get_or players i 0) players n new) begins row)
 
 -- ---- what is told is a floor
 
@@ -168,15 +140,16 @@ floor_for_each costs players certificate floor even feasible told left = λ pair
     floor_least costs players left certificate floor feasible
     (record { base = told.base; debt = here; pairs = told.pairs; left_over = told.left_over }) pairs out matching e known known_left part part_left
 
-pub for_each_left : {E : Type 0} (costs : Costs) (players : List ℕ) (certificate : Certificate) (below : Type 0) → GivesEvenly certificate
-    → (result : Result (Option FloorTable) E)
+-- so does each that a call answers, alone or in something
+pub for_each_left : {X E : Type 0} (costs : Costs) (players : List ℕ) (certificate : Certificate) (below : Type 0) → GivesEvenly certificate
+    → (table : X → FloorTable) (result : Result (Option X) E)
     → IfOk result (λ found. (IsSome found → IsFeasible costs players certificate × below) × (IsFeasible costs players certificate × below → IsSome found))
-    → IfOk result (λ found. IfSome found (IsFloorOf costs players (length players % 2) certificate))
-    → IfOk result (λ found. IfSome found (λ floor. (left : ℕ) → IsFloor costs players left floor))
-for_each_left costs players certificate below even (Err e) whole told = tt
-for_each_left costs players certificate below even (Ok None) whole told = tt
-for_each_left costs players certificate below even (Ok (Some floor)) whole told =
-    floor_for_each costs players certificate floor even (whole.0 refl).0 told
+    → IfOk result (λ found. IfSome found (λ x. IsFloorOf costs players (length players % 2) certificate (table x)))
+    → IfOk result (λ found. IfSome found (λ x. (left : ℕ) → IsFloor costs players left (table x)))
+for_each_left costs players certificate below even table (Err e) whole told = tt
+for_each_left costs players certificate below even table (Ok None) whole told = tt
+for_each_left costs players certificate below even table (Ok (Some x)) whole told =
+    floor_for_each costs players certificate (table x) even (whole.0 refl).0 told
 
 -- rows of a square, as a floor has them, tell the slacks
 pub rows_tell : (costs : Costs) (players : List ℕ) (certificate : Certificate) (floor : FloorTable) → All (λ v. v < floor.size) players

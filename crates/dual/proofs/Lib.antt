@@ -6,4 +6,5 @@ pub mod Covering
 pub mod Barriers
 pub mod Witnesses
 pub mod FloorLemmas
+pub mod AgainLemmas
 pub mod WideTableLemmas

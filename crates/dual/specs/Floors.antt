@@ -1,7 +1,7 @@
 -- What every matching costs at least, beside what is owed, and what known pairs and known players left over add to that.
-use Rattle.std.specs.Prelude.{◌≡◌, ℕ, ◌+◌, ◌*◌, ◌<◌, ◌≤◌, true, if◌then◌else◌, nat_lt, List, All, length, sum_by, slice_index_or}
+use Rattle.std.specs.Prelude.{◌≡◌, ℕ, ◌+◌, ◌*◌, ◌^◌, ◌<◌, ◌≤◌, Bool, true, false, if◌then◌else◌, nat_lt, List, All, length, sum_by, slice_index_or}
 use Rattle.dual.specs.Matchings.{Costs, IsMatching, IsPartOf, cost}
-use Rattle.dual.specs.Duals.{Certificate, bears, bears_left, slack, slack_left, gains, losses, pairs_of}
+use Rattle.dual.specs.Duals.{Bears, Certificate, bears, bears_left, slack, slack_left, gains, losses, pairs_of}
 
 -- a base, a debt, and what each pair and each player left over adds: a pair's number stands in the row of its first player [own]
 pub record FloorTable : Type 0 where
@@ -57,3 +57,21 @@ pub record IsBelow (costs : Costs) (players : List ℕ) (left : ℕ) (certificat
   pub left_over : All (BearsLeftBelow costs certificate most) players
   pub gained : gains certificate players < most
   pub lost : losses certificate players (pairs_of players left) left < most
+
+-- a certificate that was checked pair by pair: each two players who may meet can bear their potentials, what they bear is below 2^1024, and
+-- of such a pair the table tells the slack; of players left over nothing is said [own]
+pub record IsChecked (costs : Costs) (players : List ℕ) (certificate : Certificate) (floor : FloorTable) : Type 0 where
+  pub pairs : All (λ u. All (Bears costs certificate u) players) players
+  pub below : All (λ u. All (BearsBelow costs certificate (2 ^ 1024) u) players) players
+  pub tells : All (λ u. All (TellsSlack costs certificate floor u) players) players
+
+-- a number has a mark; past the end of the marks each number is marked [with AreAsBefore]
+abbrev pub is_marked : List Bool → ℕ → Bool
+is_marked marks v = slice_index_or marks v true
+
+-- costs are as before but for marked players: two who may meet now and of whom neither is marked could meet before, and a pair of them
+-- weighed as much [own]
+abbrev pub AreAsBefore : List Bool → Costs → Costs → Type 0
+AreAsBefore turned before now =
+    (a b : ℕ) → is_marked turned a ≡ false → is_marked turned b ≡ false → now.meets a b ≡ true
+    → (before.meets a b ≡ true) × (now.weight a b ≡ before.weight a b)

@@ -1,7 +1,9 @@
 // A floor: what every matching costs at least, and what each known pair and each player known to be left over adds. It
 // keeps what the check computed: so a caller asks it about one beginning after another, and nothing is computed again.
-ghost use Rattle.std.specs.Prelude.{◌≡◌, [], slice_index_or};
-ghost use Rattle.dual.specs.Floors.{slack_in, slack_left_in};
+ghost use Rattle.std.specs.Prelude.{◌≡◌, ℕ, List, [], slice_index_or};
+ghost use Rattle.dual.specs.Duals.{Certificate};
+ghost use Rattle.dual.specs.Floors.{IsChecked, slack_in, slack_left_in};
+ghost use Rattle.dual.specs.Matchings.{Costs};
 
 use crate::wide::Wide;
 use crate::wide_table::WideTable;
@@ -76,7 +78,9 @@ impl Floor {
 
     /// The floor without what players left over add.
     pub fn without_left(self) -> Floor
-        ensures { result ≡ record {
+        ensures checked { (costs : Costs) (players : List ℕ) (certificate : Certificate)
+            → IsChecked costs players certificate self → IsChecked costs players certificate result }
+        ensures value { result ≡ record {
           base = self.base;
           debt = self.debt;
           size = self.size;

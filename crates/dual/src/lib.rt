@@ -9,6 +9,10 @@
 //! barrier (after Tutte and Berge), `least_left` says how many it leaves over, `tells_completable` checks a witness.
 //! Whoever finds them need not be trusted.
 //!
+//! Where nearly the same certificate was checked `Before`, for nearly the same rule, `CertificateTable::floor_again` and
+//! `CertificateTable::floor_for_any_again` make such floors too. They ask only about pairs of players of whom something
+//! is another thing than before, and copy the other slacks.
+//!
 //! Nothing here knows chess: a `MatchingRule` of the caller says, by numbers, who may meet and who may be left over,
 //! and at what cost; a certificate is checked for a `Pool` of players and their rule. Only a floor takes memory: four
 //! bytes for each pair, and what pairs add, each number once. A `WideTable` is such a table, for callers too. A check
@@ -18,10 +22,12 @@
 //! none. Potentials below 0, and a multiplier of the number left over, are had by giving more.
 #![tactic(auto)]
 
+mod again;
 mod barrier;
 mod check;
 mod floor;
 mod half;
+mod marks;
 mod quarter;
 mod rule;
 mod table;
@@ -29,6 +35,7 @@ mod wide;
 mod wide_table;
 mod witness;
 
+pub use again::{Before, Remade};
 pub use barrier::{least_left, tells_incompletable};
 pub use floor::Floor;
 pub use rule::{MatchingRule, Pool};

@@ -153,6 +153,29 @@ impl WideTable {
         Ok(WideTable { distinct, indices })
     }
 
+    /// A copy.
+    pub fn copied(&self) -> Result<WideTable, AllocError>
+        ensures { IfOk result (λ table. table ≡ self.now) }
+    {
+        let numbers = self.distinct.numbers.clone()?;
+        let slots = self.distinct.slots.clone()?;
+        let indices = self.indices.clone()?;
+        let distinct = Distinct { numbers, slots };
+        Ok(WideTable { distinct, indices })
+    }
+
+    // How many places there are.
+    pub(crate) fn len(&self) -> usize
+        ensures { result ≡ length self.now }
+    {
+        self.indices.len()
+    }
+
+    // How many numbers are kept.
+    pub(crate) fn kept(&self) -> usize {
+        self.distinct.numbers.len()
+    }
+
     /// The number of a place, 0 past the end.
     pub fn get(&self, place: usize) -> Wide
         ensures { result ≡ slice_index_or self.now place 0 }

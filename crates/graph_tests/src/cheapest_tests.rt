@@ -3,28 +3,28 @@
 ghost use Rattle.std.specs.Prelude.{◌≡◌, ◌+◌, ◌*◌, get_or, nat_lt, is_some};
 
 use cheapest::{Costs, Fault, Found, cheapest};
-use dual::{Floor, MatchingRule, Pool, Wide};
+use dual::{Before, Floor, MatchingRule, Pool, Wide};
 use std::alloc::{AllocError, Global};
 use std::test::Fail;
 
 // From here on a pair is not joined, and a vertex must not be left over.
-const MOST: u32 = 1_000_000;
+pub(crate) const MOST: u32 = 1_000_000;
 
 // More steps than any test makes.
-const AMPLE: u64 = 1_000_000;
+pub(crate) const AMPLE: u64 = 1_000_000;
 
 // A graph by what each pair costs, in rows of eight, and what it costs to leave each vertex over.
 #[derive(Drop)]
-struct Graph<'a> {
-    size: u16,
-    costs: &'a [u32],
-    left: &'a [u32],
+pub(crate) struct Graph<'a> {
+    pub(crate) size: u16,
+    pub(crate) costs: &'a [u32],
+    pub(crate) left: &'a [u32],
     // so many classes have vertices, whether these cost the same or not
-    classes: u16,
+    pub(crate) classes: u16,
 }
 
 // A number of a list; the most of all behind it.
-fn at(list: &[u32], place: usize) -> u32
+pub(crate) fn at(list: &[u32], place: usize) -> u32
     ensures { result ≡ get_or list.now place 1000000 }
 {
     if place < list.len() {
@@ -86,7 +86,7 @@ struct Doubled<'a> {
     left: &'a [u32],
 }
 
-fn twice(cost: u32) -> Wide
+pub(crate) fn twice(cost: u32) -> Wide
     ensures { result ≡ 2 * cost }
 {
     Wide::from_u64(2 * u64::from(cost))
@@ -142,7 +142,7 @@ fn least_of(graph: &Graph, known: &[u32], set: usize) -> u32 {
 }
 
 // The least that a matching costs.
-fn least(alloc: Global, graph: &Graph) -> Result<u32, Fail> {
+pub(crate) fn least(alloc: Global, graph: &Graph) -> Result<u32, Fail> {
     let mut known = Vec::new(alloc);
     known.push(0)?;
     let sets = 1usize.wrapping_shl(u32::from(graph.size));
@@ -152,7 +152,7 @@ fn least(alloc: Global, graph: &Graph) -> Result<u32, Fail> {
     Ok(at(&known, sets.saturating_sub(1)))
 }
 
-fn cost_of(graph: &Graph, found: &Found) -> u32 {
+pub(crate) fn cost_of(graph: &Graph, found: &Found) -> u32 {
     let mut cost: u32 = 0;
     for (a, partner) in found.partners.iter().enumerate() {
         let part = match partner {
@@ -167,7 +167,11 @@ fn cost_of(graph: &Graph, found: &Found) -> u32 {
 
 // The floor that a certificate is for as many vertices left over as the matching leaves, if it is feasible, and also
 // one for any number of them.
-fn floor_of(alloc: Global, graph: &Graph, found: &Found) -> Result<Option<Floor>, AllocError> {
+pub(crate) fn floor_of(
+    alloc: Global,
+    graph: &Graph,
+    found: &Found,
+) -> Result<Option<Floor>, AllocError> {
     let rule = Doubled {
         costs: graph.costs,
         left: graph.left,
@@ -193,7 +197,7 @@ fn floor_of(alloc: Global, graph: &Graph, found: &Found) -> Result<Option<Floor>
 
 // A certificate that is feasible, and worth just what the matching costs, shows that this is the least. Where some
 // vertex is left over that must not be, nothing is worth as much.
-fn is_shown(alloc: Global, graph: &Graph, found: &Found) -> Result<bool, Fail> {
+pub(crate) fn is_shown(alloc: Global, graph: &Graph, found: &Found) -> Result<bool, Fail> {
     let least = least(alloc, graph)?;
     let cost = cost_of(graph, found);
     let Some(floor) = floor_of(alloc, graph, found)? else {
@@ -203,7 +207,7 @@ fn is_shown(alloc: Global, graph: &Graph, found: &Found) -> Result<bool, Fail> {
     Ok(least >= MOST || (cost == least && is_worth_it))
 }
 
-fn found_of(alloc: Global, graph: &Graph) -> Result<Found, Fail> {
+pub(crate) fn found_of(alloc: Global, graph: &Graph) -> Result<Found, Fail> {
     let mut left = AMPLE;
     Ok(cheapest(alloc, graph, &mut left)?)
 }
@@ -216,7 +220,7 @@ fn sets_of(alloc: Global, graph: &Graph) -> Result<Option<usize>, Fail> {
 }
 
 // Numbers that look like drawn ones.
-fn drawn(state: &mut u64, below: u32) -> u32 {
+pub(crate) fn drawn(state: &mut u64, below: u32) -> u32 {
     *state = state
         .wrapping_mul(6_364_136_223_846_793_005)
         .wrapping_add(1_442_695_040_888_963_407);
@@ -251,19 +255,37 @@ fn draw_left(alloc: Global, state: &mut u64, some: u32, below: u32) -> Result<Ve
 
 const BOUNDS: [u32; 4] = [2, 4, 12, 1_000];
 
-// How many priced sets a certificate has, as `sets_of` tells, for a graph of up to eight vertices that looks like a
-// drawn one.
-fn sets_of_drawn(alloc: Global, state: &mut u64, turn: usize) -> Result<Option<usize>, Fail> {
+// What a graph refers to.
+#[derive(Drop)]
+pub(crate) struct Lists {
+    pub(crate) size: u16,
+    pub(crate) costs: Vec<u32>,
+    pub(crate) left: Vec<u32>,
+    pub(crate) classes: u16,
+}
+
+impl Lists {
+    pub(crate) fn graph(&self) -> Graph<'_> {
+        Graph {
+            size: self.size,
+            costs: &self.costs,
+            left: &self.left,
+            classes: self.classes,
+        }
+    }
+}
+
+// A graph of up to eight vertices that looks like a drawn one.
+pub(crate) fn draw(alloc: Global, state: &mut u64, turn: usize) -> Result<Lists, Fail> {
     let below = BOUNDS[turn / 5 % 4];
     let costs = draw_costs(alloc, state, 1 + (turn % 4) as u32, below)?;
     let left = draw_left(alloc, state, (turn / 4 % 5) as u32, below)?;
-    let graph = Graph {
+    Ok(Lists {
         size: (turn % 9) as u16,
-        costs: &costs,
-        left: &left,
+        costs,
+        left,
         classes: 1 + (turn / 20 % 8) as u16,
-    };
-    sets_of(alloc, &graph)
+    })
 }
 
 #[test]
@@ -271,7 +293,8 @@ fn drawn_graphs(rt: HostRuntime) -> Result<(), Fail> {
     let mut state: u64 = 1;
     let mut with_sets: u32 = 0;
     for turn in 0..3_000usize {
-        let sets = sets_of_drawn(rt.alloc(), &mut state, turn)?;
+        let lists = draw(rt.alloc(), &mut state, turn)?;
+        let sets = sets_of(rt.alloc(), &lists.graph())?;
         assert!(rt; sets.is_some(), "turn {turn}");
         if sets > Some(0) {
             with_sets = with_sets.saturating_add(1);
@@ -288,7 +311,7 @@ const TAILED: [u32; 25] = [
 ];
 
 // The first vertices of it; each may be left over, for 9.
-fn tailed(size: u16) -> Graph<'static> {
+pub(crate) fn tailed(size: u16) -> Graph<'static> {
     Graph {
         size,
         costs: &TAILED,
@@ -316,4 +339,55 @@ fn too_few_steps(rt: HostRuntime) {
     let mut left = 1;
     let found = cheapest(rt.alloc(), &tailed(4), &mut left);
     assert!(rt; matches!(found, Err(Fault::Stopped)) && left == 0);
+}
+
+// How many pairs are asked about if a certificate of the four vertices is checked again, with marks for those who have
+// turned; none if a floor is another one than before.
+fn looks_again(alloc: Global, found: &Found, turned: &[bool]) -> Result<Option<u64>, AllocError> {
+    let rule = Doubled {
+        costs: &TAILED,
+        left: &[9; 8],
+    };
+    let pool = Pool {
+        rule: &rule,
+        players: &[0, 1, 2, 3],
+    };
+    let Some(floor) = found.certificate.floor(alloc, &pool, 0)? else {
+        return Ok(None);
+    };
+    let before = Before {
+        rule: &rule,
+        table: &found.certificate,
+        floor: &floor,
+        turned,
+    };
+    let again = found.certificate.floor_again(alloc, &pool, 0, &before)?;
+    let for_any = found
+        .certificate
+        .floor_for_any_again(alloc, &pool, &before)?;
+    let (Some(again), Some(for_any)) = (again, for_any) else {
+        return Ok(None);
+    };
+    if for_any.looks != again.looks || for_any.floor.slack(0, 3) != floor.slack(0, 3) {
+        return Ok(None);
+    }
+    Ok(Some(again.looks))
+}
+
+// Nobody's pairs, those of one, and all. Past the end of the marks each vertex has turned.
+#[test]
+fn checked_again(rt: HostRuntime) -> Result<(), Fail> {
+    let found = found_of(rt.alloc(), &tailed(4))?;
+    for (turned, looks) in [
+        ([false; 4].as_slice(), 0),
+        ([false, true, false, false].as_slice(), 7),
+        ([false, true, false].as_slice(), 12),
+        ([true; 4].as_slice(), 16),
+    ] {
+        assert!(rt;
+            looks_again(rt.alloc(), &found, turned)? == Some(looks),
+            "{looks} pairs"
+        );
+    }
+    Ok(())
 }

@@ -3,4 +3,4 @@ use Rattle.std.proofs.Common.{◌≡◌, vec_len}
 use Rattle.cheapest.proofs.forest.Forest.marks_of.Given as goal
 
 abbrev pub invariant-loop-v : goal.invariant-loop-v
-invariant-loop-v l = vec_len l.marks ≡ l.v
+invariant-loop-v g l = vec_len l.marks ≡ l.v

@@ -3,4 +3,4 @@ use Rattle.std.proofs.Common.{◌≤◌}
 use Rattle.cheapest.proofs.forest.Forest.scan.Given as goal
 
 abbrev pub invariant-loop-v : goal.invariant-loop-v
-invariant-loop-v l = l.left ≤ l.fn.left
+invariant-loop-v g l = l.left ≤ l.fn.left

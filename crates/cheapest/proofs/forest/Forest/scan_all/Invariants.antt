@@ -3,4 +3,4 @@ use Rattle.std.proofs.Common.{◌≤◌}
 use Rattle.cheapest.proofs.forest.Forest.scan_all.Given as goal
 
 abbrev pub invariant-loop-u : goal.invariant-loop-u
-invariant-loop-u l = l.left ≤ l.fn.left
+invariant-loop-u g l = l.left ≤ l.fn.left

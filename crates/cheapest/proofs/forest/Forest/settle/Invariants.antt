@@ -3,4 +3,4 @@ use Rattle.std.proofs.Common.{◌≤◌}
 use Rattle.cheapest.proofs.forest.Forest.settle.Given as goal
 
 abbrev pub invariant-loop : goal.invariant-loop
-invariant-loop l = l.left ≤ l.fn.left
+invariant-loop g l = l.left ≤ l.fn.left

@@ -8,5 +8,5 @@ pub returns-clause-least : goal.returns-clause-least
 returns-clause-least g c =
     let even : GivesEvenly (certificate_in c.args.self.now) = search rules in
     for_each_left (g.R.MatchingRule.costs c.args.pool.now.rule.now) c.args.pool.now.players.now (certificate_in c.args.self.now)
-    (IsBelow (g.R.MatchingRule.costs c.args.pool.now.rule.now) c.args.pool.now.players.now (length c.args.pool.now.players.now % 2) (certificate_in c.args.self.now) (2 ^ 1024)) even c.floor.result
+    (IsBelow (g.R.MatchingRule.costs c.args.pool.now.rule.now) c.args.pool.now.players.now (length c.args.pool.now.players.now % 2) (certificate_in c.args.self.now) (2 ^ 1024)) even (λ floor. floor) c.floor.result
     c.floor.ensures.whole c.floor.ensures.value
