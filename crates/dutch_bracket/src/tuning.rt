@@ -22,43 +22,21 @@ pub const FIRST_STEPS: u64 = 64;
 pub const CUBE_DIVISOR: u64 = 1024;
 
 /// Steps of the first passes, without weights: so many for each player, and so many for each player with each. They
-/// decide most brackets. With fewer, more brackets are weighed; with more, a hard one is weighed later.
+/// decide most brackets. With fewer, more brackets are weighed; with more, a hard one is weighed later. (With one for
+/// each player with each, two more of 237 hard reports were decided in 1,000,000 steps, but one of 400 players took ten
+/// times as long.)
 const PASS_STEPS: u64 = 128;
 
 const PASS_STEPS_WITH_EACH: u64 = 2;
 
-/// Times the steps of the first passes: so many steps have the passes by weights without C.7, where C.7 can be weighed.
-/// With fewer, pairs are weighed anew where those weights would do; with more, that comes later where it is needed.
-pub const TIMES_BY_WEIGHT: u64 = 4;
-
-/// The most players of a bracket whose pairs are weighed; if C.7 is weighed, with those of the next scoregroup. With
-/// fewer, larger brackets have floors by counts alone; with more, weights take more memory, and matchings more steps.
-/// (Before pairs of up to 512 players were weighed, and some exchanges passed over, some questions of `explain` were
-/// undecided. With 1,024 players, one report fewer was decided in 10,000,000 steps, and one took three times as long.)
+/// The most players of a bracket and the next scoregroup whose pairs are weighed together (C.7); the bracket's own are
+/// weighed always. With fewer, C.7 is known by counts alone in more brackets; with more, matchings take more steps.
+/// (With 1,024, one report of 1,024 players took eleven times as long.)
 pub const MOST_WEIGHED: usize = 512;
 
 /// The most players that a matching for a floor goes over if it takes in all lower ones (C.4). With fewer, floors of
 /// more penultimate brackets do not know of C.4; with more, floors take more steps there.
 pub const MOST_REACHED: usize = 400;
-
-/// A bracket with more players is large: a floor by weight takes many steps there. So a walk makes about as many before
-/// the next one may be asked for, and that only where it is stuck. If it is too small, walks go on long without a floor
-/// that would end them; if it is too great, most steps go into floors. (If no bracket is large, one of the longest
-/// questions of `explain` is undecided.)
-pub const LARGE_BRACKET: usize = 400;
-
-/// Turns of a walk that have together as many steps as the last floor took, though each at least one for each player.
-/// In a large bracket one turn has as many. With fewer, walks go on where a floor would end them; with more, most steps
-/// go into floors.
-pub const TURNS_OF_A_FLOOR: u64 = 16;
-
-/// Pairs of the shape: the steps of a turn are divided by one, and by one more for each so many, since a question looks
-/// at more pairs. If it is too small, most steps go into floors; if it is too great, most time goes into questions.
-pub const TURN_PAIRS: usize = 16;
-
-/// The most halvings of the number of pairs behind which a floor is asked for, where a walk is stuck. With fewer, it
-/// may stay unknown how many pairs are not ruled out; more are made only until it is known.
-pub const MOST_HALVINGS: u32 = 16;
 
 /// Floors by weight that are kept, at least 3: the first, one that counts an order (D.2), and another. With fewer, one
 /// is forgotten that would rule more out; with more, questions take longer, as each floor is asked at each beginning.

@@ -19,7 +19,7 @@ use crate::remembered::{PassState, judge_candidate};
 use dutch_arrangements::{Budget, Candidate, Stopped};
 use dutch_bracket::reached::BracketKind;
 use dutch_bracket::spending::at_most;
-use dutch_bracket::tuning::{TIMES_BY_WEIGHT, first_pass_steps};
+use dutch_bracket::tuning::first_pass_steps;
 use dutch_candidates::greatest::Lister;
 use dutch_candidates::narrowed::NarrowedRule;
 use dutch_candidates::wish::is_wished;
@@ -281,15 +281,12 @@ fn weigh_pairs<G: Guide>(
     Ok(())
 }
 
-/// Weighs the pairs, and keeps what the passes end with. If weights can tell of the next bracket too (C.7), the first
-/// ones leave it out, and the passes have `TIMES_BY_WEIGHT` times the few steps with them. If these do not suffice, the
-/// pairs are weighed with C.7, and the passes have all steps that are left. (Apart from its caller, as most brackets do
-/// not come to it.)
+/// Weighs the pairs, with those of the next bracket where C.7 counts, and keeps what the passes end with. (Apart from
+/// its caller, as most brackets do not come to it.)
 #[inline(never)]
 fn best_by_weight<G: Guide>(
     pass: &mut Pass<'_>,
     search: &mut PassRoom<'_, '_, '_, '_, G>,
-    few: u64,
     budget: &mut Budget,
 ) -> Result<(), Stopped>
     requires lister { passes.IsLentFor pass.old search.old.start search.old.lister.now }
@@ -300,19 +297,13 @@ fn best_by_weight<G: Guide>(
         (λ _. budget.new.used ≡ budget.new.limit) }
     ensures spends { Spends budget.old budget.new }
 {
-    weigh_pairs(pass, false, &mut *search.state, budget)?;
-    if tells_next(pass, &*search.state.guide) {
-        if best_within(pass, search, few.saturating_mul(TIMES_BY_WEIGHT), budget)? {
-            return Ok(());
-        }
-        weigh_pairs(pass, true, &mut *search.state, budget)?;
-    }
+    let next = tells_next(pass, &*search.state.guide);
+    weigh_pairs(pass, next, &mut *search.state, budget)?;
     best_in_passes(pass, search, budget)
 }
 
-/// Keeps what the passes end with. Most brackets need few steps. The others have their pairs weighed; and if
-/// `TIMES_BY_WEIGHT` times the few steps do not suffice then, those of the next bracket too, where C.7 counts. (Nothing
-/// here depends on the limit: with a higher one the same way goes on.)
+/// Keeps what the passes end with. Most brackets need few steps. The others have their pairs weighed. (Nothing here
+/// depends on the limit: with a higher one the same way goes on.)
 pub fn best_in_time<G: Guide>(
     pass: &mut Pass<'_>,
     search: &mut PassRoom<'_, '_, '_, '_, G>,
@@ -330,5 +321,5 @@ pub fn best_in_time<G: Guide>(
     if best_within(pass, search, few, budget)? {
         return Ok(());
     }
-    best_by_weight(pass, search, few, budget)
+    best_by_weight(pass, search, budget)
 }

@@ -5,7 +5,7 @@ ghost use Rattle.dutch_floors.specs.Behind.{IsBasisFor};
 use dutch_bracket::context::Context;
 use dutch_bracket::fault::PairFault;
 use dutch_bracket::shaped::ShapedBracket;
-use dutch_bracket::tuning::{LARGE_BRACKET, MOST_WEIGHED};
+use dutch_bracket::tuning::MOST_WEIGHED;
 use dutch_floors::floor::Floors;
 use dutch_weight_floors::weight_floor::WeightFloors;
 use std::alloc::Global;
@@ -17,6 +17,8 @@ pub(crate) struct BothFloors<'a> {
     pub(crate) counts: Floors<'a>,
     // (on the heap, as they are large)
     pub(crate) weights: Box<Option<WeightFloors<'a>>>,
+    // the steps of the next turn, where pairs are weighed
+    pub(crate) steps: u64,
     ghost basis: { IsBasisFor shaped counts },
 }
 
@@ -40,22 +42,13 @@ impl<'a> BothFloors<'a> {
             shaped: *shaped,
             counts: Floors::by_counts(shaped)?,
             weights: no_weights(shaped.context.alloc())?,
+            steps: 1,
         })
     }
 }
 
-/// Yes if pairs are weighed: the bracket does not have too many players, counted with the next lower scoregroup if the
-/// weights are to tell of that.
+/// Yes if pairs are weighed: of the bracket alone always; with those of the next lower scoregroup, if the weights are to
+/// tell of that, unless they are too many together.
 pub(crate) fn is_weighed(context: &Context<'_>, next: bool) -> bool {
-    let players = if next {
-        context.len_below()
-    } else {
-        context.len()
-    };
-    players <= MOST_WEIGHED
-}
-
-/// Yes if a bracket is large, so that floors by weight take many steps.
-pub(crate) fn is_large(context: &Context<'_>) -> bool {
-    context.len() > LARGE_BRACKET
+    !next || context.len_below() <= MOST_WEIGHED
 }

@@ -1,5 +1,6 @@
-// How candidates are drawn within floors of both kinds (C.04.3 B.8): in turns of steps. If a turn ends and nothing is
-// found, a floor by weight is asked for where the walk is stuck, and the next turn begins.
+// How candidates are drawn within floors of both kinds (C.04.3 B.8). Where pairs are weighed, a walk goes step by step:
+// it goes along with the witness, a matching that no candidate is known to be better than, and where it leaves that, a
+// floor by weight is asked for.
 ghost use Rattle.std.specs.Prelude.{◌≡◌, ◌+◌, ◌-◌, ◌<◌, ◌≤◌, [], None, min};
 ghost use Rattle.std.specs.Option.{ForSome};
 ghost use Rattle.std.specs.Result.{MatchResult};
@@ -9,45 +10,38 @@ ghost use Rattle.dutch_search.specs.Searching.{AreFor};
 ghost use Rattle.dutch_weight_floors.specs.Prelude.{HasBar};
 
 use crate::bars::bars_of;
-use crate::both::{BothFloors, is_large, is_weighed};
+use crate::both::{BothFloors, is_weighed};
 use crate::last_beginning::{LastBeginning, WalkNotes};
 use crate::skipper::Skipper;
 use cheapest::LOOKS_IN_A_STEP;
 use dutch_arrangements::{Budget, Step, Stopped};
 use dutch_bracket::spending::spend;
-use dutch_bracket::tuning::{TURN_PAIRS, TURNS_OF_A_FLOOR};
 use dutch_candidates::greatest::Lister;
 use dutch_candidates::narrowed::NarrowedRule;
 use dutch_candidates::wish::Wish;
 use dutch_listing::BoundWithRoom;
 use dutch_passes::{Guide, PassSoFar, Workroom};
 use dutch_weight_floors::asking::{Bars, FloorRequest};
-use dutch_weight_floors::scope::Scope;
 use dutch_weight_floors::weight_floor::WeightFloors;
 
+// The most steps of a turn. With fewer, walks take more time for as many steps; with more, they go on far beyond the
+// witness before a floor is asked for.
+const MOST_STEPS: u64 = 16;
+
 impl<'a> BothFloors<'a> {
-    /// The steps of a turn. Without floors by weight they are all that are left. With them they are so many that
-    /// another floor is worth its steps: the fewer, the more pairs a question looks at; in a large bracket about as
-    /// many as a floor takes.
+    /// The steps of a turn: all that are left. With floors by weight they are few, since after each turn the beginning
+    /// that a walk has come to is compared with the witness.
     fn turn(&self, budget: &Budget) -> Budget
         ensures used { result.used ≡ 0 }
         ensures limit { result.limit ≤ budget.now.limit - budget.now.used }
         ensures some { budget.now.used < budget.now.limit → 0 < result.limit }
     {
         let left = budget.limit - budget.used;
-        let Some(weights) = &*self.weights else {
-            return Budget {
-                used: 0,
-                limit: left,
-            };
-        };
-        let wait = weights.steps_before_asking(budget.used);
-        let steps = if is_large(self.shaped.context) {
-            wait.saturating_mul(TURNS_OF_A_FLOOR)
+        let limit = if self.weights.is_some() {
+            left.min(self.steps.max(1))
         } else {
-            wait / (1 + (self.shaped.shape.pairs / TURN_PAIRS) as u64)
+            left
         };
-        let limit = steps.max(1).min(left);
         Budget { used: 0, limit }
     }
 
@@ -83,25 +77,14 @@ impl<'a> BothFloors<'a> {
         ensures spends { Spends budget.old budget.new }
     {
         let mut weights = weights;
-        let before = budget.used;
-        let all = FloorRequest {
-            scope: &Scope::all(),
-            pairs: &[],
-        };
-        let found = weights.ask(&all, budget)?;
-        weights.note(before, budget.used);
+        let found = weights.ask_first(budget)?;
         *self.weights = Some(weights);
         Ok(self.fill_target(&found, work))
     }
 
-    /// What follows a turn that found nothing, if steps are left: if pairs are weighed, further floors by weight are
-    /// asked for where the walk is stuck. In a large bracket a walk that is not stuck makes another turn first.
-    fn go_on(
-        &mut self,
-        notes: &mut WalkNotes,
-        bars: &Bars,
-        budget: &mut Budget,
-    ) -> Result<(), Stopped>
+    /// What follows a turn that found nothing, if steps are left: if pairs are weighed, a floor by weight is asked for
+    /// where the walk leaves the witness.
+    fn go_on(&mut self, notes: &WalkNotes, bars: &Bars, budget: &mut Budget) -> Result<(), Stopped>
         ensures stopped { MatchResult result
             (λ _. budget.old.used < budget.old.limit)
             (λ _. budget.new.used ≡ budget.new.limit) }
@@ -114,16 +97,26 @@ impl<'a> BothFloors<'a> {
         if budget.used == budget.limit {
             return Err(Stopped);
         }
-        if is_large(self.shaped.context) && notes.has_moved() {
-            return Ok(());
-        }
         match &mut *self.weights {
             Some(weights) => {
                 let LastBeginning { scope, pairs } = &notes.last;
-                weights.ask_more(&FloorRequest { scope, pairs }, bars, budget)
+                let before = budget.used;
+                weights.ask_more(&FloorRequest { scope, pairs }, bars, budget)?;
+                self.steps = steps_after(self.steps, budget.used - before);
+                Ok(())
             }
             None => Ok(()),
         }
+    }
+}
+
+/// The steps of the turn after one of so many: one if a question was asked, and else twice as many, up to a bound. (A walk
+/// goes on where it stood before each turn, which takes time and no steps.)
+fn steps_after(steps: u64, asked: u64) -> u64 {
+    if asked > 0 {
+        1
+    } else {
+        steps.saturating_mul(2).min(MOST_STEPS)
     }
 }
 
@@ -191,7 +184,7 @@ impl<'a> Guide for BothFloors<'a> {
             match step {
                 Step::Found(()) => return Ok(true),
                 Step::End => return Ok(false),
-                Step::Undecided => self.go_on(&mut work.notes, &bars, budget)?,
+                Step::Undecided => self.go_on(&work.notes, &bars, budget)?,
             }
         }
     }

@@ -5,7 +5,7 @@ use dutch_bracket::seated::Pair;
 use dutch_floors::notes::FloorNotes;
 use dutch_weight_floors::scope::Scope;
 
-/// The beginning that a walk asked about last. If the steps end, the walk is stuck there.
+/// The beginning that a walk asked about last.
 #[derive(Default, Drop)]
 pub(crate) struct LastBeginning {
     /// The arrangements with its S1 and its S1R.
@@ -33,12 +33,10 @@ impl LastBeginning {
     }
 }
 
-/// The beginning that a walk asked about last; where the walk stood when it was asked last whether it has moved; and
-/// what floors by counts noted of the questions before.
+/// The beginning that a walk asked about last, and what floors by counts noted of the questions before.
 #[derive(Default, Drop)]
 pub(crate) struct WalkNotes {
     pub(crate) last: LastBeginning,
-    stood: Scope,
     pub(crate) floors: FloorNotes,
 }
 
@@ -46,15 +44,5 @@ impl WalkNotes {
     /// Notes nothing of a walk, as at its beginning. (What is known of floors is cleared where a listing begins.)
     pub(crate) fn clear(&mut self) {
         self.last.note(&Prefix::nothing());
-        self.stood.note(&Prefix::nothing());
-    }
-
-    /// Yes if the walk has come to another S1 or S1R since this was asked last. Then it is not stuck.
-    pub(crate) fn has_moved(&mut self) -> bool {
-        if self.stood.is(&self.last.scope) {
-            return false;
-        }
-        self.stood = self.last.scope.copied();
-        true
     }
 }

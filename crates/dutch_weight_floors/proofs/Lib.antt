@@ -6,3 +6,5 @@ pub mod WeightsBehind
 pub mod ScopedMatchings
 pub mod C04Lower
 pub mod C07NextWeights
+pub mod OtherScopes
+pub mod KeptFloors

@@ -4,7 +4,8 @@ use Rattle.std.proofs.Common.{◌≡◌, ℕ, zero, suc, ◌+◌, ◌-◌, ◌*�
 use Rattle.std.specs.List.{AllByRecursion}
 use Rattle.std.specs.Option.{ForSome}
 use Rattle.std.proofs.lemmas.Bool.{eq-eqb, ne_eqb}
-use Rattle.dual.specs.Prelude.{FloorTable, IsFloor, slack_in, slack_left_in, Costs, IsPartOf, cost}
+use Rattle.dual.specs.declared.table.CertificateTable.{CertificateTable}
+use Rattle.dual.specs.Prelude.{Certificate, FloorTable, IsChecked, IsFloor, certificate_in, slack_in, slack_left_in, Costs, IsPartOf, cost}
 use Rattle.dual.proofs.Sums.{sum_none}
 use Rattle.dutch_arrangements.specs.declared.bracket.Shape.{Shape}
 use Rattle.dutch_arrangements.specs.declared.prefix.Filling.{Filling}
@@ -16,7 +17,7 @@ use Rattle.dutch_player.specs.Prelude.{Facts}
 use Rattle.dutch_candidates.specs.declared.wish.Wish.{Wish}
 use Rattle.dutch_bracket.specs.Prelude.{fixed_lists, Quality, is_better, next_in, IsOf, Reached, frame_of, candidates_of, completable, downfloaters, is_penultimate, quality_of, number_pairs}
 use Rattle.dutch_candidates.specs.Wishes.{is_wished}
-use Rattle.dutch_weight_floors.specs.Prelude.{Covers, Scope, Order, IsFloorBy, MeasuresNext, Scoped, all_numbers, costs_in, kept_by, without_left, AreFloors, IsChoosable, IsScaled, IsWeightFloor, ScopedFloor, Weighed, added_in, bound_behind, is_first, left_known, passed_over, weighing_of, weight_in}
+use Rattle.dutch_weight_floors.specs.Prelude.{Covers, Scope, Order, IsFloorBy, MeasuresNext, Scoped, all_numbers, costs_in, kept_by, without_left, AreFloors, IsCheckedFor, IsCheckedIn, IsChoosable, IsFloorFor, IsScaled, IsWeightFloor, ScopedFloor, Weighed, added_in, bound_behind, is_first, left_known, passed_over, scoped_by, weight_in}
 use Rattle.dutch_weighing.specs.Prelude.{HasDigits, IsOn, IsScale, IsScaleFor, Scale, numbers, weighing, weight_above, weight_of, HasNoBetterOn}
 use Rattle.dutch_weight_floors.specs.declared.scoped.Reach.{Reach}
 use Rattle.dutch_weight_floors.specs.declared.scoped.Reach.TheVariants.{Bracket, Lower, Next}
@@ -172,48 +173,67 @@ pub numbers_known : (n : ℕ) → All (λ a. (0 < a) × (a ≤ n)) (numbers_from
 numbers_known n = each (λ a. (0 < a) × (a ≤ n)) (numbers_from 1 n) (numbers_within 0 1 n n (omega arith) (omega arith))
 
 -- a floor that adds nothing for whoever is left over is one of a bracket, if all that it says of known pairs holds
-kept_put : (w : Weighed) (scope : Scope) (order : Order) (floor : FloorTable)
+kept_put : (w : Weighed) (scope : Scope) (order : Order) (reach : Reach) (table : CertificateTable) (floor : FloorTable)
     → ((b : Beginning) (a : Arrangement) → IsChoosable w a → Begins b a → Covers scope b
     → floor.base + sum_by (slack_in floor) (number_pairs (fixed_lists b)) ≤ floor.debt + (weight_in w a + added_in order a))
-    → IsWeightFloor w (record { scope = scope; order = order; floor = without_left floor })
-kept_put w scope order floor bound = λ b a is_one begins covers.
+    → IsWeightFloor w (record { scope = scope; order = order; reach = reach; table = table; floor = without_left floor })
+kept_put w scope order reach table floor bound = λ b a is_one begins covers.
     let adds_none : sum_by (slack_left_in (without_left floor)) (left_known b.filling w.reached.mdps b.lists.s1) ≡ 0 =
     sum_none (left_known b.filling w.reached.mdps b.lists.s1) in
     omega (arith, bound b a is_one begins covers, adds_none)
 
 -- what is kept of a floor by matchings of a scope is one of the bracket's weights
 put_by : (w : Weighed) → IsScaled w → (reach : Reach) → (reach ≡ Lower → is_penultimate w.reached.kind ≡ true) → MeasuresNext reach w.scale
-    → (scope : Scope) (order : Order) (floor : FloorTable)
-    → IsFloorBy reach (record { weighing = weighing_of w; scope = scope; wish = w.wish; reach = reach; order = order }) (length w.reached.seats - 2 * w.shape.pairs) floor
-    → IsWeightFloor w (record { scope = scope; order = order; floor = kept_by reach floor })
-put_by w scaled Bracket penultimate next scope order floor is = λ b a is_one begins covers.
+    → (scope : Scope) (order : Order) (table : CertificateTable) (floor : FloorTable)
+    → IsFloorBy reach (scoped_by w scope reach order) (length w.reached.seats - 2 * w.shape.pairs) floor
+    → IsWeightFloor w (record { scope = scope; order = order; reach = reach; table = table; floor = kept_by reach floor })
+put_by w scaled Bracket penultimate next scope order table floor is = λ b a is_one begins covers.
     weighs_more w.facts w.reached w.scale w.lower w.shape a is_one.of is_one.fits is_one.listed b begins scope covers w.wish is_one.wished order floor is
-put_by w scaled Lower penultimate next scope order floor is =
-    let s : Scoped = record { weighing = weighing_of w; scope = scope; wish = w.wish; reach = Lower; order = order } in
+put_by w scaled Lower penultimate next scope order table floor is =
+    let s : Scoped = scoped_by w scope Lower order in
     let held = subst (λ (n : ℕ). IsFloor (costs_in s) (all_numbers s) (n % 2) floor) (length-numbers 1 (length w.reached.seats + length w.lower)) is in
-    kept_put w scope order floor (λ b a is_one begins covers.
+    kept_put w scope order Lower table floor (λ b a is_one begins covers.
     let can : completable w.facts (downfloaters w.facts w.reached a ++ w.lower) ≡ true =
     subst (λ t. (not t || completable w.facts (downfloaters w.facts w.reached a ++ w.lower)) ≡ true) (penultimate refl) is_one.can in
     weighs_more_below w.facts w.reached w.scale w.lower scope w.wish order w.shape a is_one.of is_one.fits is_one.listed b begins covers is_one.wished can floor held)
-put_by w scaled Next penultimate next scope order floor is =
-    kept_put w scope order floor (λ b a is_one begins covers.
+put_by w scaled Next penultimate next scope order table floor is =
+    kept_put w scope order Next table floor (λ b a is_one begins covers.
     weighs_more_next w.facts w.reached w.scale w.lower scope w.wish order w.shape a is_one.fits is_one.listed is_one.wished b begins covers next scaled floor is)
 
 -- the same where the scope that is kept is a copy
-pub floor_put : (w : Weighed) → IsScaled w → (reach : Reach) → (reach ≡ Lower → is_penultimate w.reached.kind ≡ true) → MeasuresNext reach w.scale
-    → (kept : ScopedFloor) (s : Scoped) (left : ℕ) (floor : FloorTable)
-    → s ≡ record { weighing = weighing_of w; scope = kept.scope; wish = w.wish; reach = reach; order = kept.order }
-    → left ≡ length w.reached.seats - 2 * w.shape.pairs → kept.floor ≡ kept_by reach floor → IsFloorBy s.reach s left floor → IsWeightFloor w kept
-floor_put w scaled reach penultimate next kept s left floor scoped count kept_is is =
-    let here : Scoped = record { weighing = weighing_of w; scope = kept.scope; wish = w.wish; reach = reach; order = kept.order } in
-    let held = subst (λ (n : ℕ). IsFloorBy reach here n floor) count (subst (λ (s : Scoped). IsFloorBy s.reach s left floor) scoped is) in
-    subst (λ (f : FloorTable). IsWeightFloor w (record { scope = kept.scope; order = kept.order; floor = f })) (sym kept_is)
-    (put_by w scaled reach penultimate next kept.scope kept.order floor held)
+pub floor_put : (w : Weighed) → IsScaled w → (kept : ScopedFloor) → (kept.reach ≡ Lower → is_penultimate w.reached.kind ≡ true)
+    → MeasuresNext kept.reach w.scale → (s : Scoped) (floor : FloorTable) → s ≡ scoped_by w kept.scope kept.reach kept.order
+    → kept.floor ≡ kept_by kept.reach floor → IsFloorFor w s (certificate_in kept.table) floor → IsWeightFloor w kept
+floor_put w scaled kept penultimate next s floor scoped kept_is is =
+    let held = subst (λ (s : Scoped). IsFloorBy s.reach s (length w.reached.seats - 2 * w.shape.pairs) floor) scoped is.least in
+    subst (λ (f : FloorTable).
+    IsWeightFloor w (record { scope = kept.scope; order = kept.order; reach = kept.reach; table = kept.table; floor = f })) (sym kept_is)
+    (put_by w scaled kept.reach penultimate next kept.scope kept.order kept.table floor held)
+
+-- what is kept of a floor tells the slack of each pair as the floor does
+kept_checked : (costs : Costs) (players : List ℕ) (certificate : Certificate) (reach : Reach) (floor : FloorTable)
+    → IsChecked costs players certificate floor → IsChecked costs players certificate (kept_by reach floor)
+kept_checked costs players certificate Bracket floor is = is
+kept_checked costs players certificate Lower floor is = record { pairs = is.pairs; below = is.below; tells = is.tells }
+kept_checked costs players certificate Next floor is = record { pairs = is.pairs; below = is.below; tells = is.tells }
+
+pub checked_put : (w : Weighed) (kept : ScopedFloor) (s : Scoped) (floor : FloorTable) → s ≡ scoped_by w kept.scope kept.reach kept.order
+    → kept.floor ≡ kept_by kept.reach floor → IsFloorFor w s (certificate_in kept.table) floor → IsCheckedIn w kept
+checked_put w kept s floor scoped kept_is is =
+    let here : Scoped = scoped_by w kept.scope kept.reach kept.order in
+    let held = subst (λ (s : Scoped). IsCheckedFor s (certificate_in kept.table) floor) scoped is.checked in
+    record {
+      pairs = subst (λ (f : FloorTable). IsCheckedFor here (certificate_in kept.table) f) (sym kept_is)
+          (kept_checked (costs_in here) (all_numbers here) (certificate_in kept.table) kept.reach floor held);
+    }
 
 -- floors with one more are floors, where it is one
 pub one_more : (v w : Weighed) (old new : List ScopedFloor) (floor : ScopedFloor) → v ≡ w → AreFloors v old
-    → ((u : Weighed) → All (IsWeightFloor u) old → IsWeightFloor u floor → All (IsWeightFloor u) new) → IsWeightFloor w floor → AreFloors v new
-one_more v w old new floor same held keeps is = record {
+    → ((u : Weighed) → All (IsWeightFloor u) old → IsWeightFloor u floor → All (IsWeightFloor u) new)
+    → ((u : Weighed) → All (IsCheckedIn u) old → IsCheckedIn u floor → All (IsCheckedIn u) new)
+    → IsWeightFloor w floor → IsCheckedIn w floor → AreFloors v new
+one_more v w old new floor same held holds checks is is_checked = record {
   scaled = held.scaled;
-  hold = keeps v held.hold (subst (λ (u : Weighed). IsWeightFloor u floor) (sym same) is);
+  hold = holds v held.hold (subst (λ (u : Weighed). IsWeightFloor u floor) (sym same) is);
+  checked = checks v held.checked (subst (λ (u : Weighed). IsCheckedIn u floor) (sym same) is_checked);
 }

@@ -36,3 +36,7 @@ kept order barred x = order.unit * x + (if is_member x barred then 0 else more_o
 -- by how much one of the others, who is known to be in S1R, has less than the most
 abbrev pub short_of : Order → ℕ → List ℕ → ℕ → ℕ
 short_of order top held x = if is_member x held then top - more_of order x else 0
+
+-- nobody adds anything
+abbrev pub AddsNothing : Order → Type 0
+AddsNothing order = (x : ℕ) → added_for order x ≡ 0

@@ -1,16 +1,16 @@
 -- What pairs and downfloaters weigh in the arrangements of a bracket that a floor is for (C.04.3 B.3, B.6, B.7), also where those who go down
 -- are paired out with all lower players (C.4), or meet the next lower scoregroup (C.7). Where something is wished, the bracket's pairs and
 -- those left over fit it. What bounds the choice by beginnings stands on these; a reader of its promise may pass them by.
-use Rattle.std.specs.Prelude.{◌≡◌, ℕ, ◌+◌, ◌-◌, ◌^◌, ◌%◌, ◌<◌, ◌≤◌, [], length, min, Bool, true, ◌&&◌, ◌||◌, not, ◌==◌, if◌then◌else◌, nat_lt, nat_le, List, ◌++◌, slice_index_or, is_some, Option}
-use Rattle.dual.specs.Prelude.{FloorTable, IsFloor, Costs}
+use Rattle.std.specs.Prelude.{◌≡◌, ℕ, ◌+◌, ◌-◌, ◌^◌, ◌%◌, ◌<◌, ◌≤◌, [], length, min, Bool, true, false, ◌&&◌, ◌||◌, not, ◌==◌, if◌then◌else◌, nat_lt, nat_le, List, ◌++◌, slice_index_or, is_some, Option}
+use Rattle.dual.specs.Prelude.{FloorTable, IsFloor, Costs, is_marked}
 use Rattle.dutch_arrangements.specs.Prelude.{numbers_from}
 use Rattle.dutch_player.specs.Prelude.{may_meet}
 use Rattle.dutch_weight_floors.specs.declared.scoped.Reach.{Reach}
 use Rattle.dutch_weight_floors.specs.declared.scoped.Reach.TheVariants.{Bracket, Lower, Next}
 use Rattle.dutch_candidates.specs.declared.wish.Wish.{Wish}
 use Rattle.dutch_weight_floors.specs.declared.scope.Standing.{Standing}
-use Rattle.dutch_weight_floors.specs.Orders.{Order, with_lesser}
-use Rattle.dutch_weight_floors.specs.Scopes.{Scope, is_joined, may_stay, standing_of}
+use Rattle.dutch_weight_floors.specs.Orders.{AddsNothing, Order, with_lesser}
+use Rattle.dutch_weight_floors.specs.Scopes.{Scope, is_joined, is_within, may_stay, standing_of}
 use Rattle.dutch_bracket.specs.Prelude.{seat_of, seats_meet, seats_may_be_left, count_below, seat_below}
 use Rattle.dutch_candidates.specs.Wishes.{fits_as_left, fits_as_pair}
 use Rattle.dutch_weighing.specs.Prelude.{Scale, Weighing, weighing, alone_weight, met_weight}
@@ -163,6 +163,27 @@ MeasuresNext Next scale = is_some scale.next ≡ true
 -- a table tells where each of the first numbers stands
 abbrev pub TellsSides : ℕ → Scope → List Standing → Type 0
 TellsSides mdps scope sides = (a : ℕ) (d : Standing) → 0 < a → a ≤ length sides → slice_index_or sides (a - 1) d ≡ standing_of mdps scope a
+
+-- ---- the costs of one scope beside those of another
+
+-- two have the same weights, wish and players, and add nothing to pairs: so they differ by their scopes alone
+pub record DifferByScope (before : Scoped) (now : Scoped) : Type 0 where
+  pub weighing : now.weighing ≡ before.weighing
+  pub wish : now.wish ≡ before.wish
+  pub reach : now.reach ≡ before.reach
+  pub nothing_before : AddsNothing before.order
+  pub nothing_now : AddsNothing now.order
+
+-- one who stood so before stands so now that no pair with him is new, and none weighs another thing: he stands within that. Where a pair of the
+-- bracket may be paired out too, and weighs the lesser of both (`least_of`), he stands as before
+abbrev pub KeepsPairs : Reach → Standing → Standing → Type 0
+KeepsPairs Bracket before now = is_within before now ≡ true
+KeepsPairs Lower before now = now ≡ before
+KeepsPairs Next before now = is_within before now ≡ true
+
+-- who has no mark keeps his pairs
+abbrev pub MarkTurned : List Bool → Scoped → Scoped → Type 0
+MarkTurned turned before now = (a : ℕ) → is_marked turned a ≡ false → KeepsPairs now.reach (side_in before a) (side_in now a)
 
 -- ---- floors of the matchings
 

@@ -62,3 +62,15 @@ may_stay Any = true
 may_stay Outside = true
 may_stay Resident = true
 may_stay OtherResident = true
+
+-- one who stood so before stands within that now: anywhere, if he stood anywhere; in S1R or outside of it, if he was a resident; else as before
+abbrev pub is_within : Standing → Standing → Bool
+is_within Any now = true
+is_within Outside Outside = true
+is_within First First = true
+is_within Resident Resident = true
+is_within Resident FirstResident = true
+is_within Resident OtherResident = true
+is_within FirstResident FirstResident = true
+is_within OtherResident OtherResident = true
+is_within before now = false

@@ -1,8 +1,9 @@
 -- What floors by weight say behind a beginning (C.04.3 C.6 to C.19), and from which weight on nothing is better than a quality. What
 -- bounds the choice by beginnings stands on these; a reader of its promise may pass them by.
-use Rattle.std.specs.Prelude.{◌≡◌, ℕ, zero, suc, ◌+◌, ◌≤◌, ◌==◌, true, false, Bool, if◌then◌else◌, List, [], ◌∷◌, All, drop, sum_by, Option, Some, None}
+use Rattle.std.specs.Prelude.{◌≡◌, ℕ, zero, suc, ◌+◌, ◌-◌, ◌*◌, ◌≤◌, ◌==◌, true, false, Bool, if◌then◌else◌, List, [], ◌∷◌, All, drop, length, sum_by, Option, Some, None}
 use Rattle.std.specs.Option.{ForSome}
-use Rattle.dual.specs.Prelude.{FloorTable, slack_in, slack_left_in}
+use Rattle.dual.specs.declared.table.CertificateTable.{CertificateTable}
+use Rattle.dual.specs.Prelude.{Certificate, FloorTable, IsChecked, certificate_in, slack_in, slack_left_in}
 use Rattle.dutch_arrangements.specs.declared.bracket.Shape.{Shape}
 use Rattle.dutch_arrangements.specs.declared.prefix.Filling.{Filling}
 use Rattle.dutch_arrangements.specs.declared.prefix.Filling.TheVariants.{ChoosingS1, S2, S2r}
@@ -14,6 +15,8 @@ use Rattle.dutch_candidates.specs.Wishes.{is_wished}
 use Rattle.dutch_weight_floors.specs.Scopes.{Covers, Scope}
 use Rattle.dutch_weighing.specs.Prelude.{HasNoBetterOn, IsOn, IsScale, IsScaleFor, IsScaleHere, Scale, Weighing, weight_above, weight_of}
 use Rattle.dutch_weight_floors.specs.Orders.{Order, added_for}
+use Rattle.dutch_weight_floors.specs.ScopedCosts.{IsFloorBy, Scoped, all_numbers, costs_in}
+use Rattle.dutch_weight_floors.specs.declared.scoped.Reach.{Reach}
 use Rattle.dutch_weight_floors.specs.declared.weight_floor.Bar.{Bar}
 
 -- a bracket of a field above lower seats, a shape of its arrangements, what is wished of them, and a scale [with AreOf]
@@ -29,10 +32,13 @@ pub record Weighed : Type 0 where
 abbrev pub weighed_for : Weighing → Shape → Option Wish → Weighed
 weighed_for w shape wish = record { facts = w.facts; reached = w.reached; lower = w.lower; shape = shape; wish = wish; scale = w.scale }
 
--- a floor, which arrangements it is for, and what the members of their S1R add to it [own]
+-- a floor, which arrangements it is for, and what the members of their S1R add to it; the certificate that it is, and over whom its matchings
+-- go [own]
 pub record ScopedFloor : Type 0 where
   pub scope : Scope
   pub order : Order
+  pub reach : Reach
+  pub table : CertificateTable
   pub floor : FloorTable
 
 -- a list begins with a number
@@ -60,6 +66,10 @@ bound_behind floor mdps b =
 -- a bracket of a field, and the scale on which its pairs and its downfloaters are weighed
 abbrev pub weighing_of : Weighed → Weighing
 weighing_of weighed = record { facts = weighed.facts; reached = weighed.reached; lower = weighed.lower; scale = weighed.scale }
+
+-- the arrangements of a scope that grant what is wished, with what an order adds, and over whom their matchings go
+abbrev pub scoped_by : Weighed → Scope → Reach → Order → Scoped
+scoped_by w scope reach order = record { weighing = weighing_of w; scope = scope; wish = w.wish; reach = reach; order = order }
 
 -- what a candidate weighs
 abbrev pub weight_in : Weighed → Arrangement → ℕ
@@ -92,10 +102,24 @@ IsMostAdded order b most = (a : Arrangement) → Begins b a → added_in order a
 abbrev pub IsScaled : Weighed → Type 0
 IsScaled w = IsScaleFor w.facts w.reached w.lower w.shape w.scale
 
+-- a certificate was checked pair by pair for the costs of a scope, and a floor tells the slacks
+abbrev pub IsCheckedFor : Scoped → Certificate → FloorTable → Type 0
+IsCheckedFor scoped = IsChecked (costs_in scoped) (all_numbers scoped)
+
+-- the certificate of a kept floor was checked pair by pair for the costs of its scope: so another one can be checked beside it
+pub record IsCheckedIn (w : Weighed) (kept : ScopedFloor) : Type 0 where
+  pub pairs : IsCheckedFor (scoped_by w kept.scope kept.reach kept.order) (certificate_in kept.table) kept.floor
+
+-- a certificate was checked pair by pair, and gives this floor of the matchings of a scope that leave over as many as the shape does
+pub record IsFloorFor (w : Weighed) (scoped : Scoped) (certificate : Certificate) (floor : FloorTable) : Type 0 where
+  pub least : IsFloorBy scoped.reach scoped (length w.reached.seats - 2 * w.shape.pairs) floor
+  pub checked : IsCheckedFor scoped certificate floor
+
 -- floors of a bracket and a shape, on a scale for it
 pub record AreFloors (weighed : Weighed) (floors : List ScopedFloor) : Type 0 where
   pub scaled : IsScaled weighed
   pub hold : All (IsWeightFloor weighed) floors
+  pub checked : All (IsCheckedIn weighed) floors
 
 -- of some arrangements no candidate weighs less that can be chosen and grants what is wished, on a scale for them [with IsLeast]
 pub record IsLeastOf (Among : Arrangement → Type 0) (weighed : Weighed) (least : ℕ) : Type 0 where

@@ -21,6 +21,18 @@ fn greatest(potentials: &[Wide]) -> Wide {
     most
 }
 
+/// What each vertex has more in the table than in the certificate: so much that what is given there is the same for all
+/// certificates of a bracket, as far as it can be.
+fn more_for(graph: &UnpairedGraph<'_, '_>, certificate: &CertificateTable) -> Wide {
+    match graph.never().times(4) {
+        Some(all) => match all.minus(certificate.given_left) {
+            Some(more) => more,
+            None => greatest(&certificate.potentials),
+        },
+        None => greatest(&certificate.potentials),
+    }
+}
+
 /// A mark for each number up to the last one, by those of the vertices.
 fn marks(
     alloc: Global,
@@ -68,7 +80,7 @@ fn potentials(
 ) -> Result<Vec<Wide>, AllocError>
     requires { last < 65536 }
 {
-    let more = greatest(&certificate.potentials);
+    let more = more_for(graph, certificate);
     let mut all = vec![in alloc; Wide::zero(); last + 1]?;
     for (number, potential) in graph.numbers().iter().zip(certificate.potentials.iter()) {
         let number = usize::from(*number);
@@ -99,7 +111,7 @@ pub(crate) fn table_of(
 ) -> Result<Option<CertificateTable>, AllocError>
     requires { last < 65536 }
 {
-    let more = greatest(&certificate.potentials);
+    let more = more_for(graph, certificate);
     let Some(given) = given_to_pair(certificate, more) else {
         return Ok(None);
     };

@@ -7,11 +7,12 @@
 #![tactic(auto)]
 
 mod alike;
-mod ask_schedule;
 pub mod asking;
 mod certificate_table;
 mod order;
 pub mod scope;
 pub mod scoped;
+mod traces;
 pub mod unpaired_graph;
 pub mod weight_floor;
+mod witness;

@@ -7,7 +7,7 @@ ghost use Rattle.std.specs.Prelude.{◌≡◌, ◌<◌, ◌≤◌, IfSome, true}
 ghost use Rattle.dutch_arrangements.specs.declared.prefix.Filling.TheVariants.{S2r};
 ghost use Rattle.dutch_bracket.specs.Beginnings.{has_s1};
 ghost use Rattle.dutch_arrangements.specs.Prelude.{is_member};
-ghost use Rattle.dutch_weight_floors.specs.Scopes.{Covers, is_joined, may_stay, moved_down_standing, resident_standing};
+ghost use Rattle.dutch_weight_floors.specs.Scopes.{Covers, is_joined, is_within, may_stay, moved_down_standing, resident_standing};
 ghost use Rattle.dutch_weight_floors.specs.Scopes.{standing_of};
 
 use dutch_arrangements::{Filling, Numbers, Prefix};
@@ -48,6 +48,17 @@ impl Standing {
             (Standing::FirstResident, Standing::OtherResident) => true,
             (Standing::OtherResident, Standing::FirstResident) => true,
             _ => false,
+        }
+    }
+
+    /// Yes if one who stands so now may be in fewer pairs than before, or in the same.
+    pub(crate) fn is_within(self, before: Standing) -> bool
+        ensures { result ≡ is_within before self }
+    {
+        match (before, self) {
+            (Standing::Any, _) => true,
+            (Standing::Resident, Standing::FirstResident | Standing::OtherResident) => true,
+            _ => self == before,
         }
     }
 

@@ -11,16 +11,19 @@
 // the wish. So the floor is for candidates that grant it.
 ghost use Rattle.std.specs.Prelude.{◌≡◌, ◌+◌, ◌<◌, ◌≤◌, ◌^◌, true, All, IfOk, IfSome, length, min, slice_index};
 ghost use Rattle.std.specs.Prelude.{if◌then◌else◌, nat_lt};
+ghost use Rattle.dual.specs.Prelude.{AreAsBefore, IsChecked, certificate_in};
 ghost use Rattle.dutch_sequence.specs.declared.numbers.TheConstants.{LIMIT};
 ghost use Rattle.dutch_weight_floors.specs.declared.scoped.Reach.TheVariants.{Next};
 ghost use Rattle.dutch_weight_floors.specs.ScopedCosts as scoped;
+ghost use Rattle.dutch_weight_floors.specs.Orders.{AddsNothing};
 ghost use Rattle.dutch_weight_floors.specs.Scopes.{is_joined, may_stay};
 ghost use Rattle.dutch_weighing.specs.Prelude.{IsNumber};
 
 use crate::order::Order;
 use crate::scope::{Scope, Standing};
+use crate::weight_floor::ScopedFloor;
 use arrayvec::ArrayVec;
-use dual::{CertificateTable, Floor, MatchingRule, Pool, Wide};
+use dual::{Before, CertificateTable, Floor, MatchingRule, Pool, Remade, Wide};
 use dutch_arrangements::{LIMIT, Numbers, numbered_from};
 use dutch_bracket::context::Context;
 use dutch_candidates::wish::{Wish, fits_as_left, fits_as_pair};
@@ -50,6 +53,18 @@ impl Reach {
         match self {
             Reach::Bracket => floor,
             Reach::Lower | Reach::Next => floor.without_left(),
+        }
+    }
+
+    /// A yes means that one who stood so before, and stands so now, has no pair that is new, or that weighs another
+    /// thing. Where a pair of the bracket may be paired out too, it weighs the lesser of both: so it may weigh more
+    /// where it may be no pair of the bracket any longer.
+    fn keeps_pairs(self, before: Standing, now: Standing) -> bool
+        ensures { result ≡ true → scoped.KeepsPairs self before now }
+    {
+        match self {
+            Reach::Bracket | Reach::Next => now.is_within(before),
+            Reach::Lower => now == before,
         }
     }
 }
@@ -165,6 +180,21 @@ impl<'a, 'b> Scoped<'a, 'b> {
         self.weighing
     }
 
+    /// Over whom its matchings go.
+    pub(crate) fn reach(&self) -> Reach
+        ensures value { result ≡ self.now.reach }
+        ensures next { scoped.MeasuresNext result self.now.weighing.scale }
+    {
+        self.reach
+    }
+
+    /// A yes says that the order adds nothing to any pair. A no says nothing.
+    pub(crate) fn adds_nothing(&self) -> bool
+        ensures { result ≡ true → AddsNothing self.now.order }
+    {
+        self.order.is_none()
+    }
+
     /// How many players its matchings go over.
     pub(crate) fn size(&self) -> usize
         ensures value { result ≡ scoped.size_by self.now.reach self.now.weighing }
@@ -196,7 +226,9 @@ impl<'a, 'b> Scoped<'a, 'b> {
         left: usize,
     ) -> Result<Option<Floor>, AllocError>
         requires { left ≤ length self.now.weighing.reached.seats }
-        ensures { IfOk result (λ found. IfSome found (scoped.IsFloorBy self.now.reach self.now left)) }
+        ensures floor { IfOk result (λ found. IfSome found (scoped.IsFloorBy self.now.reach self.now left)) }
+        ensures checked { IfOk result (λ found. IfSome found
+            (IsChecked (scoped.costs_in self.now) (scoped.all_numbers self.now) (certificate_in table.now))) }
     {
         let alloc = self.weighing.context().alloc();
         let players = self.players();
@@ -208,6 +240,60 @@ impl<'a, 'b> Scoped<'a, 'b> {
             Reach::Bracket => table.floor(alloc, &pool, left),
             Reach::Lower => table.floor(alloc, &pool, players.len() % 2),
             Reach::Next => table.floor_for_any(alloc, &pool),
+        }
+    }
+
+    /// A mark for each number of whom a pair may be new, or may weigh another thing than it did.
+    fn turned(&self, before: &Scoped<'_, '_>) -> Result<Vec<bool>, AllocError>
+        requires { scoped.DifferByScope before.now self.now }
+        ensures { IfOk result (λ turned. AreAsBefore turned.items (scoped.costs_in before.now) (scoped.costs_in self.now)) }
+    {
+        let count = self.size() + 1;
+        let mut turned = Vec::with_capacity(self.weighing.context().alloc(), count)?;
+        for place in 0..count {
+            let number = place as u16;
+            let keeps_pairs = self
+                .reach
+                .keeps_pairs(before.standing(number), self.standing(number));
+            turned.push(!keeps_pairs)?;
+        }
+        Ok(turned)
+    }
+
+    /// The floor that a certificate gives, as by `floor`, where one was checked before for another scope: only pairs of
+    /// players who stand otherwise, or of whom the certificates differ, are asked about.
+    pub(crate) fn floor_again(
+        &self,
+        table: &CertificateTable,
+        left: usize,
+        was: &Scoped<'_, '_>,
+        kept: &ScopedFloor,
+    ) -> Result<Option<Remade>, AllocError>
+        requires some { left ≤ length self.now.weighing.reached.seats }
+        requires scopes { scoped.DifferByScope was.now self.now }
+        requires before { IsChecked (scoped.costs_in was.now) (scoped.all_numbers was.now) (certificate_in kept.now.table) kept.now.floor }
+        ensures floor { IfOk result (λ found. IfSome found (λ remade.
+            scoped.IsFloorBy self.now.reach self.now left remade.floor)) }
+        ensures checked { IfOk result (λ found. IfSome found (λ remade.
+            IsChecked (scoped.costs_in self.now) (scoped.all_numbers self.now) (certificate_in table.now) remade.floor)) }
+    {
+        let alloc = self.weighing.context().alloc();
+        let players = self.players();
+        let turned = self.turned(was)?;
+        let pool = Pool {
+            rule: self,
+            players: &players,
+        };
+        let before = Before {
+            rule: was,
+            table: &kept.table,
+            floor: &kept.floor,
+            turned: &turned,
+        };
+        match self.reach {
+            Reach::Bracket => table.floor_again(alloc, &pool, left, &before),
+            Reach::Lower => table.floor_again(alloc, &pool, players.len() % 2, &before),
+            Reach::Next => table.floor_for_any_again(alloc, &pool, &before),
         }
     }
 

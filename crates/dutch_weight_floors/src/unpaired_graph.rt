@@ -101,6 +101,16 @@ impl<'a, 'b> UnpairedGraph<'a, 'b> {
         &self.numbers
     }
 
+    /// Where a number stands.
+    pub(crate) fn standing(&self, number: u16) -> Standing {
+        self.scoped.standing(number)
+    }
+
+    /// What is more than what it costs to leave anybody over.
+    pub(crate) fn never(&self) -> Wide {
+        self.left_over.never
+    }
+
     pub(crate) fn may_pair(&self, a: u16, b: u16) -> bool {
         self.scoped.may_pair(a, b)
     }
@@ -138,7 +148,7 @@ impl<'a, 'b> Costs for UnpairedGraph<'a, 'b> {
             return Some(self.left_over.never);
         }
         if !self.scoped.may_be_left(a) {
-            return None;
+            return Some(self.left_over.never);
         }
         self.scoped.left_cost(a).halved().plus(self.left_over.cost)
     }

@@ -4,24 +4,27 @@
 ghost use Rattle.std.specs.Prelude.{◌≡◌, ◌+◌, ◌-◌, ◌*◌, ◌<◌, ◌≤◌, ◌↔◌, All, IfOk, IfSome, IsTrue, is_some, true};
 ghost use Rattle.std.specs.Prelude.{drop, length, sum_by, if◌then◌else◌};
 ghost use Rattle.std.specs.List.{zip};
-ghost use Rattle.dual.specs.Prelude.{slack_in, slack_left_in};
+ghost use Rattle.dual.specs.Prelude.{certificate_in, slack_in, slack_left_in};
 ghost use Rattle.dutch_sequence.specs.declared.numbers.TheConstants.{LIMIT};
 ghost use Rattle.dutch_weight_floors.specs.declared.scoped.Reach.TheVariants.{Lower};
+ghost use Rattle.dutch_weight_floors.specs.Orders.{AddsNothing};
 ghost use Rattle.dutch_weight_floors.specs.ScopedCosts.{MeasuresNext};
 ghost use Rattle.dutch_bracket.specs.Prelude.{one_if, quality_in, is_penultimate};
 ghost use Rattle.dutch_weighing.specs.Prelude.{IsScaleFor, IsScaleHere};
-ghost use Rattle.dutch_weight_floors.specs.WeightFloors.{IsMostAdded, IsWeightFloor, Weighed, bound_behind, is_first};
-ghost use Rattle.dutch_weight_floors.specs.WeightFloors.{left_known, passed_over, weighed_for};
+ghost use Rattle.dutch_weight_floors.specs.WeightFloors.{IsCheckedIn, IsFloorFor, IsMostAdded, IsScaled, IsWeightFloor, Weighed, bound_behind};
+ghost use Rattle.dutch_weight_floors.specs.WeightFloors.{is_first, left_known, passed_over, scoped_by, weighed_for, weighing_of};
 
 use crate::alike::Alike;
-use crate::ask_schedule::AskSchedule;
 use crate::order::{Halves, Order};
 use crate::scope::Scope;
 use crate::scoped::{Reach, Scoped, Sought};
-use dual::{CertificateTable, Floor, Wide};
+use crate::traces::Traces;
+use crate::witness::Witness;
+use dual::{CertificateTable, Floor, Remade, Wide};
 use dutch_arrangements::{Exchange, Filling, LIMIT, Prefix, Shape};
 use dutch_bracket::context::Context;
 use dutch_bracket::quality::Quality;
+use dutch_bracket::seated::Pair;
 use dutch_bracket::tuning::{FLOORS_KEPT, MOST_REACHED, most_bits};
 use dutch_candidates::fixed_lists::fixed_lists;
 use dutch_candidates::wish::Wish;
@@ -41,6 +44,10 @@ pub struct Bar {
 pub(crate) struct ScopedFloor {
     pub scope: Scope,
     pub(crate) order: Order,
+    // over whom the matchings of the floor go
+    pub(crate) reach: Reach,
+    // the certificate
+    pub(crate) table: CertificateTable,
     pub(crate) floor: Floor,
 }
 
@@ -49,7 +56,20 @@ impl Model for ScopedFloor {
 
     ghost Value = { ScopedFloor };
 
-    ghost view = { λ f. record { scope = f.scope; order = f.order; floor = f.floor } };
+    ghost view = { λ f. record {
+      scope = f.scope;
+      order = f.order;
+      reach = f.reach;
+      table = f.table;
+      floor = f.floor;
+    } };
+}
+
+/// A floor to be kept, and how many ordered pairs were asked about for it.
+#[derive(Drop)]
+struct Checked {
+    kept: ScopedFloor,
+    looks: u64,
 }
 
 /// Floors of a bracket and a shape by weight, for the candidates that grant what is wished.
@@ -60,7 +80,10 @@ pub struct WeightFloors<'a> {
     pub(crate) shape: Shape,
     pub(crate) wish: Option<Wish>,
     pub(crate) floors: Vec<ScopedFloor>,
-    pub(crate) schedule: AskSchedule,
+    pub(crate) traces: Traces,
+    pub(crate) witness: Witness,
+    // behind which pairs of S1 and S2 the order of S1R was asked for last, if it was
+    pub(crate) ordered: Option<Vec<Pair>>,
 }
 
 impl<'a> Model for WeightFloors<'a> {
@@ -164,11 +187,21 @@ impl ScopedFloor {
             Filling::S2r => self.order.of(prefix.s1r()),
         }
     }
+
+    /// A yes says that another certificate can be checked beside this one, in a scope where nothing is added: nothing is
+    /// added here either, and the matchings go over the same players.
+    fn can_be_beside(&self, reach: Reach) -> bool
+        ensures nothing { result ≡ true → AddsNothing self.now.order }
+        ensures reach { result ≡ true → self.now.reach ≡ reach }
+    {
+        self.order.is_none() && self.reach == reach
+    }
 }
 
 /// Drops the floor that counts an order, if there is one.
 fn drop_ordered(floors: &mut Vec<ScopedFloor>)
-    ensures { (w : Weighed) → All (IsWeightFloor w) floors.old.items → All (IsWeightFloor w) floors.new.items }
+    ensures hold { (w : Weighed) → All (IsWeightFloor w) floors.old.items → All (IsWeightFloor w) floors.new.items }
+    ensures checked { (w : Weighed) → All (IsCheckedIn w) floors.old.items → All (IsCheckedIn w) floors.new.items }
 {
     let Some(place) = floors.iter().position(|kept| !kept.order.is_none()) else {
         return;
@@ -178,7 +211,8 @@ fn drop_ordered(floors: &mut Vec<ScopedFloor>)
 
 /// If there is no room for one more, drops the oldest floor that counts no order, but never the first floor.
 fn drop_oldest(floors: &mut Vec<ScopedFloor>)
-    ensures { (w : Weighed) → All (IsWeightFloor w) floors.old.items → All (IsWeightFloor w) floors.new.items }
+    ensures hold { (w : Weighed) → All (IsWeightFloor w) floors.old.items → All (IsWeightFloor w) floors.new.items }
+    ensures checked { (w : Weighed) → All (IsCheckedIn w) floors.old.items → All (IsCheckedIn w) floors.new.items }
 {
     if floors.len() < FLOORS_KEPT {
         return;
@@ -189,7 +223,8 @@ fn drop_oldest(floors: &mut Vec<ScopedFloor>)
 
 /// Makes room for a floor that counts an order, or for one that counts none.
 fn make_room(floors: &mut Vec<ScopedFloor>, counts_order: bool)
-    ensures { (w : Weighed) → All (IsWeightFloor w) floors.old.items → All (IsWeightFloor w) floors.new.items }
+    ensures hold { (w : Weighed) → All (IsWeightFloor w) floors.old.items → All (IsWeightFloor w) floors.new.items }
+    ensures checked { (w : Weighed) → All (IsCheckedIn w) floors.old.items → All (IsCheckedIn w) floors.new.items }
 {
     if counts_order {
         drop_ordered(floors);
@@ -199,15 +234,41 @@ fn make_room(floors: &mut Vec<ScopedFloor>, counts_order: bool)
 
 /// Keeps one floor more, in place of another one if there is no room, or if both count an order.
 fn keep(floors: &mut Vec<ScopedFloor>, floor: ScopedFloor) -> Result<(), AllocError>
-    ensures { (w : Weighed) → All (IsWeightFloor w) floors.old.items → IsWeightFloor w floor
+    ensures hold { (w : Weighed) → All (IsWeightFloor w) floors.old.items → IsWeightFloor w floor
         → All (IsWeightFloor w) floors.new.items }
+    ensures checked { (w : Weighed) → All (IsCheckedIn w) floors.old.items → IsCheckedIn w floor
+        → All (IsCheckedIn w) floors.new.items }
 {
     make_room(floors, !floor.order.is_none());
     floors.push(floor)?;
     Ok(())
 }
 
+/// The last floor of those beside which a certificate can be checked where nothing is added.
+fn last_of(floors: &[ScopedFloor], reach: Reach) -> Option<&ScopedFloor>
+    ensures checked { IfSome result (λ kept. (w : Weighed) → All (IsCheckedIn w) floors.now → IsCheckedIn w kept.now) }
+    ensures nothing { IfSome result (λ kept. AddsNothing kept.now.order) }
+    ensures reach { IfSome result (λ kept. kept.now.reach ≡ reach) }
+{
+    let place = floors.iter().rposition(|kept| kept.can_be_beside(reach))?;
+    Some(&floors[place])
+}
+
 impl Bar {
+    /// What the quality weighs.
+    pub(crate) fn weight(&self) -> Wide {
+        self.weight
+    }
+
+    /// What the lighter of two qualities weighs.
+    pub(crate) fn lesser_weight(&self, other: Bar) -> Wide {
+        if other.weight.is_less(self.weight) {
+            other.weight
+        } else {
+            self.weight
+        }
+    }
+
     /// So much weight is no less than that of the quality.
     pub fn is_reached(&self, weight: Wide) -> bool
         ensures { IsTrue result ↔ (self.now.weight ≤ weight) }
@@ -282,7 +343,9 @@ impl<'a> WeightFloors<'a> {
             shape,
             wish,
             floors: Vec::new(alloc),
-            schedule: AskSchedule::new(alloc),
+            traces: Traces::none(alloc),
+            witness: Witness::none(alloc),
+            ordered: None,
         })
     }
 
@@ -317,19 +380,6 @@ impl<'a> WeightFloors<'a> {
         WeightFloors::read(context, shape, wish, scale_for(context, shape, next))
     }
 
-    /// How many steps a walk that has made so many still makes before a floor is asked for.
-    pub fn steps_before_asking(&self, made: u64) -> u64 {
-        self.schedule
-            .steps_before_asking(self.weighing.context().len(), made)
-    }
-
-    /// Notes that floors were asked for between two numbers of steps.
-    pub fn note(&mut self, from: u64, to: u64)
-        ensures { self.new ≡ self.old }
-    {
-        self.schedule.note(from, to);
-    }
-
     /// The players that the matchings go over: the next lower scoregroup too if C.7 is measured; in the penultimate
     /// bracket all lower players too (C.4), unless they are too many.
     pub(crate) fn reach(&self) -> Reach
@@ -361,7 +411,7 @@ impl<'a> WeightFloors<'a> {
     }
 
     /// How many players the matchings of the bracket alone leave over.
-    fn left_over_count(&self) -> usize
+    pub(crate) fn left_over_count(&self) -> usize
         ensures { result ≡ length self.now.reached.seats - 2 * self.now.shape.pairs }
     {
         self.weighing
@@ -371,45 +421,128 @@ impl<'a> WeightFloors<'a> {
             .saturating_sub(self.shape.pairs)
     }
 
-    /// Checks a certificate for the arrangements of a scope, with what an order adds. None says that it gives no floor.
-    fn check(
-        &self,
-        table: &CertificateTable,
-        scope: &Scope,
-        order: Order,
-    ) -> Result<Option<ScopedFloor>, AllocError>
-        ensures { IfOk result (λ found. IfSome found (IsWeightFloor self.now)) }
+    /// The floor that was kept last of those beside which one can be checked again where nothing is added.
+    fn last_beside(&self, reach: Reach) -> Option<&ScopedFloor>
+        ensures checked { IfSome result (λ kept. IsCheckedIn self.now kept.now) }
+        ensures nothing { IfSome result (λ kept. AddsNothing kept.now.order) }
+        ensures reach { IfSome result (λ kept. kept.now.reach ≡ reach) }
     {
-        let reach = self.reach();
+        last_of(&self.floors, reach)
+    }
+
+    /// What pairs and downfloaters weigh in the arrangements of a scope that grant the wish, with what an order adds.
+    fn scoped_by<'b>(&'b self, scope: &'b Scope, reach: Reach, order: &'b Order) -> Scoped<'a, 'b>
+        requires { MeasuresNext reach self.now.scale }
+        ensures value { result ≡ scoped_by self.now scope.now reach order.now }
+        ensures scaled { IsScaled self.now }
+    {
         let wish = self.wish;
-        let scoped = Scoped::new(&self.weighing, Sought { scope, wish }, reach, &order);
+        Scoped::new(&self.weighing, Sought { scope, wish }, reach, order)
+    }
+
+    /// The floor of a certificate, checked for all pairs.
+    fn floor_anew(
+        &self,
+        scoped: &Scoped<'_, '_>,
+        table: &CertificateTable,
+    ) -> Result<Option<Remade>, AllocError>
+        requires weighing { scoped.now.weighing ≡ weighing_of self.now }
+        ensures { IfOk result (λ found. IfSome found (λ remade.
+            IsFloorFor self.now scoped.now (certificate_in table.now) remade.floor)) }
+    {
         let Some(floor) = scoped.floor(table, self.left_over_count())? else {
             return Ok(None);
         };
-        let floor = reach.kept(floor);
-        let scope = scope.copied();
-        Ok(Some(ScopedFloor {
-            scope,
-            order,
+        let size = scoped.size() as u64;
+        Ok(Some(Remade {
             floor,
+            looks: size * size,
         }))
     }
 
-    /// Checks a certificate for the arrangements of a scope, with what an order adds, and keeps its floor in place of
-    /// another one if there is no room. A no says that it gives none.
-    pub(crate) fn put(
-        &mut self,
+    /// The floor of a certificate that is checked beside one that was kept.
+    fn floor_beside(
+        &self,
+        scoped: &Scoped<'_, '_>,
         table: &CertificateTable,
+        kept: &ScopedFloor,
+    ) -> Result<Option<Remade>, AllocError>
+        requires weighing { scoped.now.weighing ≡ weighing_of self.now }
+        requires wish { scoped.now.wish ≡ self.now.wish }
+        requires nothing { AddsNothing scoped.now.order }
+        requires before { IsCheckedIn self.now kept.now }
+        requires nothing_before { AddsNothing kept.now.order }
+        requires reach { kept.now.reach ≡ scoped.now.reach }
+        ensures { IfOk result (λ found. IfSome found (λ remade.
+            IsFloorFor self.now scoped.now (certificate_in table.now) remade.floor)) }
+    {
+        let was = self.scoped_by(&kept.scope, scoped.reach(), &kept.order);
+        scoped.floor_again(table, self.left_over_count(), &was, kept)
+    }
+
+    /// The floor of a certificate, checked beside the one that was kept last, if this can be, or else anew. It answers
+    /// also how many pairs were asked about; none says that the certificate gives no floor.
+    fn floor_of(
+        &self,
+        scoped: &Scoped<'_, '_>,
+        table: &CertificateTable,
+    ) -> Result<Option<Remade>, AllocError>
+        requires weighing { scoped.now.weighing ≡ weighing_of self.now }
+        requires wish { scoped.now.wish ≡ self.now.wish }
+        ensures { IfOk result (λ found. IfSome found (λ remade.
+            IsFloorFor self.now scoped.now (certificate_in table.now) remade.floor)) }
+    {
+        match self.last_beside(scoped.reach()) {
+            Some(kept) if scoped.adds_nothing() => self.floor_beside(scoped, table, kept),
+            _ => self.floor_anew(scoped, table),
+        }
+    }
+
+    /// Checks a certificate for the arrangements of a scope, with what an order adds. It answers the floor that is to be
+    /// kept; none says that the certificate gives no floor.
+    fn check(
+        &self,
+        table: CertificateTable,
         scope: &Scope,
         order: Order,
-    ) -> Result<bool, AllocError>
+    ) -> Result<Option<Checked>, AllocError>
+        ensures hold { IfOk result (λ found. IfSome found (λ checked. IsWeightFloor self.now checked.kept)) }
+        ensures checked { IfOk result (λ found. IfSome found (λ checked. IsCheckedIn self.now checked.kept)) }
+    {
+        let reach = self.reach();
+        let scoped = self.scoped_by(scope, reach, &order);
+        let Some(remade) = self.floor_of(&scoped, &table)? else {
+            return Ok(None);
+        };
+        let looks = remade.looks;
+        let floor = reach.kept(remade.floor);
+        let scope = scope.copied();
+        let kept = ScopedFloor {
+            scope,
+            order,
+            reach,
+            table,
+            floor,
+        };
+        Ok(Some(Checked { kept, looks }))
+    }
+
+    /// Checks a certificate for the arrangements of a scope, with what an order adds, and keeps its floor in place of
+    /// another one if there is no room. It answers how many pairs were asked about; none says that it gives no floor.
+    pub(crate) fn put(
+        &mut self,
+        table: CertificateTable,
+        scope: &Scope,
+        order: Order,
+    ) -> Result<Option<u64>, AllocError>
         ensures { self.new ≡ self.old }
     {
-        let Some(floor) = self.check(table, scope, order)? else {
-            return Ok(false);
+        let Some(checked) = self.check(table, scope, order)? else {
+            return Ok(None);
         };
-        keep(&mut self.floors, floor)?;
-        Ok(true)
+        let looks = checked.looks;
+        keep(&mut self.floors, checked.kept)?;
+        Ok(Some(looks))
     }
 
     /// The bar of a quality; none if the scale has not all its differences, or a weight does not fit.

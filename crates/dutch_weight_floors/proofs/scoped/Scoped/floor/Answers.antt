@@ -15,8 +15,8 @@ floor-requires-clause-some c =
     let count = length-numbers 1 (size_by s.reach s.weighing) ∙ ap (λ (r : Reach). size_by r s.weighing) reach in
     omega (arith, c.requires, ap length players, count)
 
-pub returns-in-Next : goal.returns-in-Next
-returns-in-Next c =
+pub returns-in-Next-clause-floor : goal.returns-in-Next-clause-floor
+returns-in-Next-clause-floor c =
     let s : Scoped = c.args.self.now in
     let reach : s.reach ≡ Next = ap (λ (v : Scoped). v.reach) (sym c.self.view_is) ∙ c.in-Next.is in
     let players : c.deref.result.now ≡ all_numbers s = c.deref.ensures.0 ∙ c.players-players.ensures.items in

@@ -1,17 +1,25 @@
--- The floor of a certificate is one of the bracket's weights in the scope.
-use Rattle.std.proofs.Common.{◌≡◌, sym, ap, subst, ◌∙◌}
-use Rattle.dutch_weight_floors.specs.Prelude.{Scope, IsScaled, ScopedFloor, weighing_of, Weighed}
-use Rattle.dutch_weight_floors.proofs.WeightsBehind.{floor_put}
+-- The floor of a certificate is one of the bracket's weights in the scope, and what is kept of it was checked.
+use Rattle.std.proofs.Common.{◌≡◌, sym, ap, ◌∙◌}
+use Rattle.dutch_weight_floors.specs.Prelude.{Scope, ScopedFloor, scoped_by}
+use Rattle.dutch_weight_floors.proofs.WeightsBehind.{checked_put, floor_put}
 use Rattle.dutch_weight_floors.proofs.weight_floor.WeightFloors.check.Goals as goal
 
 pub returns : goal.returns
 returns c =
     let w = c.args.self.now in
     let reach = c.reach-reach.result in
-    let kept : ScopedFloor = record { scope = c.copied-scope.result; order = c.args.order; floor = c.kept-floor.result } in
-    let scoped : c.new-scoped.result ≡ record { weighing = weighing_of w; scope = kept.scope; wish = w.wish; reach = reach; order = kept.order } =
-    c.new-scoped.ensures
-    ∙ ap (λ (v : Weighed). record { weighing = weighing_of v; scope = c.args.scope.now; wish = v.wish; reach = reach; order = c.args.order }) c.self.view_is
-    ∙ ap (λ (s : Scope). record { weighing = weighing_of w; scope = s; wish = w.wish; reach = reach; order = c.args.order }) (sym c.copied-scope.ensures) in
-    floor_put w (subst IsScaled c.self.view_is c.self.invariant.scaled) reach c.reach-reach.ensures.lower c.reach-reach.ensures.next kept
-    c.new-scoped.result c.left_over_count.result c.in-Some.floor scoped c.left_over_count.ensures c.kept-floor.ensures (rw c.in-Some.is at c.in_ok-floor.ensures)
+    let kept : ScopedFloor = record {
+      scope = c.copied-scope.result;
+      order = c.args.order;
+      reach = reach;
+      table = c.args.table;
+      floor = c.kept-floor.result;
+    } in
+    let scoped : c.scoped_by-scoped.result ≡ scoped_by w kept.scope reach kept.order =
+    c.scoped_by-scoped.ensures.value ∙ ap (λ (s : Scope). scoped_by w s reach c.args.order) (sym c.copied-scope.ensures) in
+    let is = rw c.in-Some.is at c.in_ok-remade.ensures in
+    record {
+      hold = floor_put w c.scoped_by-scoped.ensures.scaled kept c.reach-reach.ensures.lower c.reach-reach.ensures.next
+          c.scoped_by-scoped.result c.in-Some.remade.floor scoped c.kept-floor.ensures is;
+      checked = checked_put w kept c.scoped_by-scoped.result c.in-Some.remade.floor scoped c.kept-floor.ensures is;
+    }
