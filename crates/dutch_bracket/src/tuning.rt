@@ -6,9 +6,10 @@
 // how; where there is nothing in brackets, no measurement was kept. There it also stands how many reports are decided
 // with all of them.
 //
-// Two stand elsewhere. `LOOKS_IN_A_STEP` is in `found.rt` of `cheapest`, which does not see this crate (a question of a
+// Three stand elsewhere. `LOOKS_IN_A_STEP` is in `found.rt` of `cheapest`, which does not see this crate (a question of a
 // matching takes a tenth of a microsecond, and a step of a walk from a fifth of one to three). `MOST` is in
-// `remembered.rt` of `dutch_passes`: clauses say that 64 values of C.7 are kept.
+// `remembered.rt` of `dutch_passes`: clauses say that 64 values of C.7 are kept. `MOST_STEPS` of a turn is in `guide.rt`
+// of `dutch_search`.
 
 /// Steps for each player: of a search for completion, and of a listing for a shape, before a matching is asked. They
 /// decide nearly all of both. With fewer, a matching is made where the listing would soon end; with more, a listing

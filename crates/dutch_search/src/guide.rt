@@ -1,6 +1,6 @@
-// How candidates are drawn within floors of both kinds (C.04.3 B.8). Where pairs are weighed, a walk goes step by step:
-// it goes along with the witness, a matching that no candidate is known to be better than, and where it leaves that, a
-// floor by weight is asked for.
+// How candidates are drawn within floors of both kinds (C.04.3 B.8). Where pairs are weighed, a walk goes in turns
+// of few steps: it goes along with the witness, a matching that no candidate is known to be better than, and where it
+// leaves that, a floor by weight is asked for.
 ghost use Rattle.std.specs.Prelude.{◌≡◌, ◌+◌, ◌-◌, ◌<◌, ◌≤◌, [], None, min};
 ghost use Rattle.std.specs.Option.{ForSome};
 ghost use Rattle.std.specs.Result.{MatchResult};
