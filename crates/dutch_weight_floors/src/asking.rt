@@ -236,7 +236,8 @@ impl<'a> WeightFloors<'a> {
     }
 
     /// Looks for a cheapest matching of the players who are in none of the pairs, or for labels that show what is enough
-    /// for it, and keeps the floor that its certificate gives. It answers the matching; none if nothing was confirmed, or memory was refused.
+    /// for it, and keeps the floor that its certificate gives. It answers the matching; none if nothing was confirmed, or
+    /// memory was refused.
     fn ask_with(
         &mut self,
         request: &FloorRequest<'_>,
