@@ -26,6 +26,17 @@ pub(crate) struct Event {
     pub(crate) next_move: NextMove,
 }
 
+// What comes of joining a vertex, the better the later: the tree folds, or grows, or grows by a vertex behind which the
+// search can end, or the search ends. A fold makes outer vertices of inner ones, and each has to be looked at; so it is
+// put off as long as anything else can be done.
+#[derive(Clone, Copy, PartialEq, Eq, PartialOrd, Ord)]
+enum Outcome {
+    Folds,
+    Grows,
+    Leads,
+    Ends,
+}
+
 // The one of two events that comes first.
 fn sooner(first: Option<Event>, second: Option<Event>) -> Option<Event> {
     match (first, second) {
@@ -71,14 +82,28 @@ impl<C: Costs> Forest<'_, C> {
         self.noted.at(usize::from(v)) == Mark::Free && self.partner_of(base).is_none()
     }
 
-    // Where there is no other one yet, any vertex comes first. Of two at once, the one at which the search ends.
+    // What comes of joining a vertex.
+    fn outcome(&self, v: u16) -> Outcome {
+        if self.noted.at(usize::from(v)) == Mark::Outer {
+            Outcome::Folds
+        } else if self.is_end(v) {
+            Outcome::Ends
+        } else if self.leads.at(usize::from(v)) {
+            Outcome::Leads
+        } else {
+            Outcome::Grows
+        }
+    }
+
+    // Where there is no other one yet, any vertex comes first. Of two at once, the one with the better outcome; of two
+    // with the same, the one that comes later, so that the partners of the others stay.
     fn joins_before(&self, v: u16, other: Option<u16>) -> bool {
         let Some(other) = other else {
             return true;
         };
         let due = self.due.at(usize::from(v));
         let other_due = self.due.at(usize::from(other));
-        due.is_less(other_due) || (due == other_due && self.is_end(v) && !self.is_end(other))
+        due.is_less(other_due) || (due == other_due && self.outcome(v) >= self.outcome(other))
     }
 
     // The first vertex that can be joined to the nearest one.

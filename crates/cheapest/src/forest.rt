@@ -64,6 +64,8 @@ pub(crate) struct Forest<'c, C: Costs> {
     pub(crate) noted: Places<Mark>,
     pub(crate) marks: Places<Mark>,
     pub(crate) scanned: Places<bool>,
+    /// Vertices whose partner can be paired at once with one that is alone, the first beside the root.
+    pub(crate) leads: Places<bool>,
     /// A blossom was folded, so that vertices may be in a common one with those nearest to them.
     pub(crate) is_folded: bool,
     /// Outer vertices of which others know how near they are, while they do not know themselves who is nearest.
@@ -101,6 +103,7 @@ impl<'c, C: Costs> Forest<'c, C> {
             noted: Places::new(alloc, Mark::Free),
             marks: Places::new(alloc, Mark::Free),
             scanned: Places::new(alloc, false),
+            leads: Places::new(alloc, false),
             is_folded: false,
             left_to_others: Places::new(alloc, false),
             counts: Places::new(alloc, 0),
@@ -120,6 +123,7 @@ impl<'c, C: Costs> Forest<'c, C> {
         self.due.grow(vertices)?;
         self.noted.grow(vertices)?;
         self.scanned.grow(vertices)?;
+        self.leads.grow(vertices)?;
         self.left_to_others.grow(vertices)?;
         self.labels.grow(nodes)?;
         self.base.grow(nodes)?;

@@ -46,10 +46,16 @@ impl<C: Costs> Forest<'_, C> {
         self.make_places()?;
         self.gains.weigh(left)?;
         match start {
-            Some(start) => self.begin_from(start, left)?,
-            None => self.begin(alloc, left)?,
+            Some(start) => {
+                self.begin_from(start, left)?;
+                self.settle_all(left)
+            }
+            None => {
+                self.begin(alloc, left)?;
+                self.settle_all(left)?;
+                self.pair_anew(left)
+            }
         }
-        self.settle_all(left)
     }
 
     // Hands out what stands when the searches are at their end.

@@ -138,6 +138,15 @@ impl<'c, C: Costs> Gains<'c, C> {
         Ok(())
     }
 
+    /// Where a vertex begins to look for its first partner.
+    pub(crate) fn looks_from(&self, a: u16) -> u16 {
+        if a < self.costs.size() {
+            self.costs.looks_from(a)
+        } else {
+            0
+        }
+    }
+
     /// What a pair gains, if it gains something: only such pairs are joined. The graph is asked once.
     pub(crate) fn of(&self, a: u16, b: u16) -> Option<Wide> {
         let cost = cost_of(self.costs, a, b)?;

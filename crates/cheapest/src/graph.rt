@@ -32,4 +32,9 @@ pub trait Costs {
     /// cheapest matchings is found.
     fn class(&self, a: u16) -> Self::Class
         requires { a < vertices self.now };
+
+    /// Where a vertex begins to look for its first partner: with the vertex of this number, and then with those behind it.
+    /// Nothing is said of it: it changes only how long a search takes, and which of several cheapest matchings is found.
+    fn looks_from(&self, a: u16) -> u16
+        requires { a < vertices self.now };
 }

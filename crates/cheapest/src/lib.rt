@@ -36,6 +36,7 @@ mod forest;
 mod found;
 mod gains;
 mod graph;
+mod in_order;
 mod pairs;
 mod places;
 mod scan;

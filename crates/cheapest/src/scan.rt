@@ -90,6 +90,23 @@ impl<C: Costs> Forest<'_, C> {
         Ok(())
     }
 
+    // Yes for a vertex of the same node, and for an inner one in no blossom: that one stays inner, or looks for itself once
+    // it is outer.
+    fn is_passed_over(&self, u: u16, v: u16) -> bool {
+        let is_inner = self.noted.at(usize::from(v)) == Mark::Inner && self.outer_of(v) == v;
+        is_inner || self.outer_of(u) == self.outer_of(v)
+    }
+
+    // Looks at a vertex from an outer one.
+    fn look_at(&mut self, u: u16, v: u16) -> Result<(), Fault>
+        ensures { IfErr result (λ fault. fault ≡ TooGreat) }
+    {
+        match self.gain_apart(u, v) {
+            Some(gain) => self.consider(u, v, gain),
+            None => Ok(()),
+        }
+    }
+
     /// Looks at all neighbours of an outer vertex, with a step for each vertex asked about.
     fn scan(&mut self, u: u16, left: &mut u64) -> Result<(), Fault>
         ensures falls { left.new ≤ left.old }
@@ -97,9 +114,9 @@ impl<C: Costs> Forest<'_, C> {
     {
         self.scanned.put(usize::from(u), true);
         for v in 0..self.size {
-            take_step(left)?;
-            if let Some(gain) = self.gain_apart(u, v) {
-                self.consider(u, v, gain)?;
+            if !self.is_passed_over(u, v) {
+                take_step(left)?;
+                self.look_at(u, v)?;
             }
         }
         Ok(())
@@ -127,10 +144,8 @@ impl<C: Costs> Forest<'_, C> {
         self.nearest.put(usize::from(v), None);
         for u in 0..self.size {
             take_step(left)?;
-            if self.noted.at(usize::from(u)) == Mark::Outer
-                && let Some(gain) = self.gain_apart(u, v)
-            {
-                self.consider(u, v, gain)?;
+            if self.noted.at(usize::from(u)) == Mark::Outer {
+                self.look_at(u, v)?;
             }
         }
         Ok(())

@@ -7,6 +7,7 @@ use crate::events::NextMove;
 use crate::fault::Fault;
 use crate::forest::{Forest, Mark};
 use crate::graph::Costs;
+use crate::steps::take_step;
 use dual::Wide;
 
 impl<C: Costs> Forest<'_, C> {
@@ -94,6 +95,37 @@ impl<C: Costs> Forest<'_, C> {
         Ok(self.act(event.next_move))
     }
 
+    // The first vertex that is alone, beside the root.
+    fn other_alone(&self, root: u16) -> Option<u16> {
+        for v in 0..self.size {
+            if v != root && self.is_alone(v) {
+                return Some(v);
+            }
+        }
+        None
+    }
+
+    // Notes which vertices lead to an end: the partner of each can be paired at once with the first one that is alone. Each
+    // vertex asked about is a step.
+    fn note_leads(&mut self, root: u16, left: &mut u64) -> Result<(), Fault>
+        ensures falls { left.new ≤ left.old }
+        ensures stopped { IfErr result (λ fault. fault ≡ Stopped → left.new ≡ 0) }
+    {
+        self.leads.clear();
+        let Some(alone) = self.other_alone(root) else {
+            return Ok(());
+        };
+        for w in 0..self.size {
+            take_step(left)?;
+            if let Some(v) = self.partner_of(w)
+                && self.is_tight(alone, w)?
+            {
+                self.leads.put(usize::from(v), true);
+            }
+        }
+        Ok(())
+    }
+
     // Searches from a vertex that is alone, and forgets the tree of the search before. Each node is grown, folded and
     // expanded once at most.
     fn settle(&mut self, root: u16, left: &mut u64) -> Result<(), Fault>
@@ -108,6 +140,7 @@ impl<C: Costs> Forest<'_, C> {
         self.reached.clear();
         self.fallen = Wide::zero();
         self.is_folded = false;
+        self.note_leads(root, left)?;
         self.mark(self.outer_of(root), Mark::Outer);
         for _ in 0..3 * u32::from(self.nodes) {
             if self.go_on(left)? {

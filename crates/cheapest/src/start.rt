@@ -158,17 +158,26 @@ impl<C: Costs> Forest<'_, C> {
         self.transport_labels(&mut transport, left)
     }
 
-    /// Labels all vertices, and pairs those that are paired at once.
-    pub(crate) fn begin(&mut self, alloc: Global, left: &mut u64) -> Result<(), Fault>
+    // Lowers the labels of all vertices that are alone.
+    fn lower_all(&mut self, left: &mut u64) -> Result<(), Fault>
         ensures falls { left.new ≤ left.old }
         ensures stopped { IfErr result (λ fault. fault ≡ Stopped → left.new ≡ 0) }
     {
-        self.label_all(alloc, left)?;
         for v in 0..self.size {
             if self.is_alone(v) {
                 self.lower(v, left)?;
             }
         }
         Ok(())
+    }
+
+    /// Labels all vertices, and pairs those that are paired at once.
+    pub(crate) fn begin(&mut self, alloc: Global, left: &mut u64) -> Result<(), Fault>
+        ensures falls { left.new ≤ left.old }
+        ensures stopped { IfErr result (λ fault. fault ≡ Stopped → left.new ≡ 0) }
+    {
+        self.label_all(alloc, left)?;
+        self.pair_all_in_order(left)?;
+        self.lower_all(left)
     }
 }

@@ -81,8 +81,8 @@ impl<C: Costs> Forest<'_, C> {
         Ok(())
     }
 
-    // Whether two vertices are joined, and their labels have just what the pair gains.
-    fn is_tight(&self, a: u16, b: u16) -> Result<bool, Fault>
+    /// Whether two vertices are joined, and their labels have just what the pair gains.
+    pub(crate) fn is_tight(&self, a: u16, b: u16) -> Result<bool, Fault>
         ensures { IfErr result (λ fault. fault ≡ TooGreat) }
     {
         match self.gains.of(a, b) {
@@ -151,12 +151,12 @@ impl<C: Costs> Forest<'_, C> {
     }
 
     // Pairs a vertex that is alone if that is possible at once, over one pair at most, with a step for each vertex asked
-    // about.
+    // about. Those who come last lose their partners first.
     fn pair_nearby(&mut self, root: u16, left: &mut u64) -> Result<(), Fault>
         ensures falls { left.new ≤ left.old }
         ensures stopped { IfErr result (λ fault. fault ≡ Stopped → left.new ≡ 0) }
     {
-        for v in 0..self.size {
+        for v in (0..self.size).rev() {
             take_step(left)?;
             if self.is_tight(root, v)? && self.pair_over(root, v, left)? {
                 return Ok(());
@@ -165,8 +165,8 @@ impl<C: Costs> Forest<'_, C> {
         Ok(())
     }
 
-    // Pairs all vertices from which a search would have to begin, where that is possible at once.
-    fn pair_all_nearby(&mut self, left: &mut u64) -> Result<(), Fault>
+    /// Pairs all vertices from which a search would have to begin, where that is possible at once.
+    pub(crate) fn pair_all_nearby(&mut self, left: &mut u64) -> Result<(), Fault>
         ensures falls { left.new ≤ left.old }
         ensures stopped { IfErr result (λ fault. fault ≡ Stopped → left.new ≡ 0) }
     {

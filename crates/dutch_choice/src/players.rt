@@ -244,4 +244,9 @@ impl Costs for Players<'_> {
             may_stay: self.may_stay(a),
         }
     }
+
+    // (a shape tells nobody's partner, so nobody begins anywhere)
+    fn looks_from(&self, _a: u16) -> u16 {
+        self.size()
+    }
 }

@@ -1,11 +1,12 @@
 -- What pairs of residents cost where the order of S1R is counted (C.04.3 D.2): all pairs of a candidate cost no more than they weigh, and what
 -- the members of its S1R add.
-use Rattle.std.proofs.Common.{◌≡◌, ℕ, ◌+◌, ◌<◌, ◌≤◌, Bool, true, false, cond, nat_lt, ◌&&◌, List, [], ◌∷◌, sum_by, refl, ap, arith}
+use Rattle.std.proofs.Common.{◌≡◌, ℕ, ◌+◌, ◌^◌, ◌<◌, ◌≤◌, Bool, true, false, cond, nat_lt, ◌&&◌, List, [], ◌∷◌, sum_by, refl, ap, arith}
 use Rattle.std.specs.List.{AllByRecursion, zip}
 use Rattle.std.proofs.lemmas.Bool.{false_from_ne_true, ltb-true}
 use Rattle.std.proofs.lemmas.List.Sums.{sum_by-append, sum_by-cons}
 use Rattle.dutch_arrangements.specs.Prelude.{Arrangement, Beginning}
 use Rattle.dutch_weight_floors.specs.Prelude.{Order, added_for, with_lesser, with_order, IsMostAdded}
+use Rattle.dutch_weight_floors.specs.Orders.{lesser}
 use Rattle.dutch_bracket.specs.Prelude.{number_pairs}
 use Rattle.dutch_weight_floors.proofs.OrderLemmas.{with_first}
 
@@ -71,3 +72,11 @@ none_added order none (x ∷ xs) = omega (arith, sum_by-cons (added_for order) x
 
 pub nothing_added : (order : Order) (b : Beginning) → ((x : ℕ) → added_for order x ≡ 0) → IsMostAdded order b 0
 nothing_added order b none = λ a begins. omega (arith, none_added order none a.s1r)
+
+with_nothing : (t : Bool) (w x : ℕ) → x ≡ 0 → w ≡ cond t (w + x) w
+with_nothing true w x e = omega (arith, e)
+with_nothing false w x e = refl
+
+-- a weight with what two players add of whom nobody adds anything
+pub nothing_with : (order : Order) (w a b : ℕ) → ((x : ℕ) → added_for order x ≡ 0) → w ≡ with_lesser order w a b
+nothing_with order w a b none = with_nothing (nat_lt (w + lesser order a b) (2 ^ 1024)) w (lesser order a b) (omega (arith, none a, none b))

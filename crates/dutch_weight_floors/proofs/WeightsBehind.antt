@@ -227,6 +227,12 @@ checked_put w kept s floor scoped kept_is is =
           (kept_checked (costs_in here) (all_numbers here) (certificate_in kept.table) kept.reach floor held);
     }
 
+-- some of them are floors too
+pub fewer : (w : Weighed) (old new : List ScopedFloor) → AreFloors w old
+    → ((u : Weighed) → All (IsWeightFloor u) old → All (IsWeightFloor u) new)
+    → ((u : Weighed) → All (IsCheckedIn u) old → All (IsCheckedIn u) new) → AreFloors w new
+fewer w old new held holds checks = record { scaled = held.scaled; hold = holds w held.hold; checked = checks w held.checked }
+
 -- floors with one more are floors, where it is one
 pub one_more : (v w : Weighed) (old new : List ScopedFloor) (floor : ScopedFloor) → v ≡ w → AreFloors v old
     → ((u : Weighed) → All (IsWeightFloor u) old → IsWeightFloor u floor → All (IsWeightFloor u) new)

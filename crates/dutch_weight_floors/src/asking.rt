@@ -180,26 +180,26 @@ impl<'a> WeightFloors<'a> {
 
     /// What it costs to be left over, on top of half of a weight: more than any weight, so that as many pairs are made
     /// as can be; nothing where C.7 is measured, since there the weights tell of it.
-    fn left_over_cost(&self) -> Option<LeftOverCost> {
+    fn left_over_cost(&self, order: &Order) -> Option<LeftOverCost> {
         let most = self.above_weights()?;
         let never = most.times(NEVER_LEFT)?;
-        let cost = if self.counts_next() {
-            Wide::zero()
-        } else {
-            most
+        let cost = match self.reach() {
+            Reach::Bracket => most.plus(order.left_over_share()?)?,
+            Reach::Lower => most,
+            Reach::Next => Wide::zero(),
         };
         Some(LeftOverCost { cost, never })
     }
 
     /// What is enough for a matching of the players who are in none of some pairs, where a weight is enough for the
     /// bracket: that weight without the pairs, and with what it costs on top to leave over those who are left over.
-    fn enough_beside(&self, pairs: &[Pair], weight: Wide) -> Option<Wide> {
+    fn enough_beside(&self, pairs: &[Pair], order: &Order, weight: Wide) -> Option<Wide> {
         let alone = match self.reach() {
             Reach::Bracket => self.left_over_count(),
             Reach::Lower => self.size() % 2,
             Reach::Next => 0,
         };
-        let one = self.left_over_cost()?.cost.doubled()?;
+        let one = self.left_over_cost(order)?.cost.doubled()?;
         let on_top = one.times(u32::try_from(alone).ok()?)?;
         let known = weight_of(&self.weighing, pairs)?;
         weight.plus(on_top)?.minus(known)
@@ -217,7 +217,7 @@ impl<'a> WeightFloors<'a> {
         ensures falls { left.new ≤ left.old }
         ensures stopped { MatchResult result (λ _. Unit {0}) (λ _. left.new ≡ 0) }
     {
-        let Some(left_over) = self.left_over_cost() else {
+        let Some(left_over) = self.left_over_cost(order) else {
             return Ok(None);
         };
         let sought = Sought {
@@ -263,6 +263,7 @@ impl<'a> WeightFloors<'a> {
         if order.is_none() {
             self.traces = traces;
         }
+        self.make_room(!order.is_none());
         match self.put(table, request.scope, order) {
             Ok(Some(looks)) => {
                 spend(looks / LOOKS_IN_A_STEP, budget)?;
@@ -290,7 +291,7 @@ impl<'a> WeightFloors<'a> {
     {
         let order = Order::none(self.weighing.context().alloc());
         let enough = match enough {
-            Some(weight) => self.enough_beside(request.pairs, weight),
+            Some(weight) => self.enough_beside(request.pairs, &order, weight),
             None => None,
         };
         self.ask_with(request, order, enough, budget)
@@ -315,20 +316,23 @@ impl<'a> WeightFloors<'a> {
         }
     }
 
-    /// What the order of S1R adds behind the pairs of an S1 and its S2 (D.2); none if there is no choice of S1R, or no
-    /// room for the order below the weights.
-    fn order_behind(&self, front: &[Pair]) -> Option<Order> {
+    /// The halves of the residents behind the pairs of an S1 and its S2: none if there is no choice of S1R.
+    fn halves_behind(&self, front: &[Pair]) -> Option<Halves> {
         let context = self.weighing.context();
         let mdps = context.reached().mdps();
         let count = context.len();
         let places = self.shape.pairs.checked_sub(front.len())?;
         let half = nth_resident(mdps, count, front, places)?;
-        let spare = self.weighing.scale().spare();
-        let halves = Halves::new(count, mdps, half)?;
-        if spare < halves.width() {
+        Halves::new(count, mdps, half)
+    }
+
+    /// What the order of S1R adds behind the pairs of an S1 and its S2 (D.2); none if there is no room for it below the
+    /// weights.
+    fn order_by(&self, halves: &Halves) -> Option<Order> {
+        if self.weighing.scale().spare() < halves.width() {
             return None;
         }
-        Order::by_exchanges(context.alloc(), &halves).unwrap_or(None)
+        Order::by_exchanges(self.weighing.context().alloc(), halves).unwrap_or(None)
     }
 
     /// Yes if the order of S1R was asked for last behind these pairs of S1 and S2. (Earlier ones are not kept.)
@@ -383,8 +387,8 @@ impl<'a> WeightFloors<'a> {
         Ok(found)
     }
 
-    /// If a walk has chosen all of S2, asks for a floor that counts the order of S1R: once behind each S2. Its matching
-    /// is the next witness: it has the first S1R that can be as good. A no says that nothing was asked.
+    /// If a walk has left the original S1R, asks for a floor that counts the order of S1R: once behind each S2. Its
+    /// matching is the next witness: it has the first S1R that can be as good. A no says that nothing was asked.
     fn tell_order(
         &mut self,
         scope: &Scope,
@@ -399,11 +403,14 @@ impl<'a> WeightFloors<'a> {
             return Ok(false);
         };
         let front = &pairs[..count];
-        if self.knows_order_behind(front) {
+        let Some(halves) = self.halves_behind(front) else {
+            return Ok(false);
+        };
+        if !scope.exchanges(&halves) || self.knows_order_behind(front) {
             return Ok(false);
         }
         self.note_order(front);
-        let Some(order) = self.order_behind(front) else {
+        let Some(order) = self.order_by(&halves) else {
             return Ok(false);
         };
         let request = FloorRequest {

@@ -25,6 +25,8 @@ pub(crate) struct Order {
     table: Vec<Wide>,
     // no number adds more on top
     top: Wide,
+    // the halves that it tells apart, if it adds anything
+    halves: Option<Halves>,
 }
 
 impl Model for Order {
@@ -105,6 +107,7 @@ impl Order {
             more: Vec::new(alloc),
             table: Vec::new(alloc),
             top: Wide::zero(),
+            halves: None,
         }
     }
 
@@ -112,7 +115,7 @@ impl Order {
     pub(crate) fn is_none(&self) -> bool
         ensures { result ≡ true → (x : ℕ) → added_for self.now x ≡ 0 }
     {
-        self.unit == Wide::zero() && self.more.is_empty()
+        self.more.is_empty() && self.unit == Wide::zero()
     }
 
     /// What a number adds on top.
@@ -175,9 +178,14 @@ impl Order {
     }
 
     /// A weight and the lesser of what two numbers add; the weight alone if there is no room for both.
+    #[tactic(auto, using(crate::proofs::D02Orders::nothing_with))]
     pub(crate) fn with_lesser(&self, weight: Wide, a: u16, b: u16) -> Wide
         ensures { result ≡ with_lesser self.now weight a b }
     {
+        // (most orders add nothing, and this is asked for each pair)
+        if self.is_none() {
+            return weight;
+        }
         let Some(lesser) = self.lesser(a, b) else {
             return weight;
         };
@@ -317,6 +325,17 @@ impl Halves {
         3 * self.bits() + 2 + self.fine_bits()
     }
 
+    /// Yes if a number is a resident's of the upper half.
+    pub(crate) fn is_upper(&self, number: u16) -> bool {
+        let number = u32::from(number);
+        self.mdps < number && number <= self.half
+    }
+
+    /// Half of what each number of the lower half adds at least. No number of the upper half adds twice as much.
+    fn even_share(&self) -> Option<Wide> {
+        Wide::power_of_two(2 * self.bits() + 1 + self.fine_bits())
+    }
+
     /// What a number of the upper half adds on top. Higher numbers add more, since D.2 moves them out first.
     fn more_of_upper(&self, number: u32) -> Option<Wide>
         requires { number ≤ 1024 }
@@ -375,8 +394,31 @@ impl Order {
             top: greatest(&more),
             more,
             table: Vec::new(alloc),
+            halves: Some(*halves),
         };
         order.table = order.table_upto(alloc, halves.count as u16)?;
         Ok(Some(order))
+    }
+
+    /// What somebody who is left over is given on top, so that shares of pairs and those who are left over have as much.
+    pub(crate) fn left_over_share(&self) -> Option<Wide> {
+        match &self.halves {
+            Some(halves) => Some(halves.even_share()?.halved()),
+            None => Some(Wide::zero()),
+        }
+    }
+
+    /// A label where each pair costs as much more as is added: without the share of the number. The shares of two
+    /// numbers are together never more than what the pair adds, and just as much if they are of two halves.
+    pub(crate) fn without_share(&self, label: Wide, number: u16) -> Option<Wide> {
+        let Some(halves) = &self.halves else {
+            return Some(label);
+        };
+        let share = halves.even_share()?;
+        if halves.is_upper(number) {
+            label.plus(share)?.minus(self.added_for(number)?)
+        } else {
+            label.minus(share)
+        }
     }
 }

@@ -10,6 +10,7 @@ ghost use Rattle.dutch_arrangements.specs.Prelude.{is_member};
 ghost use Rattle.dutch_weight_floors.specs.Scopes.{Covers, is_joined, is_within, may_stay, moved_down_standing, resident_standing};
 ghost use Rattle.dutch_weight_floors.specs.Scopes.{standing_of};
 
+use crate::order::Halves;
 use dutch_arrangements::{Filling, Numbers, Prefix};
 use dutch_bracket::reached::copied;
 use dutch_candidates::fixed_lists::has_s1;
@@ -139,6 +140,11 @@ impl Scope {
                 }
             }
         }
+    }
+
+    /// Yes if its S1R is chosen, and is not the original one: it has a number that is not of the upper half.
+    pub(crate) fn exchanges(&self, halves: &Halves) -> bool {
+        self.filling == Filling::S2r && self.s1r.iter().any(|number| !halves.is_upper(*number))
     }
 
     /// All arrangements with its S1.

@@ -188,6 +188,14 @@ impl<'a, 'b> Scoped<'a, 'b> {
         self.reach
     }
 
+    /// A label where each pair costs as much more as the order adds, where the matchings go over the bracket alone.
+    pub(crate) fn without_share(&self, label: Wide, number: u16) -> Option<Wide> {
+        match self.reach {
+            Reach::Bracket => self.order.without_share(label, number),
+            Reach::Lower | Reach::Next => Some(label),
+        }
+    }
+
     /// A yes says that the order adds nothing to any pair. A no says nothing.
     pub(crate) fn adds_nothing(&self) -> bool
         ensures { result ≡ true → AddsNothing self.now.order }

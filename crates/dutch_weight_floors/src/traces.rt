@@ -66,7 +66,7 @@ impl Traces {
         let number = graph.numbers().get(usize::from(v))?;
         let trace = self.of(*number)?;
         if graph.standing(*number).is_within(trace.standing) {
-            trace.label_beside(left_of(graph, v))
+            graph.without_share(trace.label_beside(left_of(graph, v))?, *number)
         } else {
             None
         }

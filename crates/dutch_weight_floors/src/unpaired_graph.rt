@@ -43,6 +43,10 @@ pub(crate) struct UnpairedGraph<'a, 'b> {
     numbers: Vec<u16>,
     alike: &'b Alike,
     left_over: LeftOverCost,
+    // how many vertices are moved-down players; behind them stand the residents
+    mdps: u16,
+    // the first vertex of the lower half of the residents
+    half: u16,
 }
 
 impl<'a, 'b> Model for UnpairedGraph<'a, 'b> {
@@ -77,6 +81,18 @@ fn numbers_beside(scoped: &Scoped<'_, '_>, pairs: &[Pair]) -> Result<Vec<u16>, A
     Ok(numbers)
 }
 
+/// How many numbers are no greater than a last one.
+fn count_upto(numbers: &[u16], last: usize) -> u16 {
+    let count = numbers.iter().filter(|n| usize::from(**n) <= last).count();
+    u16::try_from(count).unwrap_or(u16::MAX)
+}
+
+/// The first vertex of the lower half of the residents, if each moved-down player is paired with one of the first residents.
+fn half_behind(mdps: u16, inside: u16) -> u16 {
+    let residents = inside.saturating_sub(mdps).saturating_sub(mdps);
+    mdps.saturating_add(mdps).saturating_add(residents / 2)
+}
+
 impl<'a, 'b> UnpairedGraph<'a, 'b> {
     /// The players who are in none of some pairs of numbers, and what it costs to be left over.
     pub(crate) fn beside(
@@ -86,11 +102,16 @@ impl<'a, 'b> UnpairedGraph<'a, 'b> {
         left_over: LeftOverCost,
     ) -> Result<UnpairedGraph<'a, 'b>, AllocError> {
         let numbers = numbers_beside(scoped, pairs)?;
+        let context = scoped.weighing().context();
+        let mdps = count_upto(&numbers, context.reached().mdps());
+        let inside = count_upto(&numbers, context.len());
         Ok(UnpairedGraph {
             scoped,
             numbers,
             alike,
             left_over,
+            mdps,
+            half: half_behind(mdps, inside),
         })
     }
 
@@ -104,6 +125,11 @@ impl<'a, 'b> UnpairedGraph<'a, 'b> {
     /// Where a number stands.
     pub(crate) fn standing(&self, number: u16) -> Standing {
         self.scoped.standing(number)
+    }
+
+    /// A label where each pair costs as much more as the order adds.
+    pub(crate) fn without_share(&self, label: Wide, number: u16) -> Option<Wide> {
+        self.scoped.without_share(label, number)
     }
 
     /// What is more than what it costs to leave anybody over.
@@ -159,6 +185,17 @@ impl<'a, 'b> Costs for UnpairedGraph<'a, 'b> {
             first: self.alike.first(a),
             standing: self.scoped.standing(a),
             may_be_left: self.scoped.may_be_left(a),
+        }
+    }
+
+    // (as article D does: moved-down players with the first residents, then the upper half with the lower half)
+    fn looks_from(&self, a: u16) -> u16 {
+        if a < self.mdps {
+            self.mdps
+        } else if a < self.half {
+            self.half
+        } else {
+            self.size()
         }
     }
 }

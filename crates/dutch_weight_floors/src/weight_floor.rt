@@ -527,6 +527,14 @@ impl<'a> WeightFloors<'a> {
         Ok(Some(Checked { kept, looks }))
     }
 
+    /// Makes room for a floor that counts an order, or for one that counts none. (Floors are large: so one is dropped
+    /// before another one is made.)
+    pub(crate) fn make_room(&mut self, counts_order: bool)
+        ensures { self.new ≡ self.old }
+    {
+        make_room(&mut self.floors, counts_order);
+    }
+
     /// Checks a certificate for the arrangements of a scope, with what an order adds, and keeps its floor in place of
     /// another one if there is no room. It answers how many pairs were asked about; none says that it gives no floor.
     pub(crate) fn put(

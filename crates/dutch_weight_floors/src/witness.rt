@@ -87,13 +87,15 @@ impl Witness {
         true
     }
 
+    fn has_pairs(&self, pairs: &[Pair]) -> bool {
+        pairs
+            .iter()
+            .all(|pair| self.partner(pair.0) == Some(pair.1))
+    }
+
     /// Yes if there is a witness, it has all pairs of a beginning, and it is one of the arrangements of its scope.
     pub(crate) fn has(&mut self, mdps: usize, beginning: &FloorRequest<'_>) -> bool {
-        let has_pairs = beginning
-            .pairs
-            .iter()
-            .all(|pair| self.partner(pair.0) == Some(pair.1));
-        if self.partners.is_empty() || !has_pairs {
+        if self.partners.is_empty() || !self.has_pairs(beginning.pairs) {
             return false;
         }
         if self.scope.is(beginning.scope) {

@@ -77,6 +77,10 @@ impl Costs for Graph<'_> {
     fn class(&self, a: u16) -> u16 {
         a % self.classes.max(1)
     }
+
+    fn looks_from(&self, a: u16) -> u16 {
+        a.wrapping_mul(self.classes)
+    }
 }
 
 // The same costs, each counted twice, as certificates count them.

@@ -217,15 +217,16 @@ fn takes(alloc: Global, graph: &Graph, start: &Start, steps: u64) -> Result<bool
 }
 
 // The first vertex is alone, and the second one has just the label for it. The partner of this one is paired with the
-// last one, or left over: one look for the pair of the start, two from the first vertex, and one from the partner at most.
-// Or it has none, since the labels do not allow the pair; then the third vertex looks at all four. Two looks are a step.
-// A search from the first vertex would look at all others, and then from the partner too.
+// last one, or left over: one look for the pair of the start, one from the first vertex at each that stands behind it,
+// the last one first, and one from the partner at most. Or it has none, since the labels do not allow the pair; then the
+// third vertex is paired with the last one at its first look. Two looks are a step. A search from the first vertex would
+// look at all others, and then from the partner too.
 #[test]
 fn over_one_pair(rt: HostRuntime) -> Result<(), Fail> {
     for (size, labels, steps) in [
-        (4, [19, 15, 15, 19], 2),
+        (4, [19, 15, 15, 19], 3),
         (3, [4, 30, 0, 0], 2),
-        (4, [19, 15, 20, 14], 4),
+        (4, [19, 15, 20, 14], 3),
     ] {
         let start = start_on_path(rt.alloc(), &labels)?;
         assert!(rt;

@@ -1,6 +1,6 @@
 -- No step is given back.
 use Rattle.std.proofs.Common.{◌≤◌}
-use Rattle.cheapest.proofs.forest.Forest.begin.Given as goal
+use Rattle.cheapest.proofs.forest.Forest.lower_all.Given as goal
 
 abbrev pub invariant-loop-v : goal.invariant-loop-v
 invariant-loop-v g l = l.left ≤ l.fn.left
