@@ -2,4 +2,5 @@ pub mod TargetLemmas
 pub mod BeginLemmas
 pub mod IncumbentLemmas
 pub mod KeptValues
+pub mod NextOfAll
 pub mod SkippedLemmas

@@ -2,5 +2,6 @@
 pub mod Incumbent
 pub mod Targets
 pub mod Remembered
+pub mod NextOfAll
 pub mod Passes
 pub mod Prelude

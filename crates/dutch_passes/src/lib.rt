@@ -7,6 +7,7 @@
 
 mod guide;
 mod incumbent;
+mod next_of_all;
 mod pass;
 mod passes;
 mod remembered;

@@ -1,14 +1,16 @@
 // One pass over the candidates of a shape (C.04.3 B.8): what it seeks, and the best candidate that it has found so far.
 ghost use Rattle.std.specs.Prelude.{◌≡◌, true, false};
+ghost use Rattle.std.specs.Option.{ForSome};
 ghost use Rattle.dutch_arrangements.specs.Prelude.{Arrangement, IsExchange, IsIn};
 ghost use Rattle.dutch_bracket.specs.Prelude.{OfEachWithBeginning, candidates_in, quality_in};
 ghost use Rattle.dutch_candidates.specs.Wishes.{is_wished};
+ghost use Rattle.dutch_passes.specs.NextOfAll.{IsNextOfAll};
 ghost use Rattle.dutch_passes.specs.Targets.{target_in, loses};
 
 use crate::incumbent::Incumbent;
 use crate::target::Target;
 use dutch_arrangements::{Exchange, Prefix};
-use dutch_bracket::quality::Quality;
+use dutch_bracket::quality::{NextValue, Quality};
 use dutch_bracket::shaped::ShapedBracket;
 use dutch_candidates::wish::Wish;
 use dutch_choice::barred::{rules_out, rules_out_with};
@@ -20,6 +22,10 @@ pub struct Pass<'a> {
     pub shaped: ShapedBracket<'a>,
     pub wish: Option<Wish>,
     pub target: Target,
+    /// What the next bracket can be below each candidate (C.7), if it is one value for all and is known. (On the heap,
+    /// as it is large.)
+    pub next: Option<Box<NextValue>>,
+    ghost same: { ForSome next (λ value. IsNextOfAll shaped value.value) },
 }
 
 /// A pass, and its incumbent so far.

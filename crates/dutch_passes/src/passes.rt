@@ -14,9 +14,12 @@ ghost use Rattle.dutch_passes.specs.Incumbent.{IsIncumbent};
 ghost use Rattle.dutch_passes.specs.Passes as passes;
 
 use crate::guide::Guide;
+use crate::next_of_all::{leaves_nobody, next_of_all};
 use crate::pass::{Pass, PassSoFar, loses};
 use crate::remembered::{PassState, judge_candidate};
 use dutch_arrangements::{Budget, Candidate, Stopped};
+use dutch_bracket::context::Context;
+use dutch_bracket::quality::Quality;
 use dutch_bracket::reached::BracketKind;
 use dutch_bracket::spending::at_most;
 use dutch_bracket::tuning::first_pass_steps;
@@ -25,6 +28,28 @@ use dutch_candidates::narrowed::NarrowedRule;
 use dutch_candidates::wish::is_wished;
 use dutch_choice::start::Start;
 use dutch_completion::eligible::can_be_chosen;
+
+// The first passes of a bracket have as many steps as those of brackets of so many players together. (With more, hard
+// brackets are weighed later: those of over 600 players need a million steps more where one bracket counts for all.)
+const TOGETHER: usize = 32;
+
+// The most players of a bracket whose candidates are so few that passes look through them before players of the next
+// scoregroup are weighed with it, which takes far longer. (Without this, first brackets of 5 to 11 players took up to two
+// million steps, where the next one had 600 to 980.)
+const FEW: usize = 12;
+
+/// How many steps passes make before the pairs of a bracket are weighed.
+fn steps_at_first(context: &Context<'_>) -> u64 {
+    let count = context.len();
+    let brackets = (count / TOGETHER) as u64 + 1;
+    let steps = first_pass_steps(count.min(TOGETHER)).saturating_mul(brackets);
+    if count <= FEW {
+        let below = context.len_below() as u64;
+        steps.saturating_add(below.saturating_mul(below))
+    } else {
+        steps
+    }
+}
 
 /// What the passes over the candidates of a shape are made with: their state, and the lister that draws the candidates,
 /// with where it begins.
@@ -217,11 +242,11 @@ fn best_in_passes<G: Guide>(
     best_near(pass, search, budget)
 }
 
-/// Yes if weights can tell of the next bracket too (C.7): in an ordinary bracket, if the pass wishes nothing and the
-/// two brackets are not too large together.
+/// Yes if weights can tell of the next bracket too (C.7), and need to: in an ordinary bracket, if the shape leaves
+/// somebody over, the pass wishes nothing, and the two brackets are not too large together.
 fn tells_next<G: Guide>(pass: &Pass<'_>, guide: &G) -> bool {
     match (pass.shaped.context.reached().kind(), pass.wish) {
-        (BracketKind::Ordinary, None) => guide.can_weigh(true),
+        (BracketKind::Ordinary, None) => !leaves_nobody(&pass.shaped) && guide.can_weigh(true),
         _ => false,
     }
 }
@@ -256,6 +281,16 @@ fn best_within<G: Guide>(
     }
 }
 
+/// Keeps a quality as the target of a pass, with the value of the next bracket that all candidates have, if it is known.
+fn keep_target(pass: &mut Pass<'_>, quality: &mut Quality)
+    ensures { passes.SeeksTheSame pass.old pass.new }
+{
+    if let Some(value) = &pass.next {
+        quality.put_next(value.pairs, &value.psd);
+    }
+    pass.target.keep(quality);
+}
+
 /// Weighs the pairs anew for a pass, with those of the next bracket if that is wanted (C.7). The pass then has the
 /// target that the weights tell, if they tell one.
 fn weigh_pairs<G: Guide>(
@@ -264,17 +299,19 @@ fn weigh_pairs<G: Guide>(
     state: &mut PassState<'_, G>,
     budget: &mut Budget,
 ) -> Result<(), Stopped>
+    requires { passes.LooksFor pass.old state.old.look }
     ensures known { (context : Context) (shape : Shape)
         → G.knows state.old.guide.value context shape pass.old.wish
         → G.knows state.new.guide.value context shape pass.old.wish }
-    ensures look { state.new.look ≡ state.old.look }
+    ensures look { passes.LooksFor pass.old state.new.look }
     ensures pass { passes.SeeksTheSame pass.old pass.new }
     ensures stopped { MatchResult result (λ _. Unit {0}) (λ _. budget.new.used ≡ budget.new.limit) }
     ensures spends { Spends budget.old budget.new }
 {
+    pass.next = next_of_all(&pass.shaped, &mut state.look, budget)?;
     let work = &mut *state.work;
     if state.guide.weigh(pass.wish, next, work, budget)? {
-        pass.target.keep(&work.room.quality);
+        keep_target(pass, &mut work.room.quality);
     } else {
         pass.target.clear();
     }
@@ -317,7 +354,7 @@ pub fn best_in_time<G: Guide>(
         (λ _. budget.new.used ≡ budget.new.limit) }
     ensures spends { Spends budget.old budget.new }
 {
-    let few = first_pass_steps(pass.shaped.context.len());
+    let few = steps_at_first(pass.shaped.context);
     if best_within(pass, search, few, budget)? {
         return Ok(());
     }

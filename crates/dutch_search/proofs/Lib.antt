@@ -1,3 +1,4 @@
 pub mod BarsBehind
 pub mod FloorsOfPass
 pub mod PassesTwice
+pub mod NextAtAll

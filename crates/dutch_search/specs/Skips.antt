@@ -20,6 +20,10 @@ module _ (skipper : Skipper) where
   abbrev pub OfEach : Beginning → (Arrangement → Type 0) → Type 0
   OfEach beginning says = OfEachWithBeginning pass_of.shaped beginning says
 
+  -- and of each candidate
+  abbrev pub OfEachHere : (Arrangement → Type 0) → Type 0
+  OfEachHere says = (a : Arrangement) → IsIn a (candidates_in pass_of.shaped) → says a
+
   -- and of each with a beginning and such an S1R
   abbrev pub OfEachWith : Beginning → ExchangeClass → (Arrangement → Type 0) → Type 0
   OfEachWith beginning exchange says =

@@ -9,7 +9,7 @@ ghost use Rattle.std.specs.Prelude.{◌≡◌, true, false};
 ghost use Rattle.dutch_bracket.specs.Prelude.{quality_here, HasNoBetter, is_better, next_in, quality_in};
 ghost use Rattle.dutch_floors.specs.KnownPairs.{AreKnown};
 ghost use Rattle.dutch_passes.specs.Prelude.{Loses, LosesIfOpen, is_pruned_by};
-ghost use Rattle.dutch_search.specs.Skips.{HasNoBetterNext, IsBehindTarget, IsBehindIncumbent, OfEach, OfEachWith, Weighs};
+ghost use Rattle.dutch_search.specs.Skips.{HasNoBetterNext, IsBehindTarget, IsBehindIncumbent, OfEach, OfEachHere, OfEachWith, Weighs};
 ghost use Rattle.dutch_search.specs.Skips.{context_of};
 
 use crate::last_beginning::WalkNotes;
@@ -87,15 +87,28 @@ impl<'a, 'k> Skipper<'a, 'k> {
         )
     }
 
-    /// Yes if C.7 needs no further look: the weights tell of the next bracket, or by counts no candidate with a
-    /// beginning has a better value of it than a quality says.
+    /// Yes if all candidates have one value of the next bracket, which is known, and is not better than a quality says
+    /// (C.7). A no says nothing.
+    #[tactic(auto, using(crate::proofs::NextAtAll::none_better_at_all))]
+    fn has_no_better_at_all(&self, quality: &Quality) -> bool
+        ensures { result ≡ true → OfEachHere self.now
+            (λ a. HasNoBetter (quality_here (context_of self.now) a) (next_in (quality_in quality.now))) }
+    {
+        match &self.so_far.pass.next {
+            Some(value) => value.is_no_better_than(quality),
+            None => false,
+        }
+    }
+
+    /// Yes if C.7 needs no further look: the weights tell of the next bracket, all candidates have one value of it that
+    /// is not better than a quality says, or by counts no candidate with a beginning has a better one.
     fn knows_next(&self, prefix: &Prefix<'_>, quality: &Quality) -> bool
         ensures { result ≡ true
             → OfEach self.now prefix.now (HasNoBetterNext self.now (next_in (quality_in quality.now))) }
     {
         match self.weights {
             Some(weights) if weights.counts_next() => true,
-            _ => self.has_no_better_next(prefix, quality),
+            _ => self.has_no_better_at_all(quality) || self.has_no_better_next(prefix, quality),
         }
     }
 

@@ -88,6 +88,7 @@ fn first_pass<'a>(
         shaped: asked.shaped,
         wish: asked.wish,
         target: room.no_target(asked.shaped.context.alloc())?,
+        next: None,
     };
     if state.guide.fill_target(&None, &mut *state.work) {
         pass.target.keep(&state.work.room.quality);
