@@ -6,10 +6,10 @@
 // how; where there is nothing in brackets, no measurement was kept. There it also stands how many reports are decided
 // with all of them.
 //
-// Three stand elsewhere. `LOOKS_IN_A_STEP` is in `found.rt` of `cheapest`, which does not see this crate (a question of a
+// Five stand elsewhere. `LOOKS_IN_A_STEP` is in `found.rt` of `cheapest`, which does not see this crate (a question of a
 // matching takes a tenth of a microsecond, and a step of a walk from a fifth of one to three). `MOST` is in
-// `remembered.rt` of `dutch_passes`: clauses say that 64 values of C.7 are kept. `MOST_STEPS` of a turn is in `guide.rt`
-// of `dutch_search`.
+// `remembered.rt` of `dutch_passes`: clauses say that 64 values of C.7 are kept. `TOGETHER` and `FEW` of the first passes
+// are in `passes.rt` of that crate. `MOST_STEPS` of a turn is in `guide.rt` of `dutch_search`.
 
 /// Steps for each player: of a search for completion, and of a listing for a shape, before a matching is asked. They
 /// decide nearly all of both. With fewer, a matching is made where the listing would soon end; with more, a listing
@@ -23,9 +23,9 @@ pub const FIRST_STEPS: u64 = 64;
 pub const CUBE_DIVISOR: u64 = 1024;
 
 /// Steps of the first passes, without weights: so many for each player, and so many for each player with each. They
-/// decide most brackets. With fewer, more brackets are weighed; with more, a hard one is weighed later. (With one for
-/// each player with each, two more of 237 hard reports were decided in 1,000,000 steps, but one of 400 players took ten
-/// times as long.)
+/// decide most brackets. With fewer, more brackets are weighed; with more, a hard one is weighed later. (They are asked
+/// for few players at once. When they were asked for whole brackets, one for each player with each decided two more of
+/// 237 hard reports in 1,000,000 steps, but one of 400 players took ten times as long.)
 const PASS_STEPS: u64 = 128;
 
 const PASS_STEPS_WITH_EACH: u64 = 2;
