@@ -14,8 +14,9 @@
 //! all others, and for each pair to begin with; not where a single pair is asked about again.
 //!
 //! The graph may say which vertices are alike (`Costs::class`). Then the first labels come from a transport between the
-//! classes, and fewer searches are left. Whatever it says, it changes only how long that takes, and which of several
-//! cheapest matchings is found.
+//! classes, and fewer searches are left. It may also say from where on each vertex looks for its first partner
+//! (`Costs::looks_from`). Then, as far as that is easy, each vertex in turn has the first partner that it can have.
+//! Whatever it says, it changes only how long that takes, and which of several cheapest matchings is found.
 //!
 //! What is proved of both: the search is safe and ends; it gives no step back, and says that it was stopped only where
 //! none is left; what it hands out is a matching of the graph, with a potential and a label for each vertex, and a mark
