@@ -25,7 +25,7 @@ use dutch_bracket::spending::at_most;
 use dutch_bracket::tuning::first_pass_steps;
 use dutch_candidates::greatest::Lister;
 use dutch_candidates::narrowed::NarrowedRule;
-use dutch_candidates::wish::is_wished;
+use dutch_candidates::wish::{Wish, is_wished};
 use dutch_choice::start::Start;
 use dutch_completion::eligible::can_be_chosen;
 
@@ -38,9 +38,13 @@ const TOGETHER: usize = 32;
 // million steps, where the next one had 600 to 980.)
 const FEW: usize = 12;
 
-/// How many steps passes make before the pairs of a bracket are weighed.
-fn steps_at_first(context: &Context<'_>) -> u64 {
+/// How many steps passes make before the pairs of a bracket are weighed. (Where something is wished, few candidates are
+/// left, and a bracket counts whole: 960 players before round 1 took eighteen times as long otherwise.)
+fn steps_at_first(context: &Context<'_>, wish: Option<Wish>) -> u64 {
     let count = context.len();
+    if wish.is_some() {
+        return first_pass_steps(count);
+    }
     let brackets = (count / TOGETHER) as u64 + 1;
     let steps = first_pass_steps(count.min(TOGETHER)).saturating_mul(brackets);
     if count <= FEW {
@@ -354,7 +358,7 @@ pub fn best_in_time<G: Guide>(
         (λ _. budget.new.used ≡ budget.new.limit) }
     ensures spends { Spends budget.old budget.new }
 {
-    let few = steps_at_first(pass.shaped.context);
+    let few = steps_at_first(pass.shaped.context, pass.wish);
     if best_within(pass, search, few, budget)? {
         return Ok(());
     }
