@@ -23,9 +23,9 @@ pub const FIRST_STEPS: u64 = 64;
 pub const CUBE_DIVISOR: u64 = 1024;
 
 /// Steps of the first passes, without weights: so many for each player, and so many for each player with each. They
-/// decide most brackets. With fewer, more brackets are weighed; with more, a hard one is weighed later. (They are asked
-/// for few players at once. When they were asked for whole brackets, one for each player with each decided two more of
-/// 237 hard reports in 1,000,000 steps, but one of 400 players took ten times as long.)
+/// decide most brackets. With fewer, more brackets are weighed; with more, a hard one is weighed later. (Where nothing is
+/// wished, they are asked for few players at once. When they were asked for whole brackets, one for each player with each
+/// decided two more of 237 hard reports in 1,000,000 steps, but one of 400 players took ten times as long.)
 const PASS_STEPS: u64 = 128;
 
 const PASS_STEPS_WITH_EACH: u64 = 2;

@@ -1,7 +1,7 @@
 // The choice among the candidates of a shape (C.04.3 B.8): the first of them that none is better than, by passes over a
 // listing that keep the best candidate so far. A guide draws the candidates, and may pass over some. The passes first
-// have few steps. If these do not suffice, the pairs of the bracket are weighed, and then those of the next bracket too
-// (C.7).
+// have few steps. If these do not suffice, the pairs of the bracket are weighed, with those of the next bracket where the
+// candidates differ in it (C.7).
 ghost use Rattle.std.specs.Prelude.{◌≡◌, None, IfSome, true};
 ghost use Rattle.std.specs.Option.{MatchOption};
 ghost use Rattle.std.specs.Result.{MatchResult};
