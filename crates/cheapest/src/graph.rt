@@ -33,6 +33,12 @@ pub trait Costs {
     fn class(&self, a: u16) -> Self::Class
         requires { a < vertices self.now };
 
+    /// Yes if all joined vertices of the same two classes cost the same, and so does leaving over each vertex of a class
+    /// that is joined to some. Then one pair of two classes tells what all their pairs gain. Nothing is said of it: it
+    /// changes only how long a search takes. But if it is wrong to say yes, what is found need not be cheapest, and its
+    /// certificate is none.
+    fn costs_by_class(&self) -> bool;
+
     /// Where a vertex begins to look for its first partner: with the vertex of this number, and then with those behind it.
     /// Nothing is said of it: it changes only how long a search takes, and which of several cheapest matchings is found.
     fn looks_from(&self, a: u16) -> u16

@@ -14,9 +14,12 @@
 //! all others, and for each pair to begin with; not where a single pair is asked about again.
 //!
 //! The graph may say which vertices are alike (`Costs::class`). Then the first labels come from a transport between the
-//! classes, and fewer searches are left. It may also say from where on each vertex looks for its first partner
-//! (`Costs::looks_from`). Then, as far as that is easy, each vertex in turn has the first partner that it can have.
-//! Whatever it says, it changes only how long that takes, and which of several cheapest matchings is found.
+//! classes, and fewer searches are left. It may say that costs go by class (`Costs::costs_by_class`). Then one pair of
+//! each two classes is asked about for the transport, and not all of them. It may also say from where on each vertex
+//! looks for its first partner (`Costs::looks_from`). Then, as far as that is easy, each vertex in turn has the first
+//! partner that it can have. Whatever it says, it changes only how long that takes, and which of several cheapest
+//! matchings is found. But who says that costs go by class where they do not may get a matching that is not cheapest;
+//! its certificate is none then.
 //!
 //! What is proved of both: the search is safe and ends; it gives no step back, and says that it was stopped only where
 //! none is left; what it hands out is a matching of the graph, with a potential and a label for each vertex, and a mark

@@ -96,15 +96,34 @@ impl<C: Costs> Forest<'_, C> {
         Ok(())
     }
 
-    // Notes in a transport what a vertex gains with all behind it, with a step for each.
+    // Notes in a transport what a pair gains, with a step.
+    fn note_gain(
+        &self,
+        pair: (u16, u16),
+        transport: &mut Transport,
+        left: &mut u64,
+    ) -> Result<(), Fault>
+        ensures falls { left.new ≤ left.old }
+        ensures stopped { IfErr result (λ fault. fault ≡ Stopped → left.new ≡ 0) }
+    {
+        take_step(left)?;
+        let (a, b) = pair;
+        if let Some(gain) = self.gains.of(a, b) {
+            transport.note_pair(a, b, gain);
+        }
+        Ok(())
+    }
+
+    // Notes in a transport what a vertex gains with all behind it, with a step for each that is asked about. Where costs
+    // go by class, a gain that is known of two classes is that of all their pairs.
     fn note_gains_of(&self, a: u16, transport: &mut Transport, left: &mut u64) -> Result<(), Fault>
         ensures falls { left.new ≤ left.old }
         ensures stopped { IfErr result (λ fault. fault ≡ Stopped → left.new ≡ 0) }
     {
+        let by_class = self.gains.costs.costs_by_class();
         for b in a..self.size {
-            take_step(left)?;
-            if let Some(gain) = self.gains.of(a, b) {
-                transport.note_pair(a, b, gain);
+            if !(by_class && transport.knows_pair(a, b)) {
+                self.note_gain((a, b), transport, left)?;
             }
         }
         Ok(())

@@ -144,6 +144,12 @@ impl Transport {
         self.note(other, one, gain);
     }
 
+    /// Whether it is known that joined vertices of the classes of two vertices gain something.
+    pub(crate) fn knows_pair(&self, a: u16, b: u16) -> bool {
+        let place = self.place(self.by_vertex.of(a), self.by_vertex.of(b));
+        self.gains.at(place).is_some()
+    }
+
     /// The label of a vertex: half of what the row and the column of its class have. So no two joined vertices gain more
     /// than their labels.
     pub(crate) fn label(&self, v: u16) -> Result<Wide, Fault>

@@ -7,4 +7,5 @@ pub mod Barriers
 pub mod Witnesses
 pub mod FloorLemmas
 pub mod AgainLemmas
+pub mod ClassLemmas
 pub mod WideTableLemmas

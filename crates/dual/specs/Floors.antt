@@ -75,3 +75,13 @@ abbrev pub AreAsBefore : List Bool → Costs → Costs → Type 0
 AreAsBefore turned before now =
     (a b : ℕ) → is_marked turned a ≡ false → is_marked turned b ≡ false → now.meets a b ≡ true
     → (before.meets a b ≡ true) × (now.weight a b ≡ before.weight a b)
+
+-- the class of a player; past the end of the classes each is in a class of their own [with WeighByClass]
+abbrev pub class_of : List ℕ → ℕ → ℕ
+class_of classes v = slice_index_or classes v (65536 + v)
+
+-- players of one class weigh the same with players of one class [own]
+abbrev pub WeighByClass : (ℕ → Type 0) → Costs → List ℕ → Type 0
+WeighByClass knows costs classes =
+    (u v a b : ℕ) → knows u → knows v → knows a → knows b → class_of classes u ≡ class_of classes a → class_of classes v ≡ class_of classes b
+    → costs.weight u v ≡ costs.weight a b

@@ -3,6 +3,7 @@ pub mod Duals
 pub mod Tables
 pub mod Floors
 pub mod Checks
+pub mod Kinds
 pub mod Barriers
 pub mod Counts
 pub mod WideTables

@@ -34,7 +34,7 @@ pub struct Before<'b, R> {
     pub turned: &'b [bool],
 }
 
-/// A floor, and how many ordered pairs were asked about for it.
+/// A floor, and how many ordered pairs were asked about for it: of how many the weight was asked for.
 #[derive(Drop)]
 pub struct Remade {
     pub floor: Floor,

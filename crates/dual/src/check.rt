@@ -24,10 +24,10 @@ use std::alloc::{AllocError, Global};
 
 // The row of a player: where it begins, and the sets that have the player.
 #[derive(Drop)]
-struct Row<'a> {
-    player: u16,
-    start: usize,
-    sets: Vec<&'a MarkedSet>,
+pub(crate) struct Row<'a> {
+    pub player: u16,
+    pub start: usize,
+    pub sets: Vec<&'a MarkedSet>,
 }
 
 impl Row<'_> {
@@ -93,7 +93,8 @@ pub(crate) fn size_for(players: &[u16]) -> usize
 }
 
 impl CertificateTable {
-    fn row(&self, alloc: Global, player: u16, size: usize) -> Result<Row<'_>, AllocError>
+    // The row of a player in a square of so many.
+    pub(crate) fn row(&self, alloc: Global, player: u16, size: usize) -> Result<Row<'_>, AllocError>
         requires { size ≤ MOST }
         ensures player { IfOk result (λ row. row.player ≡ player) }
         ensures start { IfOk result (λ row. row.start ≡ player * size) }
@@ -113,7 +114,7 @@ impl CertificateTable {
     }
 
     // What a pair of the row's player could bear beyond its potentials; none if it cannot bear them.
-    fn slack<R: MatchingRule>(&self, rule: &R, row: &Row<'_>, v: u16) -> Option<Wide>
+    pub(crate) fn slack<R: MatchingRule>(&self, rule: &R, row: &Row<'_>, v: u16) -> Option<Wide>
         requires first { R.knows rule.now row.now.player }
         requires second { R.knows rule.now v }
         requires sets { (v : ℕ) → sum_by (λ set. toll_of v set.now) row.now.sets.items

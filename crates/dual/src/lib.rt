@@ -11,7 +11,9 @@
 //!
 //! Where nearly the same certificate was checked `Before`, for nearly the same rule, `CertificateTable::floor_again` and
 //! `CertificateTable::floor_for_any_again` make such floors too. They ask only about pairs of players of whom something
-//! is another thing than before, and copy the other slacks.
+//! is another thing than before, and copy the other slacks. Where players of one class weigh the same,
+//! `CertificateTable::floor_by_class` and `CertificateTable::floor_for_any_by_class` ask for one weight of each two kinds
+//! of players alone.
 //!
 //! Nothing here knows chess: a `MatchingRule` of the caller says, by numbers, who may meet and who may be left over,
 //! and at what cost; a certificate is checked for a `Pool` of players and their rule. Only a floor takes memory: four
@@ -24,6 +26,7 @@
 
 mod again;
 mod barrier;
+mod by_class;
 mod check;
 mod floor;
 mod half;

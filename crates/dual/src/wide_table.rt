@@ -186,6 +186,15 @@ impl WideTable {
         }
     }
 
+    /// Writes at a place the number of another one.
+    pub fn repeat(&mut self, place: usize, from: usize)
+        requires place { place < length self.old }
+        requires from { from < length self.old }
+        ensures { self.new ≡ slice_set self.old place (slice_index_or self.old from 0) }
+    {
+        self.indices[place] = self.indices[from];
+    }
+
     /// Writes the number of a place. If memory is refused, or 2^32 numbers are kept, the table stays as it was.
     pub fn set(&mut self, place: usize, number: Wide) -> Result<(), AllocError>
         requires { place < length self.old }

@@ -245,6 +245,12 @@ impl Costs for Players<'_> {
         }
     }
 
+    // (of the bracket's players only two who were moved down may meet and yet be no pair of it; and lower players are in
+    // none. The vertex 0 is joined to nobody)
+    fn costs_by_class(&self) -> bool {
+        true
+    }
+
     // (a shape tells nobody's partner, so nobody begins anywhere)
     fn looks_from(&self, _a: u16) -> u16 {
         self.size()

@@ -7,6 +7,7 @@ ghost use Rattle.std.specs.Result.{MatchResult};
 ghost use Rattle.dutch_arrangements.specs.Prelude.{MatchStep, Spends};
 ghost use Rattle.dutch_passes.specs.Prelude.{Draws, ListsFor, PassesPruned, target_in, incumbent_in};
 ghost use Rattle.dutch_search.specs.Searching.{AreFor};
+ghost use Rattle.dutch_sequence.specs.declared.numbers.TheConstants.{LIMIT};
 ghost use Rattle.dutch_weight_floors.specs.Prelude.{HasBar};
 
 use crate::bars::bars_of;
@@ -23,6 +24,7 @@ use dutch_listing::BoundWithRoom;
 use dutch_passes::{Guide, PassSoFar, Workroom};
 use dutch_weight_floors::asking::{Bars, FloorRequest};
 use dutch_weight_floors::weight_floor::WeightFloors;
+use std::alloc::AllocError;
 
 // The most steps of a turn. With fewer, walks take more time for as many steps; with more, they go on far beyond the
 // witness before a floor is asked for.
@@ -120,6 +122,17 @@ fn steps_after(steps: u64, asked: u64) -> u64 {
     }
 }
 
+/// How many pairs were weighed of a bracket of so many players: one of each two classes; where there are no weights, all
+/// may have been.
+fn pairs_weighed(weighed: &Result<Option<WeightFloors<'_>>, AllocError>, count: usize) -> u64
+    requires { count ≤ LIMIT }
+{
+    match weighed {
+        Ok(Some(weights)) => weights.pairs_of_classes(),
+        _ => (count * count) as u64,
+    }
+}
+
 /// Counts the steps of a turn, up to the limit.
 fn count(turn: &Budget, budget: &mut Budget)
     ensures counts { budget.new.used ≡ min (budget.old.used + turn.now.used) budget.old.limit }
@@ -201,13 +214,16 @@ impl<'a> Guide for BothFloors<'a> {
         budget: &mut Budget,
     ) -> Result<bool, Stopped> {
         let (context, shape) = (self.shaped.context, self.shaped.shape);
-        let count = context.len();
         // (weights are large: the ones before are dropped first)
         *self.weights = None;
         if is_weighed(context, next) {
-            spend((count * count) as u64 / LOOKS_IN_A_STEP, budget)?;
+            let weighed = WeightFloors::weigh(context, shape, wish, next);
+            spend(
+                pairs_weighed(&weighed, context.len()) / LOOKS_IN_A_STEP,
+                budget,
+            )?;
             // (where memory is refused or a weight does not fit, no floors are found)
-            if let Ok(Some(weights)) = WeightFloors::weigh(context, shape, wish, next) {
+            if let Ok(Some(weights)) = weighed {
                 return self.weigh_by(weights, work, budget);
             }
         }

@@ -3,5 +3,7 @@ pub mod WrittenNumbers
 pub mod C06ToC19Weights
 pub mod CandidateMatchings
 pub mod C07NextMatchings
+pub mod AlikePairs
+pub mod SameClasses
 pub mod PairPlaces
 pub mod WeighingLemmas

@@ -27,3 +27,19 @@ pub next_row : (n x : ℕ) → 0 < x → place_of n x 1 + n ≡ n * x
 next_row n x some =
     let up : (x - 1 + 1) * n ≡ x * n = ap (λ k. k * n) (let e : x - 1 + 1 ≡ x = omega arith in e) in
     omega (arith, up, mul_comm n x)
+
+-- a pair of two who are no greater stands before another one, unless it is the same one
+pub before : (n x y f g : ℕ) → (0 < x) × (x ≤ n) → (0 < y) × (y ≤ n) → (0 < f) × (f ≤ x) → (0 < g) × (g ≤ y) → ¬ ((f ≡ x) × (g ≡ y))
+    → place_of n f g < place_of n x y
+before n x y f g p q u v other =
+    elim (cases_lt (f - 1) (x - 1)) [
+      | inl lt ↦ let le = row n (f - 1) (x - 1) lt in omega (arith, le)
+      | inr ge ↦
+          let same : f ≡ x = omega arith in
+          let rows : (f - 1) * n ≡ (x - 1) * n = ap (λ k. (k - 1) * n) same in
+          let lt : g < y = elim (cases_lt (g - 1) (y - 1)) [
+            | inl lt ↦ omega (arith, lt)
+            | inr le ↦ absurd (other (same, omega arith))
+          ] in
+          omega (arith, rows, lt)
+    ]

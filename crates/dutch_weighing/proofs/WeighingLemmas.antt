@@ -1,14 +1,16 @@
 -- Tables of weights that are filled place by place.
-use Rattle.std.proofs.Common.{◌≡◌, ℕ, Bool, ◌+◌, ◌-◌, ◌*◌, ◌<◌, ◌≤◌, List, [], length, get_or, set, Option, None, MatchOption}
+use Rattle.std.proofs.Common.{◌≡◌, ℕ, Bool, ◌+◌, ◌-◌, ◌*◌, ◌<◌, ◌≤◌, List, [], ◌∷◌, ◌++◌, length, get_or, set, Option, None, MatchOption}
 use Rattle.std.proofs.Common.{inl, inr, refl, sym, ap, subst, ◌∙◌, arith}
-use Rattle.std.proofs.lemmas.Bool.{cases_eq}
-use Rattle.std.proofs.lemmas.List.{get_or-set_other, get_or-set_same}
+use Rattle.std.proofs.lemmas.Bool.{cases_eq, cases_lt}
+use Rattle.std.proofs.lemmas.List.{get_or_append_left, get_or_push, get_or-set_other, get_or-set_same}
 use Rattle.dutch_player.specs.Prelude.{Facts}
 use Rattle.dutch_bracket.specs.Prelude.{no_value, NextValue, quality_with, numbers_meet, Seated}
 use Rattle.dutch_weighing.specs.Prelude.{Scale, Weighing, weight_with, HasPairs, IsNumber, TellsBelowUpto, TellsPairsUpto, TellsUpto, next_weight_of, pair_weight, place_in}
 use Rattle.dutch_weighing.specs.declared.weighing.NextWeight.{NextWeight}
 use Rattle.dutch_weighing.specs.declared.weighing.PairTable.{PairTable}
-use Rattle.dutch_weighing.proofs.PairPlaces.{inside, same_place}
+use Rattle.dutch_weighing.specs.Classes.{IsFirstFor, TellsFirstsUpto}
+use Rattle.dutch_weighing.proofs.AlikePairs.{same_weight}
+use Rattle.dutch_weighing.proofs.PairPlaces.{before, inside, same_place}
 
 -- what is said of the next bracket has no part in what weighs without it
 pub next_is_pruned : (scale : Scale) (facts : Facts) (seated : Seated) (next : NextValue)
@@ -61,6 +63,27 @@ module _ (w : Weighing) where
     told_by (numbers_meet w.facts w.reached) old.meets.items new.meets.items x y at meets same are
         (told_more (numbers_meet w.facts w.reached) old.meets.items x y meets p q room.1 may told.1),
   )
+
+  -- what the first two of the classes of a pair weigh, who stand in a table before it, is what the pair weighs
+  pub stands_before : (table : PairTable) (x y f g : ℕ) → IsNumber w.reached x → IsNumber w.reached y → IsFirstFor w x f → IsFirstFor w y g
+      → ¬ ((f ≡ x) × (g ≡ y)) → TellsPairsUpto w table (place_in w x y)
+      → get_or table.weights (place_in w f g) 0 ≡ pair_weight w x y
+  stands_before table x y f g p q first second other told =
+      told.0 f g 0 (first.0, omega (arith, first.1.0, p.1)) (second.0, omega (arith, second.1.0, q.1))
+      (before (length w.reached.seats) x y f g p q (first.0, first.1.0) (second.0, second.1.0) other)
+      ∙ same_weight w x y f g first.1.1 second.1.1
+
+  -- one number more of which a first one of its class is told
+  pub one_first_more : (list : List ℕ) (first : ℕ) → TellsFirstsUpto w list (length list) → IsFirstFor w (length list + 1) first
+      → TellsFirstsUpto w (list ++ first ∷ []) (length list + 1)
+  one_first_more list first told is a some upto =
+      elim (cases_lt (a - 1) (length list)) [
+        | inl lt ↦ subst (IsFirstFor w a) (sym (get_or_append_left list (first ∷ []) 0 (a - 1) lt)) (told a some (omega (arith, lt)))
+        | inr ge ↦
+            let here : length list + 1 ≡ a = omega (arith, some, upto, ge) in
+            let at : first ≡ get_or (list ++ first ∷ []) (a - 1) 0 = sym (ap (λ (i : ℕ). get_or (list ++ first ∷ []) (i - 1) 0) (sym here) ∙ get_or_push list first 0 (length list + 1 - 1) (omega arith)) in
+            subst (IsFirstFor w a) at (subst (λ (i : ℕ). IsFirstFor w i first) here is)
+      ]
 
 -- a table that tells of the first numbers, of the bracket or below, with one more put at its place
 pub one_more_below : (w : Weighing) (table : List NextWeight) (end : ℕ) (value : NextWeight) → end < length table

@@ -6,6 +6,7 @@
 //! memory is refused, there are no weights.
 #![tactic(auto)]
 
+mod classes;
 mod scale;
 mod weighing;
 

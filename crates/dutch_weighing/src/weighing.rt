@@ -2,14 +2,16 @@
 // in the next bracket, where that is measured (C.7), worked out once for all certificates of the bracket. As a rule few
 // weights of pairs are distinct, since they depend on scores, preferences and floats: so each is kept once.
 ghost use Rattle.std.specs.Prelude.{◌≡◌, ◌+◌, ◌*◌, ◌<◌, ◌≤◌, ◌^◌, true, false, [], ◌∷◌, IfOk, MatchOption, OnOk, is_some};
-ghost use Rattle.std.specs.Prelude.{length, slice_set};
+ghost use Rattle.std.specs.Prelude.{length, slice_index_or, slice_set};
 ghost use Rattle.std.specs.Option.{ForSome, SomeIff};
 ghost use Rattle.dutch_bracket.specs.declared.reached.BracketKind.TheVariants.{Ordinary};
 ghost use Rattle.dutch_bracket.specs.Prelude.{seated_so, no_value, numbers_meet, quality_with, seat_of, count_below};
 ghost use Rattle.dutch_weighing.specs.Weights.{weight_with};
+ghost use Rattle.dutch_weighing.specs.Classes.{IsFirstFor, TellsFirsts, class_of};
 ghost use Rattle.dutch_weighing.specs.WeightTables as tables;
 ghost use Rattle.dutch_sequence.specs.declared.numbers.TheConstants.{LIMIT};
 
+use crate::classes::{PlayerClass, class_at};
 use crate::scale::Scale;
 use dual::{Wide, WideTable};
 use dutch_arrangements::Rule;
@@ -34,6 +36,8 @@ pub struct Weighing<'a> {
     context: &'a Context<'a>,
     // (on the heap, as it is large)
     scale: Box<Scale>,
+    // of each number a first one of its class
+    firsts: Vec<u16>,
     pairs: PairTable,
     // of each number
     down: Vec<Wide>,
@@ -50,6 +54,7 @@ pub(crate) struct NextWeight {
 
 impl<'a> Model for Weighing<'a> {
     ghost use Rattle.dutch_weighing.specs.WeightTables.{HasAll, HasPairs, TellsBelow, TellsDown, TellsPairs};
+    ghost use Rattle.dutch_weighing.specs.Classes.{TellsFirsts};
     ghost use Rattle.dutch_weighing.specs.WeightTables.{weighed_on};
     ghost use Rattle.dutch_weighing.specs.Weights.{Weighing};
 
@@ -58,7 +63,8 @@ impl<'a> Model for Weighing<'a> {
     ghost view = { λ w. weighed_on w.context.now w.scale.value };
 
     ghost invariant = { λ w.
-        (HasPairs (weighed_on w.context.now w.scale.value) w.pairs
+        TellsFirsts (weighed_on w.context.now w.scale.value) w.firsts.items
+        × (HasPairs (weighed_on w.context.now w.scale.value) w.pairs
         × TellsPairs (weighed_on w.context.now w.scale.value) w.pairs)
         × (HasAll (weighed_on w.context.now w.scale.value) w.down.items
         × TellsDown (weighed_on w.context.now w.scale.value) w.down.items)
@@ -149,9 +155,57 @@ impl PairTable {
         self.meets[place] = meets;
         Ok(())
     }
+
+    /// Writes that the pair of a place weighs what that of another one does, and whether the two may meet.
+    fn repeat(&mut self, place: usize, from: usize, meets: bool)
+        requires weights { place < length self.old.weights }
+        requires meets { place < length self.old.meets.items }
+        requires from { from < length self.old.weights }
+        ensures room { (length self.new.weights ≡ length self.old.weights)
+            × (length self.new.meets.items ≡ length self.old.meets.items) }
+        ensures weight { self.new.weights
+            ≡ slice_set self.old.weights place (slice_index_or self.old.weights from 0) }
+        ensures meets { self.new.meets.items ≡ slice_set self.old.meets.items place meets }
+    {
+        self.weights.repeat(place, from);
+        self.meets[place] = meets;
+    }
 }
 
 impl Weigher<'_> {
+    /// The class of a number.
+    fn class(&self, number: u16) -> PlayerClass
+        ensures { result ≡ class_of self.now number }
+    {
+        class_at(self.context.field(), self.context.reached().seat(number))
+    }
+
+    /// The first number of the class of one.
+    fn first_for(&self, number: u16) -> u16
+        requires { tables.IsNumber self.now.reached number }
+        ensures { IsFirstFor self.now number result }
+    {
+        let class = self.class(number);
+        for before in 1..number {
+            if self.class(before) == class {
+                return before;
+            }
+        }
+        number
+    }
+
+    /// Of all numbers the first ones of their classes.
+    fn firsts(&self) -> Result<Vec<u16>, AllocError>
+        ensures { IfOk result (λ firsts. TellsFirsts self.now firsts.items) }
+    {
+        let count = self.context.len();
+        let mut firsts = Vec::with_capacity(self.context.alloc(), count)?;
+        for above in 0..count {
+            firsts.push(self.first_for(above as u16 + 1))?;
+        }
+        Ok(firsts)
+    }
+
     /// What a pair weighs alone; none if it is 2^1024 or more.
     fn pair(&self, a: u16, b: u16, room: &mut QualityLists) -> Option<Wide>
         ensures { SomeIff result (tables.pair_weight self.now a b < 2 ^ 1024) (tables.pair_weight self.now a b) }
@@ -176,69 +230,6 @@ impl Weigher<'_> {
         self.context.rule().may_meet(a, b)
     }
 
-    /// Puts what a pair weighs into a table, and whether the two may meet; no if it weighs 2^1024 or more.
-    fn put_pair(
-        &self,
-        pair: Pair,
-        room: &mut QualityLists,
-        table: &mut PairTable,
-    ) -> Result<bool, AllocError>
-        requires first { tables.IsNumber self.now.reached pair.0 }
-        requires second { tables.IsNumber self.now.reached pair.1 }
-        requires room { tables.HasPairs self.now table.old }
-        requires told { tables.TellsPairsUpto self.now table.old (tables.place_in self.now pair.0 pair.1) }
-        ensures room { tables.HasPairs self.now table.new }
-        ensures told { IfOk result (λ fits. fits ≡ true
-            → tables.TellsPairsUpto self.now table.new (tables.place_in self.now pair.0 pair.1 + 1)) }
-        ensures heavy { IfOk result (λ fits. fits ≡ false → tables.IsHeavy self.now (2 ^ 1024)) }
-    {
-        let (a, b) = pair;
-        let meets = self.may_meet(a, b);
-        let Some(weight) = self.pair(a, b, room) else {
-            return Ok(false);
-        };
-        table.put(place_of(self.context.len(), a, b), weight, meets)?;
-        Ok(true)
-    }
-
-    /// Puts what the pairs of a number weigh into a table.
-    fn put_row(
-        &self,
-        a: u16,
-        room: &mut QualityLists,
-        table: &mut PairTable,
-    ) -> Result<bool, AllocError>
-        requires number { tables.IsNumber self.now.reached a }
-        requires room { tables.HasPairs self.now table.old }
-        requires told { tables.TellsPairsUpto self.now table.old (tables.place_in self.now a 1) }
-        ensures room { tables.HasPairs self.now table.new }
-        ensures told { IfOk result (λ fits. fits ≡ true
-            → tables.TellsPairsUpto self.now table.new (length self.now.reached.seats * a)) }
-        ensures heavy { IfOk result (λ fits. fits ≡ false → tables.IsHeavy self.now (2 ^ 1024)) }
-    {
-        for b in 0..self.context.len() {
-            if !self.put_pair((a, b as u16 + 1), room, table)? {
-                return Ok(false);
-            }
-        }
-        Ok(true)
-    }
-
-    /// Puts what all pairs weigh into a table.
-    fn put_pairs(&self, room: &mut QualityLists, table: &mut PairTable) -> Result<bool, AllocError>
-        requires { tables.HasPairs self.now table.old }
-        ensures room { tables.HasPairs self.now table.new }
-        ensures told { IfOk result (λ fits. fits ≡ true → tables.TellsPairs self.now table.new) }
-        ensures heavy { IfOk result (λ fits. fits ≡ false → tables.IsHeavy self.now (2 ^ 1024)) }
-    {
-        for a in 0..self.context.len() {
-            if !self.put_row(a as u16 + 1, room, table)? {
-                return Ok(false);
-            }
-        }
-        Ok(true)
-    }
-
     /// Puts what all downfloaters weigh into a table.
     fn put_down(&self, room: &mut QualityLists, table: &mut [Wide]) -> bool
         requires { tables.HasAll self.now table.old }
@@ -252,6 +243,138 @@ impl Weigher<'_> {
             }
         }
         true
+    }
+}
+
+/// What weighs the pairs of a bracket, by a first number of each class.
+#[derive(Drop)]
+struct PairWeigher<'a> {
+    weigher: &'a Weigher<'a>,
+    firsts: &'a [u16],
+    ghost told: { TellsFirsts weigher.now firsts.now },
+}
+
+impl PairWeigher<'_> {
+    /// A first number of the class of one.
+    fn first(&self, number: u16) -> u16
+        requires { tables.IsNumber self.now.weigher.now.reached number }
+        ensures { IsFirstFor self.now.weigher.now number result }
+    {
+        self.firsts[usize::from(number) - 1]
+    }
+
+    /// Puts what a pair weighs into a table, and whether the two may meet; no if it weighs 2^1024 or more.
+    fn put_new(
+        &self,
+        pair: Pair,
+        room: &mut QualityLists,
+        table: &mut PairTable,
+    ) -> Result<bool, AllocError>
+        requires first { tables.IsNumber self.now.weigher.now.reached pair.0 }
+        requires second { tables.IsNumber self.now.weigher.now.reached pair.1 }
+        requires room { tables.HasPairs self.now.weigher.now table.old }
+        requires told { tables.TellsPairsUpto self.now.weigher.now table.old (tables.place_in self.now.weigher.now pair.0 pair.1) }
+        ensures room { tables.HasPairs self.now.weigher.now table.new }
+        ensures told { IfOk result (λ fits. fits ≡ true
+            → tables.TellsPairsUpto self.now.weigher.now table.new (tables.place_in self.now.weigher.now pair.0 pair.1 + 1)) }
+        ensures heavy { IfOk result (λ fits. fits ≡ false → tables.IsHeavy self.now.weigher.now (2 ^ 1024)) }
+    {
+        let (a, b) = pair;
+        let weigher = self.weigher;
+        let meets = weigher.may_meet(a, b);
+        let Some(weight) = weigher.pair(a, b, room) else {
+            return Ok(false);
+        };
+        table.put(place_of(weigher.context.len(), a, b), weight, meets)?;
+        Ok(true)
+    }
+
+    /// Puts into a table what a pair weighs, as the first two of its classes do, who stand there before it, and whether
+    /// the two may meet.
+    fn put_alike(&self, pair: Pair, firsts: Pair, table: &mut PairTable)
+        requires first { tables.IsNumber self.now.weigher.now.reached pair.0 }
+        requires second { tables.IsNumber self.now.weigher.now.reached pair.1 }
+        requires first_alike { IsFirstFor self.now.weigher.now pair.0 firsts.0 }
+        requires second_alike { IsFirstFor self.now.weigher.now pair.1 firsts.1 }
+        requires others { ¬ ((firsts.0 ≡ pair.0) × (firsts.1 ≡ pair.1)) }
+        requires room { tables.HasPairs self.now.weigher.now table.old }
+        requires told { tables.TellsPairsUpto self.now.weigher.now table.old
+            (tables.place_in self.now.weigher.now pair.0 pair.1) }
+        ensures room { tables.HasPairs self.now.weigher.now table.new }
+        ensures told { tables.TellsPairsUpto self.now.weigher.now table.new
+            (tables.place_in self.now.weigher.now pair.0 pair.1 + 1) }
+    {
+        let (a, b) = pair;
+        let weigher = self.weigher;
+        let count = weigher.context.len();
+        let from = place_of(count, firsts.0, firsts.1);
+        table.repeat(place_of(count, a, b), from, weigher.may_meet(a, b));
+    }
+
+    /// Puts what a pair weighs into a table, and whether the two may meet; no if it weighs 2^1024 or more. It is worked
+    /// out only for the first two of their classes.
+    fn put_pair(
+        &self,
+        pair: Pair,
+        room: &mut QualityLists,
+        table: &mut PairTable,
+    ) -> Result<bool, AllocError>
+        requires first { tables.IsNumber self.now.weigher.now.reached pair.0 }
+        requires second { tables.IsNumber self.now.weigher.now.reached pair.1 }
+        requires room { tables.HasPairs self.now.weigher.now table.old }
+        requires told { tables.TellsPairsUpto self.now.weigher.now table.old
+            (tables.place_in self.now.weigher.now pair.0 pair.1) }
+        ensures room { tables.HasPairs self.now.weigher.now table.new }
+        ensures told { IfOk result (λ fits. fits ≡ true → tables.TellsPairsUpto self.now.weigher.now table.new
+            (tables.place_in self.now.weigher.now pair.0 pair.1 + 1)) }
+        ensures heavy { IfOk result (λ fits. fits ≡ false → tables.IsHeavy self.now.weigher.now (2 ^ 1024)) }
+    {
+        let firsts = (self.first(pair.0), self.first(pair.1));
+        if firsts.0 == pair.0 && firsts.1 == pair.1 {
+            return self.put_new(pair, room, table);
+        }
+        self.put_alike(pair, firsts, table);
+        Ok(true)
+    }
+
+    /// Puts what the pairs of a number weigh into a table.
+    fn put_row(
+        &self,
+        a: u16,
+        room: &mut QualityLists,
+        table: &mut PairTable,
+    ) -> Result<bool, AllocError>
+        requires number { tables.IsNumber self.now.weigher.now.reached a }
+        requires room { tables.HasPairs self.now.weigher.now table.old }
+        requires told { tables.TellsPairsUpto self.now.weigher.now table.old (tables.place_in self.now.weigher.now a 1) }
+        ensures room { tables.HasPairs self.now.weigher.now table.new }
+        ensures told { IfOk result (λ fits. fits ≡ true
+            → tables.TellsPairsUpto self.now.weigher.now table.new (length self.now.weigher.now.reached.seats * a)) }
+        ensures heavy { IfOk result (λ fits. fits ≡ false → tables.IsHeavy self.now.weigher.now (2 ^ 1024)) }
+    {
+        let weigher = self.weigher;
+        for b in 0..weigher.context.len() {
+            if !self.put_pair((a, b as u16 + 1), room, table)? {
+                return Ok(false);
+            }
+        }
+        Ok(true)
+    }
+
+    /// Puts what all pairs weigh into a table.
+    fn put_pairs(&self, room: &mut QualityLists, table: &mut PairTable) -> Result<bool, AllocError>
+        requires { tables.HasPairs self.now.weigher.now table.old }
+        ensures room { tables.HasPairs self.now.weigher.now table.new }
+        ensures told { IfOk result (λ fits. fits ≡ true → tables.TellsPairs self.now.weigher.now table.new) }
+        ensures heavy { IfOk result (λ fits. fits ≡ false → tables.IsHeavy self.now.weigher.now (2 ^ 1024)) }
+    {
+        let weigher = self.weigher;
+        for a in 0..weigher.context.len() {
+            if !self.put_row(a as u16 + 1, room, table)? {
+                return Ok(false);
+            }
+        }
+        Ok(true)
     }
 }
 
@@ -343,14 +466,17 @@ impl BelowWeigher<'_> {
 fn weigh_pairs(
     alloc: Global,
     weigher: &Weigher<'_>,
+    firsts: &[u16],
     room: &mut QualityLists,
 ) -> Result<Option<PairTable>, AllocError>
+    requires { TellsFirsts weigher.now firsts.now }
     ensures { IfOk result (λ weighed. MatchOption weighed (tables.IsHeavy weigher.now (2 ^ 1024))
         (λ table. tables.HasPairs weigher.now table × tables.TellsPairs weigher.now table)) }
 {
     let count = weigher.context.len();
     let mut table = PairTable::new(alloc, count * count)?;
-    if weigher.put_pairs(room, &mut table)? {
+    let pairs = PairWeigher { weigher, firsts };
+    if pairs.put_pairs(room, &mut table)? {
         Ok(Some(table))
     } else {
         Ok(None)
@@ -416,7 +542,8 @@ impl<'a> Weighing<'a> {
             context: &*context,
             scale: &scale,
         };
-        let Some(pairs) = weigh_pairs(context.alloc(), &weigher, &mut room)? else {
+        let firsts = weigher.firsts()?;
+        let Some(pairs) = weigh_pairs(context.alloc(), &weigher, &firsts, &mut room)? else {
             return Ok(None);
         };
         let Some(down) = weigh_down(context.alloc(), &weigher, &mut room)? else {
@@ -428,6 +555,7 @@ impl<'a> Weighing<'a> {
         Ok(Some(Weighing {
             context,
             scale: Box::new(context.alloc(), scale)?,
+            firsts,
             pairs,
             down,
             next,
@@ -439,6 +567,23 @@ impl<'a> Weighing<'a> {
         ensures { result.now ≡ self.now.scale }
     {
         &*self.scale
+    }
+
+    /// A first number of the class of one: it weighs the same in each pair.
+    pub fn first_alike(&self, number: u16) -> u16
+        requires { tables.IsNumber self.now.reached number }
+        ensures { IsFirstFor self.now number result }
+    {
+        self.firsts[usize::from(number) - 1]
+    }
+
+    /// How many ordered pairs of classes there are: so many weights were worked out.
+    pub fn pairs_of_classes(&self) -> u64 {
+        let firsts = self.firsts.iter().enumerate();
+        let count = firsts
+            .filter(|(above, first)| usize::from(**first) == above + 1)
+            .count() as u64;
+        count * count
     }
 
     /// The bracket.

@@ -6,5 +6,6 @@ pub mod WeightsBehind
 pub mod ScopedMatchings
 pub mod C04Lower
 pub mod C07NextWeights
+pub mod AlikeNumbers
 pub mod OtherScopes
 pub mod KeptFloors

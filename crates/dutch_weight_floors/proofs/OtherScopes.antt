@@ -52,7 +52,7 @@ same_or : (t : Bool) (x y : ℕ) → x ≡ y → cond t x y ≡ y
 same_or true x y same = same
 same_or false x y same = refl
 
-none_with : (order : Order) → AddsNothing order → (mdps a b n : ℕ) → with_order mdps order a b n ≡ n
+pub none_with : (order : Order) → AddsNothing order → (mdps a b n : ℕ) → with_order mdps order a b n ≡ n
 none_with order none mdps a b n =
     same_or (nat_lt mdps a && nat_lt mdps b) (with_lesser order n a b) n
     (same_or (nat_lt (n + lesser order a b) (2 ^ 1024)) (n + lesser order a b) n (omega (arith, none a, none b)))

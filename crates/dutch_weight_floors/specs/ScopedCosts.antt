@@ -1,7 +1,7 @@
 -- What pairs and downfloaters weigh in the arrangements of a bracket that a floor is for (C.04.3 B.3, B.6, B.7), also where those who go down
 -- are paired out with all lower players (C.4), or meet the next lower scoregroup (C.7). Where something is wished, the bracket's pairs and
 -- those left over fit it. What bounds the choice by beginnings stands on these; a reader of its promise may pass them by.
-use Rattle.std.specs.Prelude.{◌≡◌, ℕ, ◌+◌, ◌-◌, ◌^◌, ◌%◌, ◌<◌, ◌≤◌, [], length, min, Bool, true, false, ◌&&◌, ◌||◌, not, ◌==◌, if◌then◌else◌, nat_lt, nat_le, List, ◌++◌, slice_index_or, is_some, Option}
+use Rattle.std.specs.Prelude.{◌≡◌, ℕ, ◌+◌, ◌-◌, ◌^◌, ◌%◌, ◌<◌, ◌≤◌, [], length, min, Bool, true, false, ◌&&◌, ◌||◌, not, ◌==◌, if◌then◌else◌, nat_lt, nat_le, List, ◌++◌, slice_index, slice_index_or, is_some, Option}
 use Rattle.dual.specs.Prelude.{FloorTable, IsFloor, Costs, is_marked}
 use Rattle.dutch_arrangements.specs.Prelude.{numbers_from}
 use Rattle.dutch_player.specs.Prelude.{may_meet}
@@ -13,7 +13,7 @@ use Rattle.dutch_weight_floors.specs.Orders.{AddsNothing, Order, with_lesser}
 use Rattle.dutch_weight_floors.specs.Scopes.{Scope, is_joined, is_within, may_stay, standing_of}
 use Rattle.dutch_bracket.specs.Prelude.{seat_of, seats_meet, seats_may_be_left, count_below, seat_below}
 use Rattle.dutch_candidates.specs.Wishes.{fits_as_left, fits_as_pair}
-use Rattle.dutch_weighing.specs.Prelude.{Scale, Weighing, weighing, alone_weight, met_weight}
+use Rattle.dutch_weighing.specs.Prelude.{Scale, Weighing, weighing, alone_weight, class_of, met_weight}
 
 -- a bracket whose pairs are weighed, a scope of its arrangements, what is wished of them, over whom their matchings go, and what is added to
 -- pairs of residents [own]
@@ -184,6 +184,19 @@ KeepsPairs Next before now = is_within before now ≡ true
 -- who has no mark keeps his pairs
 abbrev pub MarkTurned : List Bool → Scoped → Scoped → Type 0
 MarkTurned turned before now = (a : ℕ) → is_marked turned a ≡ false → KeepsPairs now.reach (side_in before a) (side_in now a)
+
+-- ---- who weighs alike
+
+-- two weigh alike: both are of the bracket and of one class, or neither is; and where the next lower scoregroup is measured, both weigh the
+-- same as ones who meet there
+pub record WeighAlike (s : Scoped) (a b : ℕ) : Type 0 where
+  pub inside : is_inside s a ≡ is_inside s b
+  pub class : is_inside s a ≡ true → class_of s.weighing a ≡ class_of s.weighing b
+  pub met : s.reach ≡ Next → met_weight s.weighing a ≡ met_weight s.weighing b
+
+-- classes by number: each number is named by one who weighs alike
+abbrev pub TellAlike : Scoped → List ℕ → ℕ → Type 0
+TellAlike s classes end = (a : ℕ) → 0 < a → a < end → WeighAlike s a (slice_index classes a)
 
 -- ---- floors of the matchings
 

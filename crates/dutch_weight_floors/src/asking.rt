@@ -225,7 +225,7 @@ impl<'a> WeightFloors<'a> {
             wish: self.wish,
         };
         let scoped = Scoped::new(&self.weighing, sought, self.reach(), order);
-        let Ok(graph) = UnpairedGraph::beside(&scoped, &self.alike, request.pairs, left_over) else {
+        let Ok(graph) = UnpairedGraph::beside(&scoped, request.pairs, left_over) else {
             return Ok(None);
         };
         let alloc = self.weighing.context().alloc();

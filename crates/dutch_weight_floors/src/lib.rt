@@ -6,7 +6,6 @@
 //! few certificates, and a matching while it is looked for; if memory is refused, there is no floor.
 #![tactic(auto)]
 
-mod alike;
 pub mod asking;
 mod certificate_table;
 mod order;

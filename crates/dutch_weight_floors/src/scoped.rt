@@ -9,15 +9,15 @@
 //
 // Where something is wished, a matching has only such pairs of the bracket, and leaves over only such players, as fit
 // the wish. So the floor is for candidates that grant it.
-ghost use Rattle.std.specs.Prelude.{◌≡◌, ◌+◌, ◌<◌, ◌≤◌, ◌^◌, true, All, IfOk, IfSome, length, min, slice_index};
+ghost use Rattle.std.specs.Prelude.{◌≡◌, ◌≢◌, ◌+◌, ◌<◌, ◌≤◌, ◌^◌, true, All, IfOk, IfSome, length, min, slice_index};
 ghost use Rattle.std.specs.Prelude.{if◌then◌else◌, nat_lt};
-ghost use Rattle.dual.specs.Prelude.{AreAsBefore, IsChecked, certificate_in};
+ghost use Rattle.dual.specs.Prelude.{AreAsBefore, IsChecked, WeighByClass, certificate_in};
 ghost use Rattle.dutch_sequence.specs.declared.numbers.TheConstants.{LIMIT};
-ghost use Rattle.dutch_weight_floors.specs.declared.scoped.Reach.TheVariants.{Next};
+ghost use Rattle.dutch_weight_floors.specs.declared.scoped.Reach.TheVariants.{Lower, Next};
 ghost use Rattle.dutch_weight_floors.specs.ScopedCosts as scoped;
 ghost use Rattle.dutch_weight_floors.specs.Orders.{AddsNothing};
 ghost use Rattle.dutch_weight_floors.specs.Scopes.{is_joined, may_stay};
-ghost use Rattle.dutch_weighing.specs.Prelude.{IsNumber};
+ghost use Rattle.dutch_weighing.specs.Prelude.{IsNumber, class_of};
 
 use crate::order::Order;
 use crate::scope::{Scope, Standing};
@@ -180,6 +180,66 @@ impl<'a, 'b> Scoped<'a, 'b> {
         self.weighing
     }
 
+    /// The first number of the class of one; of those who are not of the bracket, the first.
+    fn first_of_class(&self, number: u16) -> u16
+        requires { scoped.IsReached self.now number }
+        ensures reached { scoped.IsReached self.now result }
+        ensures inside { scoped.is_inside self.now number ≡ scoped.is_inside self.now result }
+        ensures class { scoped.is_inside self.now number ≡ true
+            → class_of self.now.weighing number ≡ class_of self.now.weighing result }
+    {
+        if self.is_inside(number) {
+            self.weighing.first_alike(number)
+        } else {
+            self.weighing.context().len() as u16 + 1
+        }
+    }
+
+    /// One who weighs as a number does: the first of its class, unless the two weigh another thing as ones who meet the
+    /// next lower scoregroup, where that is measured.
+    pub(crate) fn alike(&self, number: u16) -> u16
+        requires { scoped.IsReached self.now number }
+        ensures { scoped.WeighAlike self.now number result }
+    {
+        let first = self.first_of_class(number);
+        match self.reach {
+            Reach::Bracket | Reach::Lower => first,
+            Reach::Next => {
+                if self.weighing.met(first) == self.weighing.met(number) {
+                    first
+                } else {
+                    number
+                }
+            }
+        }
+    }
+
+    /// Yes if players of one class weigh the same with each: not where an order adds something, nor where a pair may weigh
+    /// the lesser of two things, since that depends on whether just these two may meet.
+    pub(crate) fn weighs_by_class(&self) -> bool
+        ensures nothing { result ≡ true → AddsNothing self.now.order }
+        ensures reach { result ≡ true → self.now.reach ≢ Lower }
+    {
+        self.adds_nothing() && self.reach != Reach::Lower
+    }
+
+    /// Classes of players who weigh the same, by number; none if they do not weigh by class.
+    fn classes(&self) -> Result<Vec<u16>, AllocError>
+        ensures { IfOk result (λ classes. WeighByClass (scoped.IsReached self.now) (scoped.costs_in self.now) classes.items) }
+    {
+        let alloc = self.weighing.context().alloc();
+        if !self.weighs_by_class() {
+            return Ok(Vec::new(alloc));
+        }
+        let count = self.size();
+        let mut classes = Vec::with_capacity(alloc, count + 1)?;
+        classes.push(0)?;
+        for above in 0..count {
+            classes.push(self.alike(above as u16 + 1))?;
+        }
+        Ok(classes)
+    }
+
     /// Over whom its matchings go.
     pub(crate) fn reach(&self) -> Reach
         ensures value { result ≡ self.now.reach }
@@ -226,28 +286,30 @@ impl<'a, 'b> Scoped<'a, 'b> {
     }
 
     /// The floor that a certificate gives for matchings: over the bracket alone, for those that leave so many over;
-    /// with all lower players, for those that leave over one at most; with the next lower scoregroup, for all. None
-    /// says that the certificate gives no floor.
+    /// with all lower players, for those that leave over one at most; with the next lower scoregroup, for all. Of those
+    /// who weigh the same one is asked about. None says that the certificate gives no floor.
     pub(crate) fn floor(
         &self,
         table: &CertificateTable,
         left: usize,
-    ) -> Result<Option<Floor>, AllocError>
+    ) -> Result<Option<Remade>, AllocError>
         requires { left ≤ length self.now.weighing.reached.seats }
-        ensures floor { IfOk result (λ found. IfSome found (scoped.IsFloorBy self.now.reach self.now left)) }
-        ensures checked { IfOk result (λ found. IfSome found
-            (IsChecked (scoped.costs_in self.now) (scoped.all_numbers self.now) (certificate_in table.now))) }
+        ensures floor { IfOk result (λ found. IfSome found (λ remade.
+            scoped.IsFloorBy self.now.reach self.now left remade.floor)) }
+        ensures checked { IfOk result (λ found. IfSome found (λ remade.
+            IsChecked (scoped.costs_in self.now) (scoped.all_numbers self.now) (certificate_in table.now) remade.floor)) }
     {
         let alloc = self.weighing.context().alloc();
         let players = self.players();
+        let classes = self.classes()?;
         let pool = Pool {
             rule: self,
             players: &players,
         };
         match self.reach {
-            Reach::Bracket => table.floor(alloc, &pool, left),
-            Reach::Lower => table.floor(alloc, &pool, players.len() % 2),
-            Reach::Next => table.floor_for_any(alloc, &pool),
+            Reach::Bracket => table.floor_by_class(alloc, &pool, left, &classes),
+            Reach::Lower => table.floor_by_class(alloc, &pool, players.len() % 2, &classes),
+            Reach::Next => table.floor_for_any_by_class(alloc, &pool, &classes),
         }
     }
 

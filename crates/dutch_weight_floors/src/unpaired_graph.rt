@@ -9,7 +9,6 @@ ghost use Rattle.std.specs.Prelude.{◌≡◌, ◌≤◌, All, IfOk, length};
 ghost use Rattle.dutch_sequence.specs.declared.numbers.TheConstants.{LIMIT};
 ghost use Rattle.dutch_weight_floors.specs.ScopedCosts.{IsReached};
 
-use crate::alike::Alike;
 use crate::scope::Standing;
 use crate::scoped::Scoped;
 use cheapest::Costs;
@@ -26,11 +25,11 @@ pub(crate) struct LeftOverCost {
     pub(crate) never: Wide,
 }
 
-/// What vertices have in common that cost about the same with all others: the first number that weighs as much, where
-/// they stand, and whether they may be left over.
+/// What vertices have in common that cost about the same with all others: a number that weighs as they do, where they
+/// stand, and whether they may be left over.
 #[derive(Clone, Copy, PartialEq, Eq)]
 pub(crate) struct VertexClass {
-    first: u16,
+    alike: u16,
     standing: Standing,
     may_be_left: bool,
 }
@@ -41,7 +40,6 @@ pub(crate) struct UnpairedGraph<'a, 'b> {
     scoped: &'b Scoped<'a, 'b>,
     // the vertices, by number
     numbers: Vec<u16>,
-    alike: &'b Alike,
     left_over: LeftOverCost,
     // how many vertices are moved-down players; behind them stand the residents
     mdps: u16,
@@ -97,7 +95,6 @@ impl<'a, 'b> UnpairedGraph<'a, 'b> {
     /// The players who are in none of some pairs of numbers, and what it costs to be left over.
     pub(crate) fn beside(
         scoped: &'b Scoped<'a, 'b>,
-        alike: &'b Alike,
         pairs: &[Pair],
         left_over: LeftOverCost,
     ) -> Result<UnpairedGraph<'a, 'b>, AllocError> {
@@ -108,7 +105,6 @@ impl<'a, 'b> UnpairedGraph<'a, 'b> {
         Ok(UnpairedGraph {
             scoped,
             numbers,
-            alike,
             left_over,
             mdps,
             half: half_behind(mdps, inside),
@@ -182,10 +178,14 @@ impl<'a, 'b> Costs for UnpairedGraph<'a, 'b> {
     fn class(&self, a: u16) -> VertexClass {
         let a = self.numbers[usize::from(a)];
         VertexClass {
-            first: self.alike.first(a),
+            alike: self.scoped.alike(a),
             standing: self.scoped.standing(a),
             may_be_left: self.scoped.may_be_left(a),
         }
+    }
+
+    fn costs_by_class(&self) -> bool {
+        self.scoped.weighs_by_class()
     }
 
     // (as article D does: moved-down players with the first residents, then the upper half with the lower half)

@@ -21,6 +21,8 @@ pub(crate) struct Graph<'a> {
     pub(crate) left: &'a [u32],
     // so many classes have vertices, whether these cost the same or not
     pub(crate) classes: u16,
+    // whether it says that costs go by class
+    pub(crate) by_class: bool,
 }
 
 // A number of a list; the most of all behind it.
@@ -76,6 +78,10 @@ impl Costs for Graph<'_> {
 
     fn class(&self, a: u16) -> u16 {
         a % self.classes.max(1)
+    }
+
+    fn costs_by_class(&self) -> bool {
+        self.by_class
     }
 
     fn looks_from(&self, a: u16) -> u16 {
@@ -257,7 +263,7 @@ fn draw_left(alloc: Global, state: &mut u64, some: u32, below: u32) -> Result<Ve
     Ok(left)
 }
 
-const BOUNDS: [u32; 4] = [2, 4, 12, 1_000];
+pub(crate) const BOUNDS: [u32; 4] = [2, 4, 12, 1_000];
 
 // What a graph refers to.
 #[derive(Drop)]
@@ -275,6 +281,7 @@ impl Lists {
             costs: &self.costs,
             left: &self.left,
             classes: self.classes,
+            by_class: false,
         }
     }
 }
@@ -321,6 +328,7 @@ pub(crate) fn tailed(size: u16) -> Graph<'static> {
         costs: &TAILED,
         left: &[9; 8],
         classes: size,
+        by_class: false,
     }
 }
 

@@ -193,6 +193,7 @@ fn path(size: u16) -> Graph<'static> {
         costs: &PATH,
         left: &[10; 8],
         classes: size,
+        by_class: false,
     }
 }
 
