@@ -38,7 +38,8 @@ use std::marker::Model;
 const CHANGED_DIVISOR: usize = 16;
 
 // So many ordered pairs of which it is only asked whether the two may meet take about as long as one whose weight is
-// asked for.
+// asked for. If it is too great, a step takes more time where few may meet, or where players are of few classes; if it is
+// too small, fewer hard reports are decided with as many steps.
 const PAIRS_IN_A_LOOK: u64 = 16;
 
 /// What a quality weighs, and what all with a higher PSD weigh at least.

@@ -87,6 +87,7 @@ impl Witness {
         true
     }
 
+    /// Yes if it has all of some pairs.
     fn has_pairs(&self, pairs: &[Pair]) -> bool {
         pairs
             .iter()
